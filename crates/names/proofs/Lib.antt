@@ -1,0 +1,4 @@
+pub mod Alphabet
+pub mod Texts
+pub mod Stored
+pub mod OneToOne

@@ -1,0 +1,242 @@
+// Radix-50 names: texts of at most six letters, and the two words that store them. The definitions are in specs/Names.
+ghost use mathlib.Core.Path.{_≡_};
+ghost use Prim.Native.Nat.{_≤_};
+ghost use mathlib.Core.Bool.{cond};
+ghost use lib.Dec.{ltb};
+ghost use lib.ListN.{length};
+ghost use Rattle.names.specs.Names.{codeOf, letterOf, lettersOf, allLetters, endsInSpace, goodText, codeAt, wordAt, packed, wordOk, nameOk, textIn, answerOf, unpacked};
+
+// What packing a text answers.
+pub enum Packed {
+    Words { first: usize, second: usize },
+    Refused { number: usize, place: usize },
+}
+
+// What unpacking two words answers, beside the letters.
+pub enum Answer {
+    Text { length: usize },
+    Refused { number: usize, place: usize },
+}
+
+// An answer and the letters of its text. The bytes after the text's length are zero, all six where refused.
+pub struct Unpacked {
+    pub answer: Answer,
+    pub letters: [u8; 6],
+}
+
+// The codes of the three letters of a word.
+struct Codes {
+    a: usize,
+    b: usize,
+    c: usize,
+}
+
+// The code of a letter, 29 for a byte that is none.
+fn code_of(letter: u8) -> usize
+    ensures { λ r. ⌜ r ≡ codeOf letter ⌝ }
+{
+    match letter {
+        32 => 0,
+        65..=90 => letter as usize - 64,
+        36 => 27,
+        46 => 28,
+        48..=57 => letter as usize - 18,
+        _ => 29,
+    }
+}
+
+// The letter of a code, 0 for a code that has none.
+fn letter_of(code: usize) -> u8
+    ensures { λ r. ⌜ r ≡ letterOf code ⌝ }
+{
+    match code {
+        0 => 32,
+        1..=26 => code as u8 + 64,
+        27 => 36,
+        28 => 46,
+        30..=39 => code as u8 + 18,
+        _ => 0,
+    }
+}
+
+// The codes of a word. No other function takes a word apart.
+fn letters(word: usize) -> Codes
+    requires { ⌜ word ≤ 63999 ⌝ }
+    ensures { λ r. ⌜ r ≡ lettersOf word ⌝ }
+{
+    Codes {
+        a: word / 1600,
+        b: word / 40 % 40,
+        c: word % 40,
+    }
+}
+
+// Whether each byte of a text is a letter.
+fn all_letters(text: &[u8]) -> bool
+    ensures { λ r. ⌜ r ≡ allLetters (now (text .entry)) ⌝ }
+{
+    let mut i = 0;
+    while i < text.len() {
+        if code_of(text[i]) == 29 {
+            return false;
+        }
+        i += 1;
+    }
+    true
+}
+
+// Whether the last letter of a text is a space.
+fn ends_in_space(text: &[u8]) -> bool
+    ensures { λ r. ⌜ r ≡ endsInSpace (now (text .entry)) ⌝ }
+{
+    let n = text.len();
+    if n == 0 {
+        return false;
+    }
+    text[n - 1] == 32
+}
+
+// Whether a text has 0 to 6 letters and no trailing space.
+fn good_text(text: &[u8]) -> bool
+    ensures { λ r. ⌜ r ≡ goodText (now (text .entry)) ⌝ }
+{
+    if 6 < text.len() {
+        return false;
+    }
+    if ends_in_space(text) {
+        return false;
+    }
+    all_letters(text)
+}
+
+// The code of letter i of a text, a space past its end.
+fn code_at(text: &[u8], i: usize) -> usize
+    ensures { λ r. ⌜ r ≡ codeAt (now (text .entry)) i ⌝ }
+{
+    if i < text.len() { code_of(text[i]) } else { 0 }
+}
+
+// The word of the three letters of a text from letter i on.
+fn word_at(text: &[u8], i: usize) -> usize
+    requires { ⌜ i ≤ 3 ⌝ }
+    ensures { λ r. ⌜ r ≡ wordAt (now (text .entry)) i ⌝ }
+{
+    let a = code_at(text, i);
+    let b = code_at(text, i + 1);
+    let c = code_at(text, i + 2);
+    a * 1600 + b * 40 + c
+}
+
+// The two words of a text; 12 for more than six letters, a byte that is no letter, a trailing space.
+pub fn pack(text: &[u8]) -> Packed
+    ensures { λ r. ⌜ r ≡ packed (now (text .entry)) ⌝ }
+{
+    if good_text(text) {
+        let first = word_at(text, 0);
+        let second = word_at(text, 3);
+        Packed::Words { first, second }
+    } else {
+        Packed::Refused {
+            number: 12,
+            place: 0,
+        }
+    }
+}
+
+// Whether a word is part of a stored name.
+fn word_ok(word: usize) -> bool
+    ensures { λ r. ⌜ r ≡ wordOk word ⌝ }
+{
+    if 63999 < word {
+        return false;
+    }
+    let l = letters(word);
+    if l.a == 29 {
+        return false;
+    }
+    if l.b == 29 {
+        return false;
+    }
+    if l.c == 29 {
+        return false;
+    }
+    true
+}
+
+// Whether two words are a stored name: both at most 63999, no letter of code 29.
+pub fn name_ok(first: usize, second: usize) -> bool
+    ensures { λ r. ⌜ r ≡ nameOk first second ⌝ }
+{
+    if word_ok(first) {
+        word_ok(second)
+    } else {
+        false
+    }
+}
+
+// The length of the text of six codes: the place after the last that is no space.
+fn text_length(l: Codes, m: Codes) -> usize
+    ensures { λ r. ⌜ r ≡ length (textIn l m) ⌝ }
+{
+    if m.c != 0 {
+        return 6;
+    }
+    if m.b != 0 {
+        return 5;
+    }
+    if m.a != 0 {
+        return 4;
+    }
+    if l.c != 0 {
+        return 3;
+    }
+    if l.b != 0 {
+        return 2;
+    }
+    if l.a != 0 {
+        return 1;
+    }
+    0
+}
+
+// The letter at place i of a text of n letters, zero past its end.
+fn shown(n: usize, i: usize, code: usize) -> u8
+    ensures { λ r. ⌜ r ≡ cond (ltb i n) (letterOf code) 0 ⌝ }
+{
+    if i < n { letter_of(code) } else { 0 }
+}
+
+// The text of six codes, as an answer.
+fn text_of(l: Codes, m: Codes) -> Unpacked
+    ensures { λ r. ⌜ r ≡ answerOf (textIn l m) ⌝ }
+{
+    let n = text_length(l, m);
+    let answer = Answer::Text { length: n };
+    let letters = [
+        shown(n, 0, l.a),
+        shown(n, 1, l.b),
+        shown(n, 2, l.c),
+        shown(n, 3, m.a),
+        shown(n, 4, m.b),
+        shown(n, 5, m.c),
+    ];
+    Unpacked { answer, letters }
+}
+
+// The text of two words; 12 where they are no stored name.
+pub fn unpack(first: usize, second: usize) -> Unpacked
+    ensures { λ r. ⌜ r ≡ unpacked first second ⌝ }
+{
+    if name_ok(first, second) {
+        text_of(letters(first), letters(second))
+    } else {
+        let answer = Answer::Refused {
+            number: 12,
+            place: 0,
+        };
+        Unpacked {
+            answer,
+            letters: [0; 6],
+        }
+    }
+}
