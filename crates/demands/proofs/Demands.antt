@@ -1,12 +1,42 @@
--- The promises, in the user's order, each with the place where its proof lives.
-use Prim.Native.Nat.{ℕ}
+-- The promises, in the user's order, each with a one-line proof that cites where it lives.
+use Prim.Native.Nat.{ℕ, _+_}
 use mathlib.Core.Path.{_≡_}
 use mathlib.Core.Logic.{_↔_}
 use mathlib.Core.Bool.{true}
 use mathlib.Core.List.{List}
+use lib.ListN.{length, take}
+use Rattle.words.specs.Words.{words}
 use Rattle.names.specs.Names.{packed, unpacked, answerOf, textOf, nameOk}
 use Rattle.names.specs.declared.Packed.the-variants.{Words}
 use Rattle.names.proofs.OneToOne as names
+use Rattle.files.specs.Judge.{callOk, judgeOf}
+use Rattle.files.specs.Spots.{Spot, deepest, spotsOf}
+use Rattle.files.specs.declared.Judged.the-variants.{Accepted}
+use Rattle.grammar.specs.Grammar.{File}
+use Rattle.grammar.proofs.Exact as exact
+
+---- demand 2: accepted exactly when the structure holds, with one reading
+
+-- a file is accepted, with these numbers, exactly where it is of the grammar and they are its elements' and marker's
+pub accepted-exactly : (dim : ℕ) (s : List ℕ) (e d k : ℕ) → (judgeOf dim s ≡ Accepted e d k) ↔ exact.Reading dim s e d k
+accepted-exactly = exact.accepted-exactly
+
+-- every file of the grammar, of an allowed length and dimension, is accepted
+pub every-file : (dim : ℕ) (s : List ℕ) (xs : List Spot) (k : ℕ) → callOk dim s ≡ true → File dim (words s) xs k → judgeOf dim s ≡ Accepted (length xs) (deepest xs) k
+every-file = exact.is-accepted
+
+-- words have one reading at most: the same elements with the same extents, depths and headers, and the same marker
+pub one-reading : (dim : ℕ) (ws : List ℕ) (xs ys : List Spot) (k j : ℕ) → File dim ws xs k → File dim ws ys j → (xs ≡ ys) × (k ≡ j)
+one-reading = exact.one-reading
+
+-- words after the marker do not matter
+pub after-marker : (dim : ℕ) (s t : List ℕ) (e d k : ℕ) → judgeOf dim s ≡ Accepted e d k → callOk dim t ≡ true →
+    take (k + 1) (words t) ≡ take (k + 1) (words s) → judgeOf dim t ≡ Accepted e d k
+after-marker = exact.judged-after-marker
+
+-- the count that judging reports is the length of the list of elements in file order
+pub count-is-length : (dim : ℕ) (s : List ℕ) (e d k : ℕ) → judgeOf dim s ≡ Accepted e d k → e ≡ length (spotsOf dim (words s))
+count-is-length = exact.count-is-length
 
 ---- demand 2: texts and stored names match one to one
 

@@ -1,12 +1,16 @@
 -- The worked cases of document 01 that it marks with *, as one list. That all hold is proved, by one statement, in
 -- proofs/Starred.
-use Prim.Native.Nat.{ℕ, suc}
+use Prim.Native.Nat.{ℕ, suc, _+_, _*_, _-_}
 use mathlib.Core.List.{List, [], _∷_, _++_}
 use mathlib.Core.Bool.{Bool, true, false, _&&_}
 use lib.Dec.{eqb}
 use lib.IntN.{ℤ, pos, negsuc}
-use Rattle.words.specs.Words.{words, longAt, signed}
+use lib.ListN.{replicate}
+use Rattle.words.specs.Words.{words, bytes, longAt, signed}
 use Rattle.names.specs.Names.{packed, packedNumbers, unpacked, answerNumbers}
+use Rattle.files.specs.Judge.{judgeOf}
+use Rattle.files.specs.declared.Judged.{Judged}
+use Rattle.files.specs.declared.Judged.the-variants.{Accepted, Refused}
 
 -- a worked case: the numbers that the definitions give, and the numbers of document 01
 pub data Case : Type 0 where
@@ -58,6 +62,57 @@ nameCases =
     case (answerNumbers (unpacked 0 64000 .answer)) (12 ∷ 0 ∷ []) ∷
     []
 
+-- the numbers of each answer of judging: 0, elements, depth and marker, or the refusal's number and place
+abbrev pub judgedNumbers : Judged → List ℕ
+judgedNumbers (Accepted elements deepest marker) = 0 ∷ elements ∷ deepest ∷ marker ∷ []
+judgedNumbers (Refused number place) = number ∷ place ∷ []
+
+-- an element of a type, so many words long, C as given, and zeros but for word 18 and the words after it
+abbrev pub plain : ℕ → ℕ → ℕ → ℕ → List ℕ
+plain c kind size n = (128 * c + 256 * kind) ∷ (size - 2) ∷ replicate 16 0 ++ (n ∷ replicate (size - 19) 0)
+
+-- the 2D cell of 46 words with total T and one 26-word line
+abbrev pub cellWithLine : ℕ → List ℕ
+cellWithLine total = plain 0 2 46 total ++ plain 1 3 26 0
+
+-- what judging a 2D file of these words and the marker answers
+abbrev pub judged2D : List ℕ → List ℕ
+judged2D ws = judgedNumbers (judgeOf 2 (bytes (ws ++ (65535 ∷ []))))
+
+-- empty file: 2 at 0; only FF FF: accepted, 0 elements; one byte: 1
+abbrev pub fileCases : List Case
+fileCases =
+    case (judgedNumbers (judgeOf 2 [])) (2 ∷ 0 ∷ []) ∷
+    case (judgedNumbers (judgeOf 2 (255 ∷ 255 ∷ []))) (0 ∷ 0 ∷ 0 ∷ 0 ∷ []) ∷
+    case (judgedNumbers (judgeOf 2 (0 ∷ []))) (1 ∷ 0 ∷ []) ∷
+    []
+
+-- 2D line of 26 words: accepted; of 25: 7
+abbrev pub lineCases : List Case
+lineCases =
+    case (judged2D (plain 0 3 26 0)) (0 ∷ 1 ∷ 0 ∷ 26 ∷ []) ∷
+    case (judged2D (plain 0 3 25 0)) (7 ∷ 0 ∷ []) ∷
+    []
+
+-- 2D type 4 with N=2 needs 27 words; N=1 and N=102: 7; N=101 needs 423
+abbrev pub pointCases : List Case
+pointCases =
+    case (judged2D (plain 0 4 27 2)) (0 ∷ 1 ∷ 0 ∷ 27 ∷ []) ∷
+    case (judged2D (plain 0 4 26 2)) (7 ∷ 0 ∷ []) ∷
+    case (judged2D (plain 0 4 27 1)) (7 ∷ 0 ∷ []) ∷
+    case (judged2D (plain 0 4 427 102)) (7 ∷ 0 ∷ []) ∷
+    case (judged2D (plain 0 4 423 101)) (0 ∷ 1 ∷ 0 ∷ 423 ∷ []) ∷
+    case (judged2D (plain 0 4 422 101)) (7 ∷ 0 ∷ []) ∷
+    []
+
+-- 2D cell of 46 words with one 26-word line: T=53 accepted; 52: 3 at the line; 54: 3 at the marker's word
+abbrev pub cellCases : List Case
+cellCases =
+    case (judged2D (cellWithLine 53)) (0 ∷ 2 ∷ 1 ∷ 72 ∷ []) ∷
+    case (judged2D (cellWithLine 52)) (3 ∷ 46 ∷ []) ∷
+    case (judged2D (cellWithLine 54)) (3 ∷ 72 ∷ []) ∷
+    []
+
 -- the one list
 abbrev pub starred : List Case
-starred = longCases ++ nameCases
+starred = longCases ++ nameCases ++ fileCases ++ lineCases ++ pointCases ++ cellCases

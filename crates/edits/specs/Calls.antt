@@ -1,0 +1,155 @@
+-- The calls of a session on its two lent buffers, with their refusals in document 01's order and what every byte and
+-- length then is.
+use Prim.Native.Nat.{ℕ, _+_, _-_, _*_, _/_, _%_, max}
+use mathlib.Core.List.{List, [], _∷_, _++_}
+use mathlib.Core.Bool.{Bool, true, false, cond, not, _&&_, _||_}
+use mathlib.Core.Option.{Option, none, some}
+use lib.ListN.{length, take, drop, replicate}
+use lib.Dec.{eqb, leb}
+use Rattle.words.specs.Words.{words, bytes, wordAt}
+use Rattle.names.specs.Names.{packed}
+use Rattle.names.specs.declared.Packed.{Packed}
+use Rattle.names.specs.declared.Packed.the-variants as name
+use Rattle.files.specs.Judge.{topOf, callOk}
+use Rattle.files.specs.Spots.{Spot, spotsOf}
+use Rattle.files.specs.declared.Verdict.{Verdict}
+use Rattle.files.specs.declared.Verdict.the-variants.{Good, Fault}
+use Rattle.edits.specs.declared.Edited.{Edited}
+use Rattle.edits.specs.declared.Edited.the-variants.{Made, Refused}
+use Rattle.edits.specs.Edits.{Edit, mark, rename, insert, remove, apply}
+use Rattle.edits.specs.Allowed.{Fault?, fine, fault, orElse, unless, editFault, renameFault}
+use Rattle.edits.specs.Records.{Rec, Last, recordOf, recordWords, lastRecord, reversal, reversible}
+
+-- a session: the file's buffer and used length, the journal's buffer and used length, in bytes
+pub record Session : Type 0 where
+  pub file : List ℕ
+  pub used : ℕ
+  pub journal : List ℕ
+  pub jused : ℕ
+
+-- the calls with their arguments; texts and pieces are bytes
+pub data Call : Type 0 where
+  mark-call : ℕ → Bool → Call
+  rename-call : ℕ → List ℕ → Call
+  insert-call : Option ℕ → ℕ → List ℕ → Call
+  remove-call : ℕ → Call
+  undo-call : Call
+
+-- a buffer has an even length of at most 1,048,576 bytes, and its used length is even and within it
+abbrev pub bufferOk : List ℕ → Bool
+bufferOk s = eqb (length s % 2) 0 && leb (length s) 1048576
+
+abbrev pub usedOk : List ℕ → ℕ → Bool
+usedOk s n = bufferOk s && (eqb (n % 2) 0 && leb n (length s))
+
+-- the used words
+abbrev pub usedWords : List ℕ → ℕ → List ℕ
+usedWords s n = words (take n s)
+
+-- a used file ends in the word 65535
+abbrev pub endsInMarker : List ℕ → Bool
+endsInMarker ws = leb 1 (length ws) && eqb (wordAt ws (length ws - 1)) 65535
+
+-- 1: the dimension, the buffers, the used lengths, the last used word
+unfoldable pub sessionOk : ℕ → Session → Bool
+sessionOk dim s =
+    (eqb dim 2 || eqb dim 3)
+    && (usedOk (s .file) (s .used) && (usedOk (s .journal) (s .jused) && endsInMarker (usedWords (s .file) (s .used))))
+
+abbrev pub pieceOk : Call → Bool
+pieceOk (mark-call p deleted) = true
+pieceOk (rename-call p text) = true
+pieceOk (insert-call h p piece) = bufferOk piece
+pieceOk (remove-call p) = true
+pieceOk undo-call = true
+
+-- the file's own refusals, then 1 if the marker is found before the last used word
+abbrev pub fileFault : Verdict → ℕ → Fault?
+fileFault (Good next e d k) last = unless (eqb next last) 1
+fileFault (Fault n p) last = fault n p
+
+unfoldable pub openFault : ℕ → Session → Call → Fault?
+openFault dim s c =
+    orElse (unless (sessionOk dim s && pieceOk c) 1)
+    (fileFault (topOf dim (usedWords (s .file) (s .used))) (length (usedWords (s .file) (s .used)) - 1))
+
+-- the buffer with the words ws used: zero where words were freed, and the rest as it was
+unfoldable pub stored : List ℕ → ℕ → List ℕ → List ℕ
+stored s n ws = bytes ws ++ (replicate (n - 2 * length ws) 0 ++ drop (max n (2 * length ws)) s)
+
+-- the buffer with the words ws behind its n used bytes
+unfoldable pub pushed : List ℕ → ℕ → List ℕ → List ℕ
+pushed s n ws = take n s ++ (bytes ws ++ drop (n + 2 * length ws) s)
+
+-- what a call answers and what it leaves
+pub record Result : Type 0 where
+  pub answer : Edited
+  pub after : Session
+
+abbrev pub refused : Session → ℕ → ℕ → Result
+refused s n p = record { answer = Refused n p; after = s }
+
+-- an edit made on the used words ws, with the record's words r behind the journal; 15 and 16 before anything changes
+unfoldable pub editMade : Session → List ℕ → List ℕ → Result
+editMade s ws r = record {
+  answer = Made (2 * length ws) (s .jused + 2 * length r);
+  after = record { file = stored (s .file) (s .used) ws; used = 2 * length ws; journal = pushed (s .journal) (s .jused) r; jused = s .jused + 2 * length r };
+}
+
+unfoldable pub editWithin : Session → List ℕ → List ℕ → Fault?
+editWithin s ws r =
+    orElse (unless (leb (2 * length ws) (length (s .file))) 15) (unless (leb (s .jused + 2 * length r) (length (s .journal))) 16)
+
+abbrev pub resultBy : Fault? → Session → Result → Result
+resultBy fine s r = r
+resultBy (fault n p) s r = refused s n p
+
+-- an edit on the used words: its own refusals, 15, 16, or it is made
+unfoldable pub edited : ℕ → Session → Edit → Fault? → Result
+edited dim s e own =
+    resultBy
+    (orElse own (editWithin s (apply dim (usedWords (s .file) (s .used)) e) (recordWords (recordOf dim (usedWords (s .file) (s .used)) e))))
+    s
+    (editMade s (apply dim (usedWords (s .file) (s .used)) e) (recordWords (recordOf dim (usedWords (s .file) (s .used)) e)))
+
+-- an undo made: the words ws used, the journal's bytes as they were and its used length back before the record
+unfoldable pub undoMade : Session → List ℕ → ℕ → Result
+undoMade s ws jused = record {
+  answer = Made (2 * length ws) jused;
+  after = record { file = stored (s .file) (s .used) ws; used = 2 * length ws; journal = s .journal; jused = jused };
+}
+
+abbrev pub undoBy : ℕ → Session → List ℕ → Last → Result
+undoBy dim s ws none = refused s 19 0
+undoBy dim s ws (some l) =
+    resultBy
+    (orElse (unless (reversible dim ws (l .0)) 19) (unless (leb (2 * length (apply dim ws (reversal ws (l .0)))) (length (s .file))) 15))
+    s
+    (undoMade s (apply dim ws (reversal ws (l .0))) (2 * length (l .1)))
+
+unfoldable pub undone : ℕ → Session → Result
+undone dim s =
+    resultBy (unless (not (eqb (s .jused) 0)) 17) s
+    (undoBy dim s (usedWords (s .file) (s .used)) (lastRecord (usedWords (s .journal) (s .jused))))
+
+-- a name's words, and whether the text is good
+abbrev pub nameOfText : Packed → ℕ → Edit
+nameOfText (name.Words a b) p = rename p a b
+nameOfText (name.Refused n q) p = rename p 0 0
+
+abbrev pub textOk : Packed → Bool
+textOk (name.Words a b) = true
+textOk (name.Refused n q) = false
+
+-- what each call asks
+abbrev pub callOn : ℕ → Session → List ℕ → Call → Result
+callOn dim s ws (mark-call p deleted) = edited dim s (mark p deleted) (editFault dim ws (mark p deleted))
+callOn dim s ws (rename-call p text) =
+    edited dim s (nameOfText (packed text) p) (renameFault (spotsOf dim ws) ws p (textOk (packed text)))
+callOn dim s ws (insert-call h p piece) = edited dim s (insert h p (words piece)) (editFault dim ws (insert h p (words piece)))
+callOn dim s ws (remove-call p) = edited dim s (remove p) (editFault dim ws (remove p))
+callOn dim s ws undo-call = undone dim s
+
+-- one call
+unfoldable pub step : ℕ → Session → Call → Result
+step dim s c = resultBy (openFault dim s c) s (callOn dim s (usedWords (s .file) (s .used)) c)

@@ -1,0 +1,87 @@
+-- The edits on a file's used words, as document 01's last paragraphs of "Editing" define them.
+use Prim.Native.Nat.{ℕ, _+_, _-_, _*_, _/_, _%_}
+use mathlib.Core.List.{List, [], _∷_, _++_}
+use mathlib.Core.Bool.{Bool, true, false, cond, _&&_}
+use mathlib.Core.Option.{Option, none, some}
+use lib.ListN.{length, take, drop, set}
+use lib.Dec.{eqb, ltb}
+use Rattle.words.specs.Words.{wordAt}
+use Rattle.elements.specs.Header.{typeAt}
+use Rattle.elements.specs.Kinds.{isCounted}
+use Rattle.files.specs.Spots.{Spot, spotsOf, spotIn}
+
+-- mark: place, and deleted (true) or live; rename: place and the name's two words; insert: header's place (none: the
+-- top), place and the piece's words; remove: place
+pub data Edit : Type 0 where
+  mark : ℕ → Bool → Edit
+  rename : ℕ → ℕ → ℕ → Edit
+  insert : Option ℕ → ℕ → List ℕ → Edit
+  remove : ℕ → Edit
+
+-- the word with bit 15 set or clear
+abbrev pub flagged : Bool → ℕ → ℕ
+flagged true w = 32768 + w % 32768
+flagged false w = w % 32768
+
+-- where the name of a type 1 or 2 cell stands
+abbrev pub namePlace : List ℕ → ℕ → ℕ
+namePlace ws p = p + cond (eqb (typeAt ws p) 1) 16 19
+
+-- the headers around a place, outermost first: those whose extents it lies in
+abbrev pub keepIf : Bool → ℕ → List ℕ → List ℕ
+keepIf true q qs = q ∷ qs
+keepIf false q qs = qs
+
+abbrev pub around : List Spot → ℕ → List ℕ
+around [] p = []
+around (x ∷ xs) p = keepIf (ltb (x .place) p && ltb p (x .end)) (x .place) (around xs p)
+
+-- the headers from the top down to the named one
+abbrev pub downTo : List Spot → Option ℕ → List ℕ
+downTo xs none = []
+downTo xs (some h) = around xs h ++ (h ∷ [])
+
+-- the words of an element's extent, 0 where none starts there
+abbrev pub extentBy : Option Spot → ℕ
+extentBy none = 0
+extentBy (some x) = x .end - x .place
+
+abbrev pub extentIn : List Spot → ℕ → ℕ
+extentIn xs p = extentBy (spotIn xs p)
+
+-- a number raised or lowered
+abbrev pub moved : Bool → ℕ → ℕ → ℕ
+moved true n w = w + n
+moved false n w = w - n
+
+-- a header's total raised or lowered by n; the direct header's count, if it has one, by 1
+abbrev pub countMoved : Bool → Bool → ℕ → List ℕ → List ℕ
+countMoved true up q ws = set ws (q + 19) (moved up 1 (wordAt ws (q + 19)))
+countMoved false up q ws = ws
+
+unfoldable pub corrected : Bool → ℕ → Bool → ℕ → List ℕ → List ℕ
+corrected up n direct q ws =
+    countMoved (direct && isCounted (typeAt ws q)) up q (set ws (q + 18) (moved up n (wordAt ws (q + 18))))
+
+abbrev pub isLast : List ℕ → Bool
+isLast [] = true
+isLast (q ∷ qs) = false
+
+-- each total on a path of headers, and the last one's count
+abbrev pub raise : Bool → ℕ → List ℕ → List ℕ → List ℕ
+raise up n [] ws = ws
+raise up n (q ∷ qs) ws = raise up n qs (corrected up n (isLast qs) q ws)
+
+-- words put in at a place, and taken out
+unfoldable pub splice : ℕ → List ℕ → List ℕ → List ℕ
+splice p x ws = take p ws ++ (x ++ drop p ws)
+
+unfoldable pub cut : ℕ → ℕ → List ℕ → List ℕ
+cut p n ws = take p ws ++ drop (p + n) ws
+
+-- the words after an edit
+unfoldable pub apply : ℕ → List ℕ → Edit → List ℕ
+apply dim ws (mark p deleted) = set ws p (flagged deleted (wordAt ws p))
+apply dim ws (rename p a b) = set (set ws (namePlace ws p) a) (namePlace ws p + 1) b
+apply dim ws (insert h p x) = splice p x (raise true (length x) (downTo (spotsOf dim ws) h) ws)
+apply dim ws (remove p) = cut p (extentIn (spotsOf dim ws) p) (raise false (extentIn (spotsOf dim ws) p) (around (spotsOf dim ws) p) ws)

@@ -1,0 +1,102 @@
+-- Journal records (document 01, "Editing"): a payload, then six words: kind, header place as a long, place as a long,
+-- payload words.
+use Prim.Native.Nat.{ℕ, _+_, _-_, _*_, _/_, _%_}
+use mathlib.Core.List.{List, [], _∷_, _++_}
+use mathlib.Core.Bool.{Bool, true, false, cond, not, _&&_}
+use mathlib.Core.Option.{Option, none, some}
+use lib.ListN.{length, take, drop}
+use lib.Dec.{eqb, leb}
+use Rattle.words.specs.Words.{wordAt, longAt}
+use Rattle.elements.specs.Header.{deletedOf}
+use Rattle.files.specs.Spots.{Spot, spotsOf, spotIn}
+use Rattle.edits.specs.Edits.{Edit, mark, rename, insert, remove, namePlace, extentIn}
+use Rattle.edits.specs.Allowed.{Fault?, fine, fault, orElse, unless, under?, startsAt, editFault}
+
+-- kind 1 flag; 2 rename, with the two old words; 3 insert; 4 remove, with the words removed
+pub data Rec : Type 0 where
+  flag : ℕ → Rec
+  renamed : ℕ → ℕ → ℕ → Rec
+  inserted : Option ℕ → ℕ → Rec
+  removed : Option ℕ → ℕ → List ℕ → Rec
+
+-- the direct header of the element at a place
+abbrev pub headerBy : Option Spot → Option ℕ
+headerBy none = none
+headerBy (some x) = x .header
+
+-- the record of an edit on a file's words
+unfoldable pub recordOf : ℕ → List ℕ → Edit → Rec
+recordOf dim ws (mark p deleted) = flag p
+recordOf dim ws (rename p a b) = renamed p (wordAt ws (namePlace ws p)) (wordAt ws (namePlace ws p + 1))
+recordOf dim ws (insert h p x) = inserted h p
+recordOf dim ws (remove p) = removed (headerBy (spotIn (spotsOf dim ws) p)) p (take (extentIn (spotsOf dim ws) p) (drop p ws))
+
+-- a place as a long; -1 is 65535, 65535
+abbrev pub long : Option ℕ → List ℕ
+long none = 65535 ∷ 65535 ∷ []
+long (some h) = h / 65536 ∷ h % 65536 ∷ []
+
+abbrev pub six : ℕ → Option ℕ → ℕ → ℕ → List ℕ
+six kind h p n = kind ∷ (long h ++ (long (some p) ++ (n ∷ [])))
+
+unfoldable pub recordWords : Rec → List ℕ
+recordWords (flag p) = six 1 none p 0
+recordWords (renamed p a b) = a ∷ b ∷ six 2 none p 2
+recordWords (inserted h p) = six 3 h p 0
+recordWords (removed h p x) = x ++ six 4 h p (length x)
+
+-- a journal's last record with the words before it, or none where it is ill-formed
+abbrev pub Last : Type 0
+Last = Option (Rec × List ℕ)
+
+abbrev pub keep : Bool → Last → Last
+keep true l = l
+keep false l = none
+
+-- a header place read back
+abbrev pub placeOf : ℕ → Option ℕ
+placeOf n = cond (eqb n 4294967295) none (some n)
+
+abbrev pub atTop : Option ℕ → Bool
+atTop none = true
+atTop (some h) = false
+
+-- by kind: the payload and the header place are the kind's
+abbrev pub build : Bool → Bool → Bool → Bool → Option ℕ → ℕ → List ℕ → List ℕ → Last
+build true k₂ k₃ k₄ h p x before = keep (atTop h && eqb (length x) 0) (some (flag p, before))
+build false true k₃ k₄ h p x before = keep (atTop h && eqb (length x) 2) (some (renamed p (wordAt x 0) (wordAt x 1), before))
+build false false true k₄ h p x before = keep (eqb (length x) 0) (some (inserted h p, before))
+build false false false true h p x before = some (removed h p x, before)
+build false false false false h p x before = none
+
+-- t: where the six words begin, n: the payload's words
+abbrev pub readAt : List ℕ → ℕ → ℕ → Last
+readAt js t n =
+    keep (leb n t)
+    (build (eqb (wordAt js t) 1) (eqb (wordAt js t) 2) (eqb (wordAt js t) 3) (eqb (wordAt js t) 4)
+    (placeOf (longAt js (t + 1))) (longAt js (t + 3)) (take n (drop (t - n) js)) (take (t - n) js))
+
+unfoldable pub lastRecord : List ℕ → Last
+lastRecord js = keep (leb 6 (length js)) (readAt js (length js - 6) (wordAt js (length js - 6 + 5)))
+
+-- the reversal: the opposite edit at the recorded places; a flag is turned over, whatever it is
+unfoldable pub reversal : List ℕ → Rec → Edit
+reversal ws (flag p) = mark p (eqb (deletedOf (wordAt ws p)) 0)
+reversal ws (renamed p a b) = rename p a b
+reversal ws (inserted h p) = remove p
+reversal ws (removed h p x) = insert h p x
+
+-- the element that a kind 3 record places is directly under its header place
+abbrev pub placed : List Spot → Rec → Bool
+placed xs (flag p) = true
+placed xs (renamed p a b) = true
+placed xs (inserted h p) = under? (spotIn xs p) h
+placed xs (removed h p x) = true
+
+abbrev pub isFine : Fault? → Bool
+isFine fine = true
+isFine (fault n p) = false
+
+-- the reversal is allowed: the edit would not be refused for another cause than 1, 15 or 16, and the element is placed
+unfoldable pub reversible : ℕ → List ℕ → Rec → Bool
+reversible dim ws r = placed (spotsOf dim ws) r && isFine (editFault dim ws (reversal ws r))

@@ -1,0 +1,84 @@
+-- Laws of the types: what an arm of a `match` says of a type, and how long the fixed part of a known type is at least.
+use Prim.Native.Nat.{ℕ, _+_, _*_, _≤_}
+use mathlib.Core.Path.{_≡_, refl, subst⁻¹}
+use mathlib.Core.Logic.{⊎-elim, inl, inr}
+use mathlib.Core.List.{List, [], _∷_}
+use mathlib.Core.Bool.{Bool, true, false, cond, _&&_, _||_, false≢true, and-eq-true-iff}
+use native.Mathlib.Omega.{arith}
+use borrow.Author.Tests.{ne-eqb, eqb-true}
+use types.Run.{OneOf}
+use lib.Dec.{eqb}
+use Rattle.elements.specs.Kinds.{oneOf, isHeader, isPointed, isLinked, fixedPart}
+
+-- a property of each number of a list
+abbrev pub Each : (ℕ → Type 0) → List ℕ → Type 0
+Each P [] = Unit
+Each P (k ∷ ks) = P k × Each P ks
+
+-- what holds of each number of an arm holds of the type there
+pub in-arm : (P : ℕ → Type 0) (ks : List ℕ) (t : ℕ) → Each P ks → OneOf ks t → P t
+in-arm P [] t p h = absurd h
+in-arm P (k ∷ []) t p h = subst⁻¹ P h (p .0)
+in-arm P (k ∷ k′ ∷ ks) t p h = ⊎-elim (λ e. subst⁻¹ P e (p .0)) (λ r. in-arm P (k′ ∷ ks) t (p .1) r) h
+
+-- a type that an arm does not name is none of the arm's list
+pub none-of : (ks : List ℕ) (t : ℕ) → (OneOf ks t → ⊥) → oneOf ks t ≡ false
+none-of [] t h = refl
+none-of (k ∷ []) t h = simp (ne-eqb t k h)
+none-of (k ∷ k′ ∷ ks) t h = simp (ne-eqb t k (λ e. h (inl e)), none-of (k′ ∷ ks) t (λ r. h (inr r)))
+
+-- a list of types in two arms: each of the list is in one of the arms
+abbrev pub covered : List ℕ → List ℕ → List ℕ → Bool
+covered xs ys [] = true
+covered xs ys (k ∷ ks) = (oneOf xs k || oneOf ys k) && covered xs ys ks
+
+-- a type that neither arm names is none of the list
+pub none-in : (xs ys ks : List ℕ) (t : ℕ) → (OneOf xs t → ⊥) → (OneOf ys t → ⊥) → covered xs ys ks ≡ true → oneOf ks t ≡ false
+none-in xs ys [] t p q c = refl
+none-in xs ys (k ∷ ks) t p q c =
+    let both = and-eq-true-iff (oneOf xs k || oneOf ys k) (covered xs ys ks) .0 c in
+    let other : t ≡ k → ⊥ = λ e. false≢true (rw (rw e at (none-of xs t p), rw e at (none-of ys t q)) at (both .0)) in
+    simp (ne-eqb t k other, none-in xs ys ks t p q (both .1))
+
+-- what holds of each type of a list holds of a type that the list names
+or-else : {A : Type 0} (b c : Bool) → (b ≡ true → A) → (c ≡ true → A) → (b || c) ≡ true → A
+or-else true c f g e = f refl
+or-else false c f g e = g e
+
+pub each-named : (P : ℕ → Type 0) (ks : List ℕ) (t : ℕ) → Each P ks → oneOf ks t ≡ true → P t
+each-named P [] t p e = absurd (false≢true e)
+each-named P (k ∷ ks) t p e =
+    or-else (eqb t k) (oneOf ks t)
+    (λ h. subst⁻¹ P (eqb-true t k h) (p .0))
+    (λ h. each-named P ks t (p .1) h)
+    e
+
+-- a bound below both dimensions' numbers
+pub both : (m x y : ℕ) → m ≤ x → m ≤ y → (b : Bool) → m ≤ cond b x y
+both m x y p q true = p
+both m x y p q false = q
+
+-- a header has at least 20 words
+pub header-long : (dim t n : ℕ) → isHeader t ≡ true → 20 ≤ fixedPart dim t n
+unfolding fixedPart
+header-long dim t n =
+    let two = both 20 46 62 (omega arith) (omega arith) (eqb dim 2) in
+    let seven = both 20 35 43 (omega arith) (omega arith) (eqb dim 2) in
+    each-named (λ (t : ℕ). 20 ≤ fixedPart dim t n) (1 ∷ 2 ∷ 7 ∷ 12 ∷ 14 ∷ 18 ∷ 19 ∷ []) t
+    (omega arith, (two, (seven, (omega arith, (omega arith, (omega arith, (omega arith, tt)))))))
+
+-- an element that may have attributes has at least 18 words
+pub linked-long : (dim t n : ℕ) → isLinked t ≡ true → 18 ≤ fixedPart dim t n
+unfolding fixedPart
+linked-long dim t n =
+    let two = both 18 46 62 (omega arith) (omega arith) (eqb dim 2) in
+    let three = both 18 26 30 (omega arith) (omega arith) (eqb dim 2) in
+    let points = both 18 (19 + 4 * n) (19 + 6 * n) (omega arith) (omega arith) (eqb dim 2) in
+    let seven = both 18 35 43 (omega arith) (omega arith) (eqb dim 2) in
+    each-named (λ (t : ℕ). 18 ≤ fixedPart dim t n) (2 ∷ 3 ∷ 4 ∷ 6 ∷ 7 ∷ 11 ∷ 12 ∷ 14 ∷ 17 ∷ 18 ∷ 19 ∷ 21 ∷ []) t
+    (two, (three, (points, (points, (seven, (points, (omega arith, (omega arith, (omega arith, (omega arith, (omega arith, (points, tt))))))))))))
+
+-- N has no part in the fixed part of a type without points
+pub fixed-any : (dim t m n : ℕ) → isPointed t ≡ false → fixedPart dim t m ≡ fixedPart dim t n
+unfolding fixedPart
+fixed-any dim t m n e = rw e

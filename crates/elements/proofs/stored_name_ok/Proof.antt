@@ -1,0 +1,69 @@
+-- The type decides which of the two parts of the definition is left.
+use mathlib.Core.Bool.{and-true}
+use mathlib.Core.Path.{sym}
+use native.Mathlib.Omega.{arith}
+use borrow.Author.Needs.{needs}
+use borrow.Author.Tests.{ne-eqb}
+use Rattle.elements.specs.Rules.{storedNameOk}
+use Rattle.elements.proofs.stored_name_ok.Statement.{statement}
+use Rattle.elements.proofs.stored_name_ok.Tie as tie
+
+add-word : tie.Need-add-word
+add-word c = let h = (c .before .before .pre .1) (rw (c .if1 .taken)) in omega arith
+
+word-requires : tie.Need-word-requires
+word-requires c κs = search needs
+
+add-word-2 : tie.Need-add-word-2
+add-word-2 c = let h = (c .before .before .before .pre .1) (rw (c .before .if1 .taken)) in omega arith
+
+word-requires-2 : tie.Need-word-requires-2
+word-requires-2 c κs = search needs
+
+name-ok-requires : tie.Need-name-ok-requires
+name-ok-requires c κs = search needs
+
+returns : tie.Need-returns
+unfolding storedNameOk
+returns c = simp (sym (c .before .before .before .before .before .pre .0), c .before .before .before .if1 .taken, sym (c .before .before .word .ensures .is), sym (c .before .word2 .ensures .is), sym (c .name-ok .ensures), and-true)
+
+add-word-3 : tie.Need-add-word-3
+add-word-3 c = let h = (c .before .before .before .pre .1) (rw (c .if2 .taken)) in omega arith
+
+word-requires-3 : tie.Need-word-requires-3
+word-requires-3 c κs = search needs
+
+add-word-4 : tie.Need-add-word-4
+add-word-4 c = let h = (c .before .before .before .before .pre .1) (rw (c .before .if2 .taken)) in omega arith
+
+word-requires-4 : tie.Need-word-requires-4
+word-requires-4 c κs = search needs
+
+name-ok-requires-2 : tie.Need-name-ok-requires-2
+name-ok-requires-2 c κs = search needs
+
+returns-2 : tie.Need-returns-2
+unfolding storedNameOk
+returns-2 c = simp (sym (c .before .before .before .before .before .before .pre .0), c .before .before .before .if2 .taken, sym (c .before .before .word3 .ensures .is), sym (c .before .word4 .ensures .is), sym (c .name-ok2 .ensures))
+
+returns-3 : tie.Need-returns-3
+unfolding storedNameOk
+returns-3 c = simp (sym (c .before .before .before .pre .0), ne-eqb _ _ (c .before .if1 .left), ne-eqb _ _ (c .if2 .left))
+
+pub stored-name-ok-spec : {M : Type 1} → statement M
+stored-name-ok-spec =
+    tie.close
+    (tie.spec
+    add-word
+    word-requires
+    add-word-2
+    word-requires-2
+    name-ok-requires
+    returns
+    add-word-3
+    word-requires-3
+    add-word-4
+    word-requires-4
+    name-ok-requires-2
+    returns-2
+    returns-3)

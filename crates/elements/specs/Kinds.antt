@@ -1,0 +1,53 @@
+-- The types (document 01, the table of fixed parts and "Complex elements").
+use Prim.Native.Nat.{ℕ, _+_, _*_}
+use mathlib.Core.List.{List, [], _∷_}
+use mathlib.Core.Bool.{Bool, true, false, not, _&&_, _||_, cond}
+use lib.Dec.{eqb, leb}
+
+-- a type is one of a list
+abbrev pub oneOf : List ℕ → ℕ → Bool
+oneOf [] t = false
+oneOf (x ∷ xs) t = eqb t x || oneOf xs t
+
+-- headers, which have a total; those that also have a count
+abbrev pub isHeader : ℕ → Bool
+isHeader = oneOf (1 ∷ 2 ∷ 7 ∷ 12 ∷ 14 ∷ 18 ∷ 19 ∷ [])
+
+abbrev pub isCounted : ℕ → Bool
+isCounted = oneOf (7 ∷ 12 ∷ 14 ∷ 18 ∷ 19 ∷ [])
+
+-- the types with N points from word 19
+abbrev pub isPointed : ℕ → Bool
+isPointed = oneOf (4 ∷ 6 ∷ 11 ∷ 21 ∷ [])
+
+-- the types that may have attributes: every known type but 1
+abbrev pub isLinked : ℕ → Bool
+isLinked = oneOf (2 ∷ 3 ∷ 4 ∷ 6 ∷ 7 ∷ 11 ∷ 12 ∷ 14 ∷ 17 ∷ 18 ∷ 19 ∷ 21 ∷ [])
+
+-- the types that are refused wherever they stand
+abbrev pub isUnread : ℕ → Bool
+isUnread = oneOf (24 ∷ 27 ∷ 87 ∷ [])
+
+-- the fixed part in words; a point has as many longs as the file has dimensions. A raw element has at least 2
+unfoldable pub fixedPart : ℕ → ℕ → ℕ → ℕ
+fixedPart dim t n =
+    cond (eqb t 1) 35
+    (cond (eqb t 2) (cond (eqb dim 2) 46 62)
+    (cond (eqb t 3) (cond (eqb dim 2) 26 30)
+    (cond (isPointed t) (cond (eqb dim 2) (19 + 4 * n) (19 + 6 * n))
+    (cond (eqb t 7) (cond (eqb dim 2) 35 43)
+    (cond (oneOf (12 ∷ 14 ∷ []) t) 20
+    (cond (eqb t 17) 18
+    (cond (oneOf (18 ∷ 19 ∷ []) t) 21 2)))))))
+
+-- what may stand under a header of the type `under`, 0 at the top (no header has type 0): type 1 only at the top, only
+-- type 17 under 7, no header under 12, 14, 18 and 19
+abbrev pub underOk : ℕ → ℕ → Bool
+underOk under t =
+    not (eqb t 1 && not (eqb under 0))
+    && (not (eqb under 7 && not (eqb t 17))
+    && not (oneOf (12 ∷ 14 ∷ 18 ∷ 19 ∷ []) under && isHeader t))
+
+-- what may stand there, and is read
+unfoldable pub mayStand : ℕ → ℕ → ℕ → Bool
+mayStand dim under t = not (isUnread t) && (not (eqb dim 2 && oneOf (18 ∷ 19 ∷ []) t) && underOk under t)

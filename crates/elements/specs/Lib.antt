@@ -1,0 +1,4 @@
+pub mod Header
+pub mod Kinds
+pub mod Attributes
+pub mod Rules

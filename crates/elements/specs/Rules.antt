@@ -1,0 +1,105 @@
+-- The rules of one element, in document 01's order of checks (3, 4, 5, 10, 6, 7, 8, 11, 12), apart from its components.
+-- An element starts at the place `at`, its bound is the place `bound`, `under` is the type of its direct header (0 at
+-- the top) and `depth` how many headers stand above it.
+use Prim.Native.Nat.{ℕ, _+_, _-_, _*_, _<_, _≤_}
+use mathlib.Core.Path.{_≡_}
+use mathlib.Core.List.{List, [], _∷_, _++_}
+use mathlib.Core.Bool.{Bool, true, false, cond, not, _&&_, _||_}
+use lib.Dec.{eqb, leb}
+use Rattle.words.specs.Words.{words, wordAt}
+use Rattle.names.specs.Names.{nameOk}
+use Rattle.elements.specs.Header.{reservedOf, cOf, typeOf, typeAt, sizeAt, pointsAt, extentAt, countAt}
+use Rattle.elements.specs.Kinds.{isHeader, isCounted, isPointed, fixedPart, mayStand}
+use Rattle.elements.specs.Attributes.{linkagesOk}
+use Rattle.elements.specs.declared.Head.{Head}
+use Rattle.elements.specs.declared.Head.the-variants.{Bad, Plain, Complex}
+
+-- 4: bit 6 of word 0 is zero; in type 9 it is not judged
+unfoldable pub reservedOk : ℕ → Bool
+reservedOk w = eqb (typeOf w) 9 || eqb (reservedOf w) 0
+
+-- 5: a top-level element has C clear in word 0, a component has it set; in type 9 it is not judged
+unfoldable pub placeOk : ℕ → ℕ → Bool
+placeOk depth w = eqb (typeOf w) 9 || eqb (cOf w) (cond (eqb depth 0) 0 1)
+
+-- 7: N is from 2 to 101, and the element is not shorter than its fixed part
+abbrev pub pointsOk : List ℕ → ℕ → Bool
+pointsOk ws at = leb 19 (sizeAt ws at) && (leb 2 (pointsAt ws at) && leb (pointsAt ws at) 101)
+
+unfoldable pub fixedOk : ℕ → List ℕ → ℕ → Bool
+fixedOk dim ws at =
+    (not (isPointed (typeAt ws at)) || pointsOk ws at)
+    && leb (fixedPart dim (typeAt ws at) (pointsAt ws at)) (sizeAt ws at)
+
+-- 8: the size is at most 65,535 words; a header's extent ends neither before the header does, nor past the bound,
+-- nor above 65,535 words
+unfoldable pub extentOk : List ℕ → ℕ → ℕ → Bool
+extentOk ws at room =
+    leb (sizeAt ws at) 65535
+    && (not (isHeader (typeAt ws at))
+    || (leb (sizeAt ws at) (extentAt ws at) && (leb (extentAt ws at) room && leb (extentAt ws at) 65535)))
+
+-- 12: the stored name of a type 1 or 2
+unfoldable pub storedNameOk : List ℕ → ℕ → Bool
+storedNameOk ws at =
+    (not (eqb (typeAt ws at) 1) || nameOk (wordAt ws (at + 16)) (wordAt ws (at + 17)))
+    && (not (eqb (typeAt ws at) 2) || nameOk (wordAt ws (at + 19)) (wordAt ws (at + 20)))
+
+-- a check is a test and the number that is answered where it fails; the first that fails decides, 0 where none does
+pub data Check : Type 0 where
+  check : Bool → ℕ → Check
+
+abbrev pub firstFault : List Check → ℕ
+firstFault [] = 0
+firstFault (check true n ∷ rest) = firstFault rest
+firstFault (check false n ∷ rest) = n
+
+-- the checks of where an element with the word 0 `w` stands
+abbrev pub placeChecks : ℕ → ℕ → ℕ → ℕ → List Check
+placeChecks dim depth under w =
+    check (reservedOk w) 4
+    ∷ check (placeOk depth w) 5
+    ∷ check (leb depth 8) 10
+    ∷ check (mayStand dim under (typeOf w)) 6
+    ∷ []
+
+-- the checks of what the element holds, with `room` words from its start to its bound
+abbrev pub contentChecks : ℕ → List ℕ → ℕ → ℕ → List Check
+contentChecks dim ws at room =
+    check (fixedOk dim ws at) 7
+    ∷ check (extentOk ws at room) 8
+    ∷ check (linkagesOk dim ws at) 11
+    ∷ check (storedNameOk ws at) 12
+    ∷ []
+
+-- all checks of the element, in their order
+abbrev pub checks : ℕ → ℕ → ℕ → List ℕ → ℕ → ℕ → List Check
+checks dim depth under ws at bound =
+    check (leb 2 (bound - at)) 3
+    ∷ check (leb (sizeAt ws at) (bound - at)) 3
+    ∷ (placeChecks dim depth under (wordAt ws at) ++ contentChecks dim ws at (bound - at))
+
+-- the number of the element's first fault
+unfoldable pub faultOf : ℕ → ℕ → ℕ → List ℕ → ℕ → ℕ → ℕ
+faultOf dim depth under ws at bound = firstFault (checks dim depth under ws at bound)
+
+-- what one element is read as: refused, ended by its own words, or a header around its components
+unfoldable pub headOf : ℕ → ℕ → ℕ → List ℕ → ℕ → ℕ → Head
+headOf dim depth under ws at bound =
+    cond (eqb (faultOf dim depth under ws at bound) 0)
+    (cond (isHeader (typeAt ws at)) (Complex (at + sizeAt ws at) (at + extentAt ws at)) (Plain (at + sizeAt ws at)))
+    (Bad (faultOf dim depth under ws at bound))
+
+-- 9, after the components: the count of a header that has one is that of its direct components
+unfoldable pub countOk : List ℕ → ℕ → ℕ → Bool
+countOk ws at direct = not (isCounted (typeAt ws at)) || eqb (countAt ws at) direct
+
+-- the bounds of an answer: an element has at least two words, ends by its bound, and a header is at depth 8 at most
+abbrev pub HeadWithin : ℕ → ℕ → ℕ → Head → Type 0
+HeadWithin depth at bound (Bad n) = Unit
+HeadWithin depth at bound (Plain next) = (at + 2 ≤ next) × (next ≤ bound)
+HeadWithin depth at bound (Complex inner end) = (at + 20 ≤ inner) × ((inner ≤ end) × ((end ≤ bound) × (depth ≤ 8)))
+
+pub record HeadRead (dim depth under : ℕ) (s : List ℕ) (at bound : ℕ) (r : Head) : Type 0 where
+  pub is : r ≡ headOf dim depth under (words s) at bound
+  pub within : HeadWithin depth at bound r

@@ -1,0 +1,51 @@
+-- `judge` answers `judgeOf`: the top list is judged by the inner contract, with the file's words as its bound.
+use mathlib.Core.Path.{sym, _∙_}
+use Rattle.files.proofs.Laws.{judge-call, judge-top}
+use borrow.Author.Needs.{needs}
+use Rattle.files.proofs.judge.Statement.{statement}
+use Rattle.files.proofs.judge.Tie as tie
+
+call-ok-requires : tie.Need-call-ok-requires
+call-ok-requires c κs = search needs
+
+judge-list-requires : tie.Need-judge-list-requires
+judge-list-requires c κs = search needs
+
+enum-known-next : tie.Need-enum-known-next
+enum-known-next c = search needs
+
+enum-known-number : tie.Need-enum-known-number
+enum-known-number c = search needs
+
+returns : tie.Need-returns
+returns c =
+    judge-top
+    _
+    (c .before .before .before .before .before .before .before .args .file .now)
+    _
+    (sym (c .before .before .before .before .before .call-ok .ensures) ∙ (c .before .before .before .before .if1 .taken))
+    (rw (c .before .next .given .1) at (c .before .before .before .judge-list .ensures .is))
+
+returns-2 : tie.Need-returns-2
+returns-2 c =
+    judge-top
+    _
+    (c .before .before .before .before .before .before .before .args .file .now)
+    _
+    (sym (c .before .before .before .before .before .call-ok .ensures) ∙ (c .before .before .before .before .if1 .taken))
+    (rw (c .before .number .given .1) at (c .before .before .before .judge-list .ensures .is))
+
+returns-3 : tie.Need-returns-3
+returns-3 c = judge-call _ _ (sym (c .before .call-ok .ensures) ∙ (c .if1 .left))
+
+pub judge-spec : {M : Type 1} → statement M
+judge-spec =
+    tie.close
+    (tie.spec
+    call-ok-requires
+    judge-list-requires
+    enum-known-next
+    enum-known-number
+    returns
+    returns-2
+    returns-3)

@@ -1,0 +1,58 @@
+-- The elements of a file in file order: one list, over which the element count, the views, the finder and the listing
+-- are stated.
+use Prim.Native.Nat.{ℕ, zero, suc, _+_, _*_, max}
+use mathlib.Core.List.{List, [], _∷_, _++_}
+use mathlib.Core.Bool.{Bool, true, false}
+use mathlib.Core.Option.{Option, none, some}
+use lib.ListN.{length}
+use lib.Dec.{eqb}
+use Rattle.words.specs.Words.{words}
+use Rattle.elements.specs.Header.{typeAt}
+use Rattle.elements.specs.Rules.{headOf}
+use Rattle.elements.specs.declared.Head.{Head}
+use Rattle.elements.specs.declared.Head.the-variants.{Bad, Plain, Complex}
+use Rattle.files.specs.Judge.{stopOf}
+use Rattle.files.specs.declared.Stop.{Stop}
+use Rattle.files.specs.declared.Stop.the-variants.{More, Done, Lacking}
+
+-- an element: where it starts, where its extent ends, its depth, and its direct header's place (none at the top)
+pub record Spot : Type 0 where
+  pub place : ℕ
+  pub end : ℕ
+  pub depth : ℕ
+  pub header : Option ℕ
+
+-- the greatest depth, 0 if there is no element
+abbrev pub deepest : List Spot → ℕ
+deepest [] = 0
+deepest (x ∷ xs) = max (x .depth) (deepest xs)
+
+-- an element, the elements under it, then those that follow it in its list
+abbrev pub spotsBy : Stop → Head → ℕ → ℕ → Option ℕ → (ℕ → ℕ → List Spot) → (ℕ → List Spot) → List Spot
+spotsBy Done h at depth header under rest = []
+spotsBy Lacking h at depth header under rest = []
+spotsBy More (Bad n) at depth header under rest = []
+spotsBy More (Plain next) at depth header under rest =
+    record { place = at; end = next; depth = depth; header = header } ∷ rest next
+spotsBy More (Complex inner end) at depth header under rest =
+    record { place = at; end = end; depth = depth; header = header } ∷ (under inner end ++ rest end)
+
+unfoldable pub spotsFrom : ℕ → ℕ → ℕ → ℕ → Option ℕ → List ℕ → ℕ → ℕ → List Spot
+spotsFrom zero dim depth under header ws at bound = []
+spotsFrom (suc n) dim depth under header ws at bound =
+    spotsBy (stopOf depth ws at bound) (headOf dim depth under ws at bound) at depth header
+    (λ inner end. spotsFrom n dim (depth + 1) (typeAt ws at) (some at) ws inner end)
+    (λ next. spotsFrom n dim depth under header ws next bound)
+
+-- the elements of a file, all depths, in file order
+unfoldable pub spotsOf : ℕ → List ℕ → List Spot
+spotsOf dim ws = spotsFrom (suc (length ws)) dim 0 0 none ws 0 (length ws)
+
+-- the element that starts at a place
+abbrev pub firstIf : Bool → Spot → Option Spot → Option Spot
+firstIf true x rest = some x
+firstIf false x rest = rest
+
+abbrev pub spotIn : List Spot → ℕ → Option Spot
+spotIn [] p = none
+spotIn (x ∷ xs) p = firstIf (eqb (x .place) p) x (spotIn xs p)

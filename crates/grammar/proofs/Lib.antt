@@ -1,0 +1,10 @@
+pub mod Stands
+pub mod Forest
+pub mod Types
+pub mod Local
+pub mod Rules
+pub mod Ends
+pub mod Sound
+pub mod Complete
+pub mod Whole
+pub mod Exact

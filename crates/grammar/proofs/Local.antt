@@ -1,0 +1,128 @@
+-- The tests of one element read its own words alone: where these words stand at a place, each test at that place is the
+-- test of the words themselves. A type's fixed part says which words are inside.
+use Prim.Native.Nat.{ℕ, _+_, _≤_}
+use mathlib.Core.Path.{_≡_, refl, ap, _∙_}
+use mathlib.Core.Bool.{Bool, true, false, not, _&&_, _||_}
+use mathlib.Core.List.{List, [], _∷_}
+use native.Mathlib.Omega.{arith}
+use lib.ListN.{length}
+use lib.Dec.{eqb, leb}
+use borrow.Author.Tests.{eqb-true, leb-true}
+use Rattle.words.specs.Words.{wordAt}
+use Rattle.linkages.specs.Linkages.{linkagesFill}
+use Rattle.elements.specs.Header.{typeOf, typeAt, sizeAt, pointsAt, extentAt, attributesAt, attributePartAt}
+use Rattle.elements.specs.Kinds.{oneOf, isHeader, isCounted, isPointed, isLinked, fixedPart}
+use Rattle.elements.specs.Attributes.{attributesOk, linkagesOk}
+use Rattle.elements.specs.Rules.{fixedOk, storedNameOk, countOk}
+use Rattle.grammar.proofs.Stands.{Stands, stands-word, stands-first}
+use Rattle.elements.proofs.Types.{header-long, linked-long, fixed-any}
+use Rattle.elements.proofs.Laws.{fixed-least}
+use Rattle.grammar.proofs.Types.{counted-header, pointed-long, cell-long}
+use Rattle.linkages.proofs.Local.{fill-local}
+
+---- a test that is asked only where another holds
+
+where-same : (b : Bool) {x y : Bool} → (b ≡ true → x ≡ y) → (not b || x) ≡ (not b || y)
+where-same true h = h refl
+where-same false h = refl
+
+and-where-same : (b : Bool) {x y : Bool} → (b ≡ true → x ≡ y) → (b && x) ≡ (b && y)
+and-where-same true h = h refl
+and-where-same false h = refl
+
+and-same : {a b x y : Bool} → a ≡ x → b ≡ y → (a && b) ≡ (x && y)
+and-same e f = rw (e, f) refl
+
+-- the test of the fixed part needs word 18 only of a type with N, and only where the element has it
+fixed-by : (dim t s p q : ℕ) → (19 ≤ s → p ≡ q) →
+    ((not (isPointed t) || (leb 19 s && (leb 2 p && leb p 101))) && leb (fixedPart dim t p) s)
+    ≡ ((not (isPointed t) || (leb 19 s && (leb 2 q && leb q 101))) && leb (fixedPart dim t q) s)
+fixed-by dim t s p q h = go (isPointed t) refl (leb 19 s) refl
+  where
+    go : (b : Bool) → isPointed t ≡ b → (c : Bool) → leb 19 s ≡ c →
+        ((not b || (c && (leb 2 p && leb p 101))) && leb (fixedPart dim t p) s) ≡ ((not b || (c && (leb 2 q && leb q 101))) && leb (fixedPart dim t q) s)
+    go false e c f = ap (λ n. leb n s) (fixed-any dim t p q e)
+    go true e true f = rw (h (leb-true 19 s f)) refl
+    go true e false f = refl
+
+module _ (own ws : List ℕ) (at : ℕ) (s : Stands own at ws) (size : sizeAt own 0 ≡ length own) where
+  pub type-local : typeAt ws at ≡ typeAt own 0
+  type-local = ap typeOf (stands-first s (omega arith))
+
+  pub size-local : sizeAt ws at ≡ length own
+  size-local = ap (λ w. w + 2) (stands-word s 1 (omega arith)) ∙ size
+
+  pub first-local : wordAt ws at ≡ wordAt own 0
+  first-local = stands-first s (omega arith)
+
+  points-local : 19 ≤ length own → pointsAt ws at ≡ pointsAt own 0
+  points-local h = stands-word s 18 h
+
+  pub fixed-local : (dim : ℕ) → fixedOk dim ws at ≡ fixedOk dim own 0
+  unfolding fixedOk
+  fixed-local dim = rw (type-local, size-local, size) (fixed-by dim (typeAt own 0) (length own) (pointsAt ws at) (pointsAt own 0) points-local)
+
+  ---- of an element that is not shorter than its fixed part
+
+  module _ (dim : ℕ) (fixed : fixedOk dim own 0 ≡ true) where
+    -- it has as many words as its type's fixed part has at least
+    own-long : {m : ℕ} → m ≤ fixedPart dim (typeAt own 0) (pointsAt own 0) → m ≤ length own
+    own-long h = let b = fixed-least dim own 0 fixed in omega arith
+
+    own-header : isHeader (typeAt own 0) ≡ true → 20 ≤ length own
+    own-header h = own-long (header-long dim (typeAt own 0) (pointsAt own 0) h)
+
+    own-linked : isLinked (typeAt own 0) ≡ true → 18 ≤ length own
+    own-linked h = own-long (linked-long dim (typeAt own 0) (pointsAt own 0) h)
+
+    own-cell : (t : ℕ) → oneOf (1 ∷ 2 ∷ []) t ≡ true → typeAt own 0 ≡ t → 21 ≤ length own
+    own-cell t h e = own-long (cell-long dim (typeAt own 0) (pointsAt own 0) (rw e h))
+
+    pub extent-local : isHeader (typeAt own 0) ≡ true → extentAt ws at ≡ extentAt own 0
+    extent-local h = let l = own-header h in ap (λ w. 19 + w) (stands-word s 18 (omega arith))
+
+    pub count-local : (n : ℕ) → countOk ws at n ≡ countOk own 0 n
+    unfolding countOk
+    count-local n =
+        rw type-local (where-same (isCounted (typeAt own 0)) (λ h.
+        let l = own-header (counted-header (typeAt own 0) h) in
+        ap (λ w. eqb w n) (stands-word s 19 (omega arith))))
+
+    pub name-local : storedNameOk ws at ≡ storedNameOk own 0
+    unfolding storedNameOk
+    name-local =
+        let t = typeAt own 0 in
+        rw type-local (and-same
+        (where-same (eqb t 1) (λ h. let l = own-cell 1 refl (eqb-true t 1 h) in rw (stands-word s 16 (omega arith), stands-word s 17 (omega arith)) refl))
+        (where-same (eqb t 2) (λ h. let l = own-cell 2 refl (eqb-true t 2 h) in rw (stands-word s 19 (omega arith), stands-word s 20 (omega arith)) refl)))
+
+    fixed-part-local : fixedPart dim (typeAt own 0) (pointsAt ws at) ≡ fixedPart dim (typeAt own 0) (pointsAt own 0)
+    fixed-part-local = go (isPointed (typeAt own 0)) refl
+      where
+        go : (b : Bool) → isPointed (typeAt own 0) ≡ b → fixedPart dim (typeAt own 0) (pointsAt ws at) ≡ fixedPart dim (typeAt own 0) (pointsAt own 0)
+        go true e = ap (fixedPart dim (typeAt own 0)) (points-local (own-long (pointed-long dim (typeAt own 0) (pointsAt own 0) e)))
+        go false e = fixed-any dim (typeAt own 0) (pointsAt ws at) (pointsAt own 0) e
+
+    filled-local : (a : ℕ) → a ≤ length own → linkagesFill ws (at + a) (at + length own) ≡ linkagesFill own (0 + a) (0 + length own)
+    filled-local a h =
+        fill-local ws own (at + a) (at + length own) (0 + a) (omega arith)
+        (λ i l. ap (wordAt ws) (omega arith) ∙ stands-word s (a + i) (omega arith) ∙ ap (wordAt own) (omega arith))
+        ∙ ap (linkagesFill own (0 + a)) (omega arith)
+
+    attributes-local : isLinked (typeAt own 0) ≡ true → attributesOk dim ws at ≡ attributesOk dim own 0
+    unfolding attributesOk
+    attributes-local h =
+        let l = own-linked h in
+        let p = attributePartAt own 0 in
+        rw (type-local, size-local, size, fixed-part-local, stands-word s 15 (omega arith))
+        (ap (λ c. leb (fixedPart dim (typeAt own 0) (pointsAt own 0)) p && c)
+        (and-where-same (leb p (length own)) (λ e. filled-local p (leb-true p (length own) e))))
+
+    pub linkages-local : linkagesOk dim ws at ≡ linkagesOk dim own 0
+    unfolding linkagesOk
+    linkages-local = rw type-local (go (isLinked (typeAt own 0)) refl)
+      where
+        go : (b : Bool) → isLinked (typeAt own 0) ≡ b →
+            (not (b && attributesAt ws at) || attributesOk dim ws at) ≡ (not (b && attributesAt own 0) || attributesOk dim own 0)
+        go false e = refl
+        go true e = let l = own-linked e in rw (attributes-local e, stands-word s 16 (omega arith)) refl
