@@ -14,6 +14,21 @@ use Rattle.files.specs.Spots.{Spot, deepest, spotsOf}
 use Rattle.files.specs.declared.Judged.the-variants.{Accepted}
 use Rattle.grammar.specs.Grammar.{File}
 use Rattle.grammar.proofs.Exact as exact
+use Rattle.reading.specs.Views.{viewOf}
+use Rattle.reading.proofs.Starts as starts
+use Rattle.finder.specs.Finder.{findOf}
+use Rattle.finder.specs.declared.Found.the-variants as found
+use Rattle.finder.proofs.Named as named
+use Rattle.edits.specs.Calls.{Session, Call, step}
+use Rattle.edits.specs.Book.{wasRefused}
+use Rattle.edits.specs.Demand.{EveryRun}
+use Rattle.edits.proofs.Refusals as refusals
+use Rattle.edits.proofs.Every as every
+
+---- demand 1: each public contract is an equation on every input; of a session, a refusal leaves every byte and length
+
+pub refusal-keeps : (dim : ℕ) (s : Session) (c : Call) → wasRefused (step dim s c .answer) ≡ true → step dim s c .after ≡ s
+refusal-keeps = refusals.refusal-keeps
 
 ---- demand 2: accepted exactly when the structure holds, with one reading
 
@@ -38,6 +53,21 @@ after-marker = exact.judged-after-marker
 pub count-is-length : (dim : ℕ) (s : List ℕ) (e d k : ℕ) → judgeOf dim s ≡ Accepted e d k → e ≡ length (spotsOf dim (words s))
 count-is-length = exact.count-is-length
 
+-- each place in that list is one that a view accepts, and no other place is
+pub view-accepts : (dim : ℕ) (s : List ℕ) (p e d m : ℕ) → judgeOf dim s ≡ Accepted e d m →
+    (starts.Starts (spotsOf dim (words s)) p → starts.Accepts (viewOf dim s p)) × (starts.Accepts (viewOf dim s p) → starts.Starts (spotsOf dim (words s)) p)
+view-accepts = starts.view-accepts
+
+-- the finder's count is the found element's ordinal plus one, and 13 carries the count of all elements
+pub finder-count : (dim : ℕ) (s t : List ℕ) (e d m a b : ℕ) → judgeOf dim s ≡ Accepted e d m → packed t ≡ Words a b →
+    named.Finds (words s) a b (spotsOf dim (words s)) (findOf dim s t)
+finder-count = named.finder-count
+
+-- the stored name of the cell that is found unpacks to the text, so 00417 never finds 417
+pub never-another : (dim : ℕ) (s t : List ℕ) (place looked : ℕ) → findOf dim s t ≡ found.At place looked →
+    named.Stored (words s) place (λ x y. unpacked x y ≡ answerOf t)
+never-another = named.never-another
+
 ---- demand 2: texts and stored names match one to one
 
 -- unpacking what a text packs to gives that text, and packing the text of two accepted words gives those words
@@ -50,3 +80,8 @@ words-back = names.pack-unpack
 -- no two part codes share a stored name
 pub no-two-part-codes : (t u : List ℕ) (a b : ℕ) → packed t ≡ Words a b → packed u ≡ Words a b → t ≡ u
 no-two-part-codes = names.no-two-share
+
+---- demand 3, over the definitions of the five calls
+
+pub demand-three : EveryRun
+demand-three = every.demand-three

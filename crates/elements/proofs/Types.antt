@@ -3,12 +3,12 @@ use Prim.Native.Nat.{ℕ, _+_, _*_, _≤_}
 use mathlib.Core.Path.{_≡_, refl, subst⁻¹}
 use mathlib.Core.Logic.{⊎-elim, inl, inr}
 use mathlib.Core.List.{List, [], _∷_}
-use mathlib.Core.Bool.{Bool, true, false, cond, _&&_, _||_, false≢true, and-eq-true-iff}
+use mathlib.Core.Bool.{Bool, true, false, cond, not, _&&_, _||_, false≢true, and-false, and-eq-true-iff}
 use native.Mathlib.Omega.{arith}
 use borrow.Author.Tests.{ne-eqb, eqb-true}
 use types.Run.{OneOf}
 use lib.Dec.{eqb}
-use Rattle.elements.specs.Kinds.{oneOf, isHeader, isPointed, isLinked, fixedPart}
+use Rattle.elements.specs.Kinds.{oneOf, isHeader, isPointed, isLinked, fixedPart, underOk}
 
 -- a property of each number of a list
 abbrev pub Each : (ℕ → Type 0) → List ℕ → Type 0
@@ -40,11 +40,12 @@ none-in xs ys (k ∷ ks) t p q c =
     let other : t ≡ k → ⊥ = λ e. false≢true (rw (rw e at (none-of xs t p), rw e at (none-of ys t q)) at (both .0)) in
     simp (ne-eqb t k other, none-in xs ys ks t p q (both .1))
 
--- what holds of each type of a list holds of a type that the list names
+-- from either of two tests
 or-else : {A : Type 0} (b c : Bool) → (b ≡ true → A) → (c ≡ true → A) → (b || c) ≡ true → A
 or-else true c f g e = f refl
 or-else false c f g e = g e
 
+-- what holds of each type of a list holds of a type that the list names
 pub each-named : (P : ℕ → Type 0) (ks : List ℕ) (t : ℕ) → Each P ks → oneOf ks t ≡ true → P t
 each-named P [] t p e = absurd (false≢true e)
 each-named P (k ∷ ks) t p e =
@@ -82,3 +83,19 @@ linked-long dim t n =
 pub fixed-any : (dim t m n : ℕ) → isPointed t ≡ false → fixedPart dim t m ≡ fixedPart dim t n
 unfolding fixedPart
 fixed-any dim t m n e = rw e
+
+-- under 7 the test for type 17 is enough: type 17 is not type 1
+pub only-text : (t : ℕ) → eqb t 17 ≡ underOk 7 t
+only-text t = go (eqb t 17) refl
+  where
+    go : (b : Bool) → eqb t 17 ≡ b → b ≡ (not (eqb t 1 && true) && (not (not b) && true))
+    go true e = rw (eqb-true t 17 e)
+    go false e = simp and-false
+
+-- where no header may stand the test for headers is enough: type 1 is one
+no-header-by : (b c : Bool) → not (b || c) ≡ (not (b && true) && not (b || c))
+no-header-by true c = refl
+no-header-by false c = refl
+
+pub no-header : (t : ℕ) → not (isHeader t) ≡ (not (eqb t 1 && true) && not (isHeader t))
+no-header t = no-header-by (eqb t 1) (oneOf (2 ∷ 7 ∷ 12 ∷ 14 ∷ 18 ∷ 19 ∷ []) t)

@@ -1,6 +1,6 @@
 -- The element header (document 01, "The element header"): the fields of an element that starts at the place `at` of
 -- the words `ws`. Of an element's own words alone, `at` is 0.
-use Prim.Native.Nat.{ℕ, _+_, _*_, _/_, _%_}
+use Prim.Native.Nat.{ℕ, _+_, _/_, _%_}
 use mathlib.Core.List.{List}
 use mathlib.Core.Bool.{Bool}
 use lib.Dec.{eqb}

@@ -1,8 +1,8 @@
 -- The types (document 01, the table of fixed parts and "Complex elements").
 use Prim.Native.Nat.{ℕ, _+_, _*_}
 use mathlib.Core.List.{List, [], _∷_}
-use mathlib.Core.Bool.{Bool, true, false, not, _&&_, _||_, cond}
-use lib.Dec.{eqb, leb}
+use mathlib.Core.Bool.{Bool, false, not, _&&_, _||_, cond}
+use lib.Dec.{eqb}
 
 -- a type is one of a list
 abbrev pub oneOf : List ℕ → ℕ → Bool
@@ -48,6 +48,10 @@ underOk under t =
     && (not (eqb under 7 && not (eqb t 17))
     && not (oneOf (12 ∷ 14 ∷ 18 ∷ 19 ∷ []) under && isHeader t))
 
+-- the types that are read: 18 and 19 only in a 3D file
+abbrev pub isRead : ℕ → ℕ → Bool
+isRead dim t = not (isUnread t) && not (eqb dim 2 && oneOf (18 ∷ 19 ∷ []) t)
+
 -- what may stand there, and is read
 unfoldable pub mayStand : ℕ → ℕ → ℕ → Bool
-mayStand dim under t = not (isUnread t) && (not (eqb dim 2 && oneOf (18 ∷ 19 ∷ []) t) && underOk under t)
+mayStand dim under t = isRead dim t && underOk under t

@@ -1,13 +1,11 @@
 // One element alone: the fields of its header, its type, and all rules that do not look at its components. The
 // definitions are in specs/: Header (fields), Kinds (types), Attributes, Rules (the order of checks).
 ghost use mathlib.Core.Path.{_≡_};
-ghost use mathlib.Core.List.{[], _∷_};
-ghost use mathlib.Core.Bool.{true, cond, not, _&&_};
-ghost use Prim.Native.Nat.{_+_, _-_, _<_, _≤_, _^_};
-ghost use lib.Dec.{eqb, leb};
-ghost use Rattle.words.specs.Words.{words, wordAt};
-ghost use Rattle.elements.specs.Header.{typeOf, typeAt, sizeAt, pointsAt};
-ghost use Rattle.elements.specs.Kinds.{oneOf, isHeader, isCounted, isPointed, isLinked, isUnread, fixedPart, underOk, mayStand};
+ghost use mathlib.Core.Bool.{true, cond};
+ghost use Prim.Native.Nat.{_+_, _<_, _≤_, _^_};
+ghost use Rattle.words.specs.Words.{words};
+ghost use Rattle.elements.specs.Header.{typeOf, typeAt, sizeAt};
+ghost use Rattle.elements.specs.Kinds.{isHeader, isCounted, isPointed, isLinked, isRead, fixedPart, underOk, mayStand};
 ghost use Rattle.elements.specs.Attributes.{attributesOk, linkagesOk};
 ghost use Rattle.elements.specs.Rules.{reservedOk, placeOk, fixedOk, extentOk, storedNameOk, firstFault, placeChecks, contentChecks, HeadRead, countOk};
 
@@ -44,7 +42,8 @@ pub fn size_at(s: &[u8], at: usize) -> usize
     }
 }
 
-// The headers. Here and below numbers that follow one another stand in two arms: in one they are compared as a range.
+// The headers. Here and below numbers that follow one another stand in different arms: in one arm they would be
+// compared as a range.
 pub fn is_header(t: usize) -> bool
     ensures { λ r. ⌜ r ≡ isHeader t ⌝ }
 {
@@ -87,38 +86,6 @@ pub fn is_linked(t: usize) -> bool
     }
 }
 
-// Surfaces and solids.
-fn is_solid(t: usize) -> bool
-    ensures { λ r. ⌜ r ≡ oneOf (18 ∷ 19 ∷ []) t ⌝ }
-{
-    match t {
-        18 => true,
-        19 => true,
-        _ => false,
-    }
-}
-
-// The headers under which no header stands, apart from 7.
-fn bars_headers(t: usize) -> bool
-    ensures { λ r. ⌜ r ≡ oneOf (12 ∷ 14 ∷ 18 ∷ 19 ∷ []) t ⌝ }
-{
-    match t {
-        12 | 14 | 18 => true,
-        19 => true,
-        _ => false,
-    }
-}
-
-// The types that are refused wherever they stand.
-fn is_unread(t: usize) -> bool
-    ensures { λ r. ⌜ r ≡ isUnread t ⌝ }
-{
-    match t {
-        24 | 27 | 87 => true,
-        _ => false,
-    }
-}
-
 // One of two numbers.
 fn pick(first: bool, a: usize, b: usize) -> usize
     ensures { λ r. ⌜ r ≡ cond first a b ⌝ }
@@ -145,40 +112,36 @@ pub fn fixed_part(dim: usize, t: usize, n: u16) -> usize
     }
 }
 
-// In a 2D file there are no surfaces and solids.
-fn dimension_ok(dim: usize, t: usize) -> bool
-    ensures { λ r. ⌜ r ≡ not (eqb dim 2 && oneOf (18 ∷ 19 ∷ []) t) ⌝ }
+// The types that are read.
+fn is_read(dim: usize, t: usize) -> bool
+    ensures { λ r. ⌜ r ≡ isRead dim t ⌝ }
 {
-    if dim == 2 { !is_solid(t) } else { true }
+    match t {
+        24 | 27 | 87 => false,
+        18 => dim != 2,
+        19 => dim != 2,
+        _ => true,
+    }
 }
 
-// What may stand under a header: type 1 under none, 17 alone under 7, no header under those that bar them.
+// What may stand under a header of type `under`, 0 at the top.
 fn under_ok(under: usize, t: usize) -> bool
     ensures { λ r. ⌜ r ≡ underOk under t ⌝ }
 {
-    if under == 0 {
-        return true;
+    match under {
+        0 => true,
+        7 => t == 17,
+        12 | 14 | 18 => !is_header(t),
+        19 => !is_header(t),
+        _ => t != 1,
     }
-    if t == 1 {
-        return false;
-    }
-    if under == 7 {
-        return t == 17;
-    }
-    if bars_headers(under) {
-        return !is_header(t);
-    }
-    true
 }
 
 // Whether a type may stand under a header of type `under` (0 at the top), and is read.
 pub fn may_stand(dim: usize, under: usize, t: usize) -> bool
     ensures { λ r. ⌜ r ≡ mayStand dim under t ⌝ }
 {
-    if is_unread(t) {
-        return false;
-    }
-    if dimension_ok(dim, t) {
+    if is_read(dim, t) {
         return under_ok(under, t);
     }
     false

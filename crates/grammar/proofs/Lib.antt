@@ -1,5 +1,6 @@
 pub mod Stands
 pub mod Forest
+pub mod Places
 pub mod Types
 pub mod Local
 pub mod Rules

@@ -1,7 +1,6 @@
 -- Past the end of the slice the type is 0, which has no count.
 use mathlib.Core.Path.{sym}
 use native.Mathlib.Omega.{arith}
-use borrow.Author.Needs.{needs}
 use Rattle.words.proofs.Laws.{word-out}
 use Rattle.elements.specs.Rules.{countOk}
 use Rattle.elements.proofs.count_ok.Statement.{statement}
@@ -12,16 +11,16 @@ unfolding countOk
 returns c = simp (word-out (c .before .before .args .s .now) (c .before .before .args .at) (omega arith))
 
 type-at-requires : tie.Need-type-at-requires
-type-at-requires c κs = search needs
+type-at-requires c κs = tt
 
 is-counted-requires : tie.Need-is-counted-requires
-is-counted-requires c κs = search needs
+is-counted-requires c κs = tt
 
 add-word : tie.Need-add-word
-add-word c = search needs
+add-word c = omega arith
 
 word-requires : tie.Need-word-requires
-word-requires c κs = search needs
+word-requires c κs = tt
 
 returns-2 : tie.Need-returns-2
 unfolding countOk

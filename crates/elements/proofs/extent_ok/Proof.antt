@@ -1,7 +1,6 @@
 -- The tests are those of the definition.
 use mathlib.Core.Path.{sym}
 use native.Mathlib.Omega.{arith}
-use borrow.Author.Needs.{needs}
 use borrow.Author.Tests.{le-leb, lt-leb}
 use Rattle.elements.specs.Rules.{extentOk}
 use Rattle.elements.proofs.Laws.{refused, accepted}
@@ -13,7 +12,7 @@ unfolding extentOk
 returns c = simp (sym (c .before .before .pre .0 .1), lt-leb _ _ (c .if1 .taken))
 
 is-header-requires : tie.Need-is-header-requires
-is-header-requires c κs = search needs
+is-header-requires c κs = tt
 
 returns-2 : tie.Need-returns-2
 unfolding extentOk
@@ -23,10 +22,10 @@ add-word : tie.Need-add-word
 add-word c = let h = (c .before .before .before .before .pre .1) (accepted (c .before .is-header .ensures) (c .if2 .left)) in omega arith
 
 word-requires : tie.Need-word-requires
-word-requires c κs = search needs
+word-requires c κs = tt
 
 add-extent : tie.Need-add-extent
-add-extent c = search needs
+add-extent c = omega arith
 
 returns-3 : tie.Need-returns-3
 unfolding extentOk

@@ -1,6 +1,6 @@
 -- The tests are those of the definition; where the type has no points, N has no part in the fixed part.
 use mathlib.Core.Path.{sym}
-use borrow.Author.Needs.{needs}
+use native.Mathlib.Omega.{arith}
 use borrow.Author.Tests.{le-leb, lt-leb}
 use Rattle.words.specs.Words.{words}
 use Rattle.elements.specs.Header.{pointsAt}
@@ -11,10 +11,10 @@ use Rattle.elements.proofs.fixed_ok.Statement.{statement}
 use Rattle.elements.proofs.fixed_ok.Tie as tie
 
 is-pointed-requires : tie.Need-is-pointed-requires
-is-pointed-requires c κs = search needs
+is-pointed-requires c κs = tt
 
 fixed-part-requires : tie.Need-fixed-part-requires
-fixed-part-requires c κs = search needs
+fixed-part-requires c κs = tt
 
 returns : tie.Need-returns
 unfolding fixedOk
@@ -25,10 +25,10 @@ unfolding fixedOk
 returns-2 c = simp (sym (c .before .before .before .before .pre .0 .0), sym (c .before .before .before .before .pre .0 .1), accepted (c .before .before .is-pointed .ensures) (c .before .if1 .left), lt-leb _ _ (c .if2 .taken))
 
 add-word : tie.Need-add-word
-add-word c = search needs
+add-word c = omega arith
 
 word-requires : tie.Need-word-requires
-word-requires c κs = search needs
+word-requires c κs = tt
 
 returns-3 : tie.Need-returns-3
 unfolding fixedOk
@@ -39,10 +39,10 @@ unfolding fixedOk
 returns-4 c = simp (sym (c .before .before .before .before .before .before .before .pre .0 .0), sym (c .before .before .before .before .before .before .before .pre .0 .1), accepted (c .before .before .before .before .before .is-pointed .ensures) (c .before .before .before .before .if1 .left), le-leb _ _ (c .before .before .before .if2 .left), sym (c .before .before .word .ensures .is), le-leb _ _ (c .before .if3 .left), lt-leb _ _ (c .if4 .taken))
 
 cast-fixed-part : tie.Need-cast-fixed-part
-cast-fixed-part c = search needs
+cast-fixed-part c = omega arith
 
 fixed-part-requires-2 : tie.Need-fixed-part-requires-2
-fixed-part-requires-2 c κs = search needs
+fixed-part-requires-2 c κs = tt
 
 returns-5 : tie.Need-returns-5
 unfolding fixedOk

@@ -1,7 +1,7 @@
 -- Each arm is a case of the definition, and the last has none of the numbers.
 use mathlib.Core.List.{[], _∷_}
 use mathlib.Core.Path.{_≡_, refl}
-use borrow.Author.Needs.{needs}
+use native.Mathlib.Omega.{arith}
 use borrow.Author.Tests.{ne-eqb}
 use Rattle.elements.specs.Kinds.{fixedPart}
 use Rattle.elements.proofs.Types.{in-arm, none-of}
@@ -9,28 +9,28 @@ use Rattle.elements.proofs.fixed_part.Statement.{statement}
 use Rattle.elements.proofs.fixed_part.Tie as tie
 
 pick-requires : tie.Need-pick-requires
-pick-requires c κs = search needs
+pick-requires c κs = tt
 
 pick-requires-2 : tie.Need-pick-requires-2
-pick-requires-2 c κs = search needs
+pick-requires-2 c κs = tt
 
 mul-pick : tie.Need-mul-pick
-mul-pick c = search needs
+mul-pick c = omega arith
 
 add-pick : tie.Need-add-pick
-add-pick c = search needs
+add-pick c = omega arith
 
 mul-pick-2 : tie.Need-mul-pick-2
-mul-pick-2 c = search needs
+mul-pick-2 c = omega arith
 
 add-pick-2 : tie.Need-add-pick-2
-add-pick-2 c = search needs
+add-pick-2 c = omega arith
 
 pick-requires-3 : tie.Need-pick-requires-3
-pick-requires-3 c κs = search needs
+pick-requires-3 c κs = tt
 
 pick-requires-4 : tie.Need-pick-requires-4
-pick-requires-4 c κs = search needs
+pick-requires-4 c κs = tt
 
 returns : tie.Need-returns
 unfolding fixedPart

@@ -10,7 +10,8 @@ use borrow.Author.Tests.{le-leb, lt-leb}
 use Rattle.words.specs.Words.{words, wordAt}
 use Rattle.elements.specs.Header.{typeAt}
 use Rattle.elements.specs.Kinds.{isHeader}
-use Rattle.elements.specs.Rules.{Check, firstFault, placeChecks, contentChecks, checks, faultOf}
+use Rattle.elements.specs.Rules.{Check, firstFault, placeChecks, contentChecks, checks, faultOf, HeadRead}
+use Rattle.elements.specs.declared.Head.the-variants.{Bad}
 use Rattle.elements.proofs.Laws.{pass, stop, tail, first, fault-here, fault-later, element-within, header-within, read-bad, read-plain, read-complex}
 use Rattle.elements.proofs.head_at.Statement.{statement}
 use Rattle.elements.proofs.head_at.Tie as tie
@@ -31,12 +32,16 @@ number a = faultOf (a .args .dim) (a .args .depth) (a .args .under) (words (a .a
 abbrev header : tie.Start → Bool
 header a = isHeader (typeAt (words (a .args .s .now)) (a .args .at))
 
--- the entry of the call, from after the third check and from after the last
+-- the entry of the call, from after the third test and from after the fifth
 abbrev from-3 : tie.Else3 → tie.Start
 from-3 c = c .before .before .before .before .before .before
 
 abbrev from-5 : tie.Else5 → tie.Start
 from-5 c = from-3 (c .before .before .before .before .before)
+
+-- a refusal with a number
+refuse : (a : tie.Start) (n : ℕ) → n ≡ number a → (n ≡ 0 → ⊥) → HeadRead (a .args .dim) (a .args .depth) (a .args .under) (a .args .s .now) (a .args .at) (a .args .bound) (Bad n)
+refuse a = read-bad (a .args .dim) (a .args .depth) (a .args .under) (a .args .s .now) (a .args .at) (a .args .bound)
 
 -- where the two checks 3 passed, those after them decide
 decide : (c : tie.Else3) {n : ℕ} → n ≡ firstFault (place (from-3 c) ++ content (from-3 c)) → n ≡ number (from-3 c)
@@ -70,54 +75,54 @@ returns : tie.Need-returns
 unfolding faultOf
 returns c =
     let a = c .before .before in
-    read-bad (a .args .dim) (a .args .depth) (a .args .under) (a .args .s .now) (a .args .at) (a .args .bound) _
+    refuse a _
     (first (all a) (stop (lt-leb 2 (a .args .bound - a .args .at) (omega arith))))
     (λ e. omega arith)
 
 sub-room : tie.Need-sub-room
-sub-room c = search needs
+sub-room c = omega arith
 
 returns-2 : tie.Need-returns-2
 unfolding faultOf
 returns-2 c =
     let a = c .before .before .before in
-    read-bad (a .args .dim) (a .args .depth) (a .args .under) (a .args .s .now) (a .args .at) (a .args .bound) _
+    refuse a _
     (first (all a) (stop (lt-leb _ _ (c .if2 .taken))))
     (λ e. omega arith)
 
 word-requires : tie.Need-word-requires
-word-requires c κs = search needs
+word-requires c κs = tt
 
 add-word : tie.Need-add-word
-add-word c = search needs
+add-word c = omega arith
 
 word-requires-2 : tie.Need-word-requires-2
-word-requires-2 c κs = search needs
+word-requires-2 c κs = tt
 
 add-size : tie.Need-add-size
-add-size c = search needs
+add-size c = omega arith
 
 returns-3 : tie.Need-returns-3
 unfolding faultOf
 returns-3 c =
     let a = c .before .before .before .before .before .before in
-    read-bad (a .args .dim) (a .args .depth) (a .args .under) (a .args .s .now) (a .args .at) (a .args .bound) _
+    refuse a _
     (first (all a)
     (pass (le-leb _ _ (c .before .before .before .if2 .left)) (stop (simp (sym (c .before .word2 .ensures .is), lt-leb _ _ (c .if3 .taken))))))
     (λ e. omega arith)
 
 place-fault-requires : tie.Need-place-fault-requires
-place-fault-requires c κs = search needs
+place-fault-requires c κs = tt
 
 returns-4 : tie.Need-returns-4
 returns-4 c =
     let a = from-3 (c .before .before) in
-    read-bad (a .args .dim) (a .args .depth) (a .args .under) (a .args .s .now) (a .args .at) (a .args .bound) _
+    refuse a _
     (decide (c .before .before) (fault-here (place a) (content a) _ (placed (c .before)) (c .if4 .taken)))
     (c .if4 .taken)
 
 type-of-requires : tie.Need-type-of-requires
-type-of-requires c κs = search needs
+type-of-requires c κs = tt
 
 content-fault-requires : tie.Need-content-fault-requires
 content-fault-requires c κs = search needs
@@ -125,32 +130,40 @@ content-fault-requires c κs = search needs
 returns-5 : tie.Need-returns-5
 returns-5 c =
     let a = from-3 (c .before .before .before .before .before) in
-    read-bad (a .args .dim) (a .args .depth) (a .args .under) (a .args .s .now) (a .args .at) (a .args .bound) _
+    refuse a _
     (decide (c .before .before .before .before .before)
     (fault-later (place a) (content a) _ refl (well-placed (c .before .before .before)) (c .before .content-fault .ensures)))
     (c .if5 .taken)
 
 add-next : tie.Need-add-next
-add-next c = search needs
+add-next c = omega arith
 
 is-header-requires : tie.Need-is-header-requires
-is-header-requires c κs = search needs
+is-header-requires c κs = tt
 
 add-word-2 : tie.Need-add-word-2
 add-word-2 c =
     let a = from-5 (c .before .before) in
-    omega (arith, element-within (a .args .dim) (a .args .depth) (a .args .under) (words (a .args .s .now)) (a .args .at) (a .args .bound) (none (c .before .before)), header-within (a .args .dim) (a .args .depth) (a .args .under) (words (a .args .s .now)) (a .args .at) (a .args .bound) (none (c .before .before)) (sym (kind (c .before)) ∙ c .if6 .taken))
+    omega (
+      arith,
+      element-within (a .args .dim) (a .args .depth) (a .args .under) (words (a .args .s .now)) (a .args .at) (a .args .bound) (none (c .before .before)),
+      header-within (a .args .dim) (a .args .depth) (a .args .under) (words (a .args .s .now)) (a .args .at) (a .args .bound) (none (c .before .before)) (sym (kind (c .before)) ∙ c .if6 .taken),
+    )
 
 word-requires-3 : tie.Need-word-requires-3
-word-requires-3 c κs = search needs
+word-requires-3 c κs = tt
 
 add-end : tie.Need-add-end
-add-end c = search needs
+add-end c = omega arith
 
 add-end-2 : tie.Need-add-end-2
 add-end-2 c =
     let a = from-5 (c .before .before .before) in
-    omega (arith, c .word3 .ensures .is, header-within (a .args .dim) (a .args .depth) (a .args .under) (words (a .args .s .now)) (a .args .at) (a .args .bound) (none (c .before .before .before)) (sym (kind (c .before .before)) ∙ c .before .if6 .taken))
+    omega (
+      arith,
+      c .word3 .ensures .is,
+      header-within (a .args .dim) (a .args .depth) (a .args .under) (words (a .args .s .now)) (a .args .at) (a .args .bound) (none (c .before .before .before)) (sym (kind (c .before .before)) ∙ c .before .if6 .taken),
+    )
 
 returns-6 : tie.Need-returns-6
 returns-6 c =

@@ -1,7 +1,6 @@
 -- The tests are those of the definition.
 use mathlib.Core.Path.{sym}
 use native.Mathlib.Omega.{arith}
-use borrow.Author.Needs.{needs}
 use borrow.Author.Tests.{eq-eqb, ne-eqb}
 use Rattle.elements.specs.Attributes.{linkagesOk}
 use Rattle.elements.proofs.Laws.{refused, accepted}
@@ -9,7 +8,7 @@ use Rattle.elements.proofs.linkages_ok.Statement.{statement}
 use Rattle.elements.proofs.linkages_ok.Tie as tie
 
 is-linked-requires : tie.Need-is-linked-requires
-is-linked-requires c κs = search needs
+is-linked-requires c κs = tt
 
 returns : tie.Need-returns
 unfolding linkagesOk
@@ -19,7 +18,7 @@ add-word : tie.Need-add-word
 add-word c = let h = (c .before .before .before .pre .1 .0) (accepted (c .before .is-linked .ensures) (c .if1 .left)) in omega arith
 
 word-requires : tie.Need-word-requires
-word-requires c κs = search needs
+word-requires c κs = tt
 
 attributes-ok-requires : tie.Need-attributes-ok-requires
 attributes-ok-requires c κs = (c .before .before .before .before .before .pre .0, ((c .before .before .before .before .before .pre .1 .0) (accepted (c .before .before .before .is-linked .ensures) (c .before .before .if1 .left)), c .before .before .before .before .before .pre .1 .1))

@@ -1,7 +1,6 @@
 -- Either test alone decides where it holds.
 use mathlib.Core.Bool.{or-true, or-false}
 use mathlib.Core.Path.{sym}
-use borrow.Author.Needs.{needs}
 use borrow.Author.Tests.{eq-eqb, ne-eqb}
 use Rattle.elements.specs.Rules.{reservedOk}
 use Rattle.elements.proofs.reserved_ok.Statement.{statement}
@@ -12,7 +11,7 @@ unfolding reservedOk
 returns c = simp (eq-eqb _ _ (c .if1 .taken), or-true)
 
 type-of-requires : tie.Need-type-of-requires
-type-of-requires c κs = search needs
+type-of-requires c κs = tt
 
 returns-2 : tie.Need-returns-2
 unfolding reservedOk

@@ -7,13 +7,13 @@ use Rattle.elements.proofs.size_at.Statement.{statement}
 use Rattle.elements.proofs.size_at.Tie as tie
 
 add-word : tie.Need-add-word
-add-word c = search needs
+add-word c = omega arith
 
 word-requires : tie.Need-word-requires
-word-requires c κs = search needs
+word-requires c κs = tt
 
 add-result : tie.Need-add-result
-add-result c = search needs
+add-result c = omega arith
 
 returns : tie.Need-returns
 returns c = search needs

@@ -2,7 +2,6 @@
 use mathlib.Core.Bool.{and-true}
 use mathlib.Core.Path.{sym}
 use native.Mathlib.Omega.{arith}
-use borrow.Author.Needs.{needs}
 use borrow.Author.Tests.{ne-eqb}
 use Rattle.elements.specs.Rules.{storedNameOk}
 use Rattle.elements.proofs.stored_name_ok.Statement.{statement}
@@ -12,16 +11,16 @@ add-word : tie.Need-add-word
 add-word c = let h = (c .before .before .pre .1) (rw (c .if1 .taken)) in omega arith
 
 word-requires : tie.Need-word-requires
-word-requires c κs = search needs
+word-requires c κs = tt
 
 add-word-2 : tie.Need-add-word-2
 add-word-2 c = let h = (c .before .before .before .pre .1) (rw (c .before .if1 .taken)) in omega arith
 
 word-requires-2 : tie.Need-word-requires-2
-word-requires-2 c κs = search needs
+word-requires-2 c κs = tt
 
 name-ok-requires : tie.Need-name-ok-requires
-name-ok-requires c κs = search needs
+name-ok-requires c κs = tt
 
 returns : tie.Need-returns
 unfolding storedNameOk
@@ -31,16 +30,16 @@ add-word-3 : tie.Need-add-word-3
 add-word-3 c = let h = (c .before .before .before .pre .1) (rw (c .if2 .taken)) in omega arith
 
 word-requires-3 : tie.Need-word-requires-3
-word-requires-3 c κs = search needs
+word-requires-3 c κs = tt
 
 add-word-4 : tie.Need-add-word-4
 add-word-4 c = let h = (c .before .before .before .before .pre .1) (rw (c .before .if2 .taken)) in omega arith
 
 word-requires-4 : tie.Need-word-requires-4
-word-requires-4 c κs = search needs
+word-requires-4 c κs = tt
 
 name-ok-requires-2 : tie.Need-name-ok-requires-2
-name-ok-requires-2 c κs = search needs
+name-ok-requires-2 c κs = tt
 
 returns-2 : tie.Need-returns-2
 unfolding storedNameOk

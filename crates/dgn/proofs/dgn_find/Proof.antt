@@ -1,0 +1,62 @@
+-- A slice that is too short stays; any other takes the answer of each case, as the library's own contract says.
+use native.Mathlib.Omega.{arith}
+use mathlib.Core.Path.{ap, sym, _∙_}
+use lib.ListN.{length-set}
+use Rattle.dgn.specs.Answers.{findReply}
+use Rattle.dgn.proofs.Laws.{too-short, answered}
+use borrow.Author.Needs.{needs}
+use Rattle.dgn.proofs.dgn_find.Statement.{statement}
+use Rattle.dgn.proofs.dgn_find.Tie as tie
+
+returns : tie.Need-returns
+returns c = too-short 2 _ ((c .before .before .before .before .args .out .now)) ((c .if1 .taken))
+
+find-requires : tie.Need-find-requires
+find-requires c κs = search needs
+
+enum-known-place : tie.Need-enum-known-place
+enum-known-place c = search needs
+
+slice-write-out : tie.Need-slice-write-out
+slice-write-out c = search needs
+
+slice-write-out-2 : tie.Need-slice-write-out-2
+slice-write-out-2 c = simp length-set (omega arith)
+
+enum-known-number : tie.Need-enum-known-number
+enum-known-number c = search needs
+
+slice-write-out-3 : tie.Need-slice-write-out-3
+slice-write-out-3 c = search needs
+
+slice-write-out-4 : tie.Need-slice-write-out-4
+slice-write-out-4 c = search needs
+
+same-length : tie.Need-same-length
+same-length c = search needs
+
+returns-2 : tie.Need-returns-2
+returns-2 c = answered 2 _ _ ((c .before .before .before .before .before .before .before .before .args .out .now)) (ap findReply (sym ((c .before .before .before .find .ensures)) ∙ (c .before .place .given .1))) ((c .before .before .before .before .if1 .left))
+
+same-length-2 : tie.Need-same-length-2
+same-length-2 c = search needs
+
+returns-3 : tie.Need-returns-3
+returns-3 c = answered 2 _ _ ((c .before .before .before .before .before .before .before .before .args .out .now)) (ap findReply (sym ((c .before .before .before .find .ensures)) ∙ (c .before .number .given .1))) ((c .before .before .before .before .if1 .left))
+
+pub dgn-find-spec : {M : Type 1} → statement M
+dgn-find-spec =
+    tie.close
+    (tie.spec
+    returns
+    find-requires
+    enum-known-place
+    slice-write-out
+    slice-write-out-2
+    enum-known-number
+    slice-write-out-3
+    slice-write-out-4
+    same-length
+    returns-2
+    same-length-2
+    returns-3)

@@ -1,0 +1,62 @@
+-- A slice that is too short stays; any other takes the answer of each case, as the library's own contract says.
+use native.Mathlib.Omega.{arith}
+use mathlib.Core.Path.{ap, sym, _∙_}
+use lib.ListN.{length-set}
+use Rattle.dgn.specs.Answers.{judgeReply}
+use Rattle.dgn.proofs.Laws.{too-short, answered}
+use borrow.Author.Needs.{needs}
+use Rattle.dgn.proofs.dgn_judge.Statement.{statement}
+use Rattle.dgn.proofs.dgn_judge.Tie as tie
+
+returns : tie.Need-returns
+returns c = too-short 3 _ ((c .before .before .before .args .out .now)) ((c .if1 .taken))
+
+judge-requires : tie.Need-judge-requires
+judge-requires c κs = search needs
+
+enum-known-elements : tie.Need-enum-known-elements
+enum-known-elements c = search needs
+
+slice-write-out : tie.Need-slice-write-out
+slice-write-out c = search needs
+
+slice-write-out-2 : tie.Need-slice-write-out-2
+slice-write-out-2 c = simp length-set (omega arith)
+
+slice-write-out-3 : tie.Need-slice-write-out-3
+slice-write-out-3 c = search needs
+
+enum-known-number : tie.Need-enum-known-number
+enum-known-number c = search needs
+
+slice-write-out-4 : tie.Need-slice-write-out-4
+slice-write-out-4 c = search needs
+
+same-length : tie.Need-same-length
+same-length c = search needs
+
+returns-2 : tie.Need-returns-2
+returns-2 c = answered 3 _ _ ((c .before .before .before .before .before .before .before .args .out .now)) (ap judgeReply (sym ((c .before .before .before .judge .ensures)) ∙ (c .before .elements .given .1))) ((c .before .before .before .before .if1 .left))
+
+same-length-2 : tie.Need-same-length-2
+same-length-2 c = search needs
+
+returns-3 : tie.Need-returns-3
+returns-3 c = answered 3 _ _ ((c .before .before .before .before .before .before .before .args .out .now)) (ap judgeReply (sym ((c .before .before .before .judge .ensures)) ∙ (c .before .number .given .1))) ((c .before .before .before .before .if1 .left))
+
+pub dgn-judge-spec : {M : Type 1} → statement M
+dgn-judge-spec =
+    tie.close
+    (tie.spec
+    returns
+    judge-requires
+    enum-known-elements
+    slice-write-out
+    slice-write-out-2
+    slice-write-out-3
+    enum-known-number
+    slice-write-out-4
+    same-length
+    returns-2
+    same-length-2
+    returns-3)

@@ -1,0 +1,178 @@
+-- What the finder answers on an accepted file: the first element in file order that has the name, and how many were
+-- looked at, itself counted. The theorems:
+--     finder-count     the count is the element's ordinal plus one; 13 carries the count of all elements
+--     found-accepted   a place is answered only of an accepted file and a good text
+--     never-another    the stored name of the cell that is found unpacks to the text
+--     one-text         two texts that find the same place are the same text
+use Prim.Native.Nat.{ℕ, _+_}
+use mathlib.Core.Path.{_≡_, refl, sym, ap, ap₂, _∙_, subst}
+use mathlib.Core.Logic.{_⊎_, inl, inr, ⊎-elim}
+use mathlib.Core.Bool.{Bool, true, false, _&&_, _||_, and-eq-true-iff}
+use mathlib.Core.List.{List, [], _∷_, _++_, append-nil}
+use native.Mathlib.Omega.{arith}
+use lib.ListN.{length, length-append}
+use lib.Seq.{append-snoc}
+use lib.Dec.{eqb}
+use borrow.Author.Tests.{eqb-true, ne-eqb}
+use Rattle.words.specs.Words.{words, wordAt}
+use Rattle.elements.specs.Header.{typeAt}
+use Rattle.names.specs.Names.{packed, unpacked, answerOf}
+use Rattle.names.specs.declared.Packed.{Packed}
+use Rattle.names.specs.declared.Packed.the-variants as text
+use Rattle.names.proofs.OneToOne.{unpack-pack, no-two-share}
+use Rattle.files.specs.Judge.{judgeOf}
+use Rattle.files.specs.Spots.{Spot, spotsOf}
+use Rattle.files.specs.declared.Judged.{Judged}
+use Rattle.files.specs.declared.Judged.the-variants as judged
+use Rattle.finder.specs.declared.Found.{Found}
+use Rattle.finder.specs.declared.Found.the-variants as found
+use Rattle.finder.specs.Finder.{hasName, hitIf, firstNamed, findBy, findOf}
+
+---- an element that has the name, by its type
+
+or-false : (b : Bool) → (b || false) ≡ b
+or-false true = refl
+or-false false = refl
+
+module _ (ws : List ℕ) (at a b : ℕ) where
+  pub name-one : typeAt ws at ≡ 1 → (eqb (wordAt ws (at + 16)) a && eqb (wordAt ws (at + 16 + 1)) b) ≡ hasName ws at a b
+  unfolding hasName
+  name-one e = let n : at + 16 + 1 ≡ at + 17 = omega arith in rw (n, e) (sym (or-false (eqb (wordAt ws (at + 16)) a && eqb (wordAt ws (at + 17)) b)))
+
+  pub name-two : typeAt ws at ≡ 2 → (eqb (wordAt ws (at + 19)) a && eqb (wordAt ws (at + 19 + 1)) b) ≡ hasName ws at a b
+  unfolding hasName
+  name-two e = let n : at + 19 + 1 ≡ at + 20 = omega arith in rw (n, e) refl
+
+  pub name-none : (typeAt ws at ≡ 1 → ⊥) → (typeAt ws at ≡ 2 → ⊥) → false ≡ hasName ws at a b
+  unfolding hasName
+  name-none p q = rw (ne-eqb (typeAt ws at) 1 p, ne-eqb (typeAt ws at) 2 q) refl
+
+---- the first of a list that has the name
+
+-- none of a list has the name
+abbrev pub NoneNamed : List ℕ → ℕ → ℕ → List Spot → Type 0
+NoneNamed ws first second [] = Unit {0}
+NoneNamed ws first second (x ∷ xs) = (hasName ws (x .place) first second ≡ false) × NoneNamed ws first second xs
+
+-- of a list, the element at a place has the name, and none before it has; `looked` is its ordinal plus one
+pub record FirstAt (ws : List ℕ) (first second : ℕ) (xs : List Spot) (place looked : ℕ) : Type 0 where
+  pub before : List Spot
+  pub one : Spot
+  pub after : List Spot
+  pub whole : xs ≡ before ++ (one ∷ after)
+  pub at : one .place ≡ place
+  pub counted : looked ≡ length before + 1
+  pub named : hasName ws place first second ≡ true
+  pub others : NoneNamed ws first second before
+
+-- what an answer says of a list
+abbrev pub Finds : List ℕ → ℕ → ℕ → List Spot → Found → Type 0
+Finds ws first second xs (found.At place looked) = FirstAt ws first second xs place looked
+Finds ws first second xs (found.Refused number place count) = (number ≡ 13) × (place ≡ 0) × (count ≡ length xs) × NoneNamed ws first second xs
+
+none-more : (ws : List ℕ) (a b : ℕ) (xs : List Spot) (x : Spot) → NoneNamed ws a b xs → hasName ws (x .place) a b ≡ false → NoneNamed ws a b (xs ++ (x ∷ []))
+none-more ws a b [] x n h = (h, tt)
+none-more ws a b (y ∷ xs) x n h = (n .0, none-more ws a b xs x (n .1) h)
+
+first-of : (ws : List ℕ) (a b : ℕ) (all past xs : List Spot) (n : ℕ) → all ≡ past ++ xs → n ≡ length past → NoneNamed ws a b past → Finds ws a b all (firstNamed ws a b n xs)
+first-of ws a b all past [] n e l h =
+    let q = e ∙ append-nil past in
+    (refl, refl, l ∙ ap length (sym q), subst (NoneNamed ws a b) (sym q) h)
+first-of ws a b all past (x ∷ xs) n e l h =
+    go (hasName ws (x .place) a b) refl
+    (λ q. first-of ws a b all (past ++ (x ∷ [])) xs (n + 1) (e ∙ sym (append-snoc past x xs)) (ap (λ k. k + 1) l ∙ sym (length-append past (x ∷ []))) (none-more ws a b past x h q))
+  where
+    go : (t : Bool) → hasName ws (x .place) a b ≡ t → (hasName ws (x .place) a b ≡ false → Finds ws a b all (firstNamed ws a b (n + 1) xs)) →
+        Finds ws a b all (hitIf t (x .place) n (firstNamed ws a b (n + 1) xs))
+    go true q r = record { before = past; one = x; after = xs; whole = e; at = refl; counted = ap (λ k. k + 1) l; named = q; others = h }
+    go false q r = r q
+
+---- an accepted file
+
+-- the finder looks at the elements in file order: the count of an answer is the element's ordinal plus one, or of all
+pub finder-count : (dim : ℕ) (s t : List ℕ) (e d m a b : ℕ) → judgeOf dim s ≡ judged.Accepted e d m → packed t ≡ text.Words a b →
+    Finds (words s) a b (spotsOf dim (words s)) (findOf dim s t)
+unfolding findOf
+finder-count dim s t e d m a b q p = rw (q, p) (first-of (words s) a b (spotsOf dim (words s)) [] (spotsOf dim (words s)) 0 refl refl tt)
+
+-- the cell that an answer names
+pub record FoundCell (dim : ℕ) (s t : List ℕ) (place looked : ℕ) : Type 0 where
+  pub elements : ℕ
+  pub deepest : ℕ
+  pub marker : ℕ
+  pub first : ℕ
+  pub second : ℕ
+  pub accepted : judgeOf dim s ≡ judged.Accepted elements deepest marker
+  pub packs : packed t ≡ text.Words first second
+  pub cell : FirstAt (words s) first second (spotsOf dim (words s)) place looked
+
+pub found-accepted : (dim : ℕ) (s t : List ℕ) (place looked : ℕ) → findOf dim s t ≡ found.At place looked → FoundCell dim s t place looked
+unfolding findOf
+found-accepted dim s t place looked q = go (judgeOf dim s) refl (packed t) refl q
+  where
+    go : (j : Judged) → judgeOf dim s ≡ j → (p : Packed) → packed t ≡ p → findBy j p (words s) (spotsOf dim (words s)) ≡ found.At place looked → FoundCell dim s t place looked
+    go (judged.Refused n k) e p f h = let z : _≡_ {A = ℕ} 0 1 = cc in absurd (omega arith)
+    go (judged.Accepted n d m) e (text.Refused k i) f h = let z : _≡_ {A = ℕ} 0 1 = cc in absurd (omega arith)
+    go (judged.Accepted n d m) e (text.Words a b) f h =
+        record {
+          elements = n;
+          deepest = d;
+          marker = m;
+          first = a;
+          second = b;
+          accepted = e;
+          packs = f;
+          cell = subst (Finds (words s) a b (spotsOf dim (words s))) q (finder-count dim s t n d m a b e f);
+        }
+
+---- its stored name
+
+-- something holds of the two words that store the name of a type 1 or 2
+abbrev pub Stored : List ℕ → ℕ → (ℕ → ℕ → Type 0) → Type 0
+Stored ws at P =
+    ((typeAt ws at ≡ 1) × P (wordAt ws (at + 16)) (wordAt ws (at + 17)))
+    ⊎ ((typeAt ws at ≡ 2) × P (wordAt ws (at + 19)) (wordAt ws (at + 20)))
+
+-- two words are those of a name
+abbrev pub Both : ℕ → ℕ → ℕ → ℕ → Type 0
+Both a b x y = (x ≡ a) × (y ≡ b)
+
+both-true : (t k x a y b : ℕ) → (eqb t k && (eqb x a && eqb y b)) ≡ true → (t ≡ k) × Both a b x y
+both-true t k x a y b e =
+    let p = and-eq-true-iff (eqb t k) (eqb x a && eqb y b) .0 e in
+    let q = and-eq-true-iff (eqb x a) (eqb y b) .0 (p .1) in
+    (eqb-true t k (p .0), (eqb-true x a (q .0), eqb-true y b (q .1)))
+
+either : (p q : Bool) → (p || q) ≡ true → (p ≡ true) ⊎ (q ≡ true)
+either true q e = inl refl
+either false q e = inr e
+
+pub named-stored : (ws : List ℕ) (at a b : ℕ) → hasName ws at a b ≡ true → Stored ws at (Both a b)
+unfolding hasName
+named-stored ws at a b e =
+    ⊎-elim (λ h. inl (both-true _ _ _ _ _ _ h)) (λ h. inr (both-true _ _ _ _ _ _ h)) (either _ _ e)
+
+-- the stored name of the cell that is found unpacks to the text
+pub never-another : (dim : ℕ) (s t : List ℕ) (place looked : ℕ) → findOf dim s t ≡ found.At place looked →
+    Stored (words s) place (λ x y. unpacked x y ≡ answerOf t)
+never-another dim s t place looked q =
+    let c = found-accepted dim s t place looked q in
+    let u = unpack-pack t (c .first) (c .second) (c .packs) in
+    ⊎-elim (λ h. inl (h .0, ap₂ unpacked (h .1 .0) (h .1 .1) ∙ u)) (λ h. inr (h .0, ap₂ unpacked (h .1 .0) (h .1 .1) ∙ u))
+    (named-stored (words s) place (c .first) (c .second) (c .cell .named))
+
+-- a cell stores one name
+stored-one : (ws : List ℕ) (at a b c d : ℕ) → Stored ws at (Both a b) → Stored ws at (Both c d) → (a ≡ c) × (b ≡ d)
+stored-one ws at a b c d (inl p) (inl q) = (sym (p .1 .0) ∙ q .1 .0, sym (p .1 .1) ∙ q .1 .1)
+stored-one ws at a b c d (inr p) (inr q) = (sym (p .1 .0) ∙ q .1 .0, sym (p .1 .1) ∙ q .1 .1)
+stored-one ws at a b c d (inl p) (inr q) = absurd (omega (arith, p .0, q .0))
+stored-one ws at a b c d (inr p) (inl q) = absurd (omega (arith, p .0, q .0))
+
+-- so two texts that find the same place are the same: 00417 never finds 417
+pub one-text : (dim : ℕ) (s t u : List ℕ) (place n k : ℕ) → findOf dim s t ≡ found.At place n → findOf dim s u ≡ found.At place k → t ≡ u
+one-text dim s t u place n k p q =
+    let c = found-accepted dim s t place n p in
+    let d = found-accepted dim s u place k q in
+    let e = stored-one (words s) place (c .first) (c .second) (d .first) (d .second)
+    (named-stored (words s) place (c .first) (c .second) (c .cell .named)) (named-stored (words s) place (d .first) (d .second) (d .cell .named)) in
+    no-two-share t u (d .first) (d .second) (c .packs ∙ ap₂ text.Words (e .0) (e .1)) (d .packs)

@@ -1,0 +1,204 @@
+// The lines that celllist prints, each written to the front of a lent buffer. The definitions are in specs/Lines.
+ghost use mathlib.Core.Path.{_≡_};
+ghost use Prim.Native.Nat.{_+_, _≤_};
+ghost use mathlib.Core.List.{[], _∷_};
+ghost use lib.ListN.{length, take};
+ghost use Rattle.words.specs.Words.{words, WordRead};
+ghost use Rattle.elements.specs.Header.{typeAt};
+ghost use Rattle.listing.specs.Lines.{decimal, field, state, nameField, elementLine, textLength, lineOf, headingLine, refusedLine, endLine, Writes};
+ghost use Rattle.listing.specs.Puts.{Puts, Named};
+
+// One byte.
+fn put_byte(buf: &mut [u8], at: usize, b: u8) -> usize
+    requires { ⌜ at + 1 ≤ length (now buf) ⌝ }
+    ensures { λ r. ⌜ Puts (now (buf .entry)) at (b ∷ []) (now (buf .exit)) r ⌝ }
+{
+    buf[at] = b;
+    at + 1
+}
+
+// The line feed that ends a line.
+fn put_line_feed(buf: &mut [u8], at: usize) -> usize
+    requires { ⌜ at + 1 ≤ length (now buf) ⌝ }
+    ensures { λ r. ⌜ Puts (now (buf .entry)) at (10 ∷ []) (now (buf .exit)) r ⌝ }
+{
+    put_byte(buf, at, b'\n')
+}
+
+// The bytes of another slice.
+fn put_bytes(buf: &mut [u8], at: usize, src: &[u8]) -> usize
+    requires { ⌜ at + length (now src) ≤ length (now buf) ⌝ }
+    ensures { λ r. ⌜ Puts (now (buf .entry)) at (now (src .entry)) (now (buf .exit)) r ⌝ }
+{
+    let mut k = 0;
+    while k < src.len() {
+        buf[at + k] = src[k];
+        k += 1;
+    }
+    at + k
+}
+
+// A number in decimal digits, those of its tenth part first: at most 20 calls deep.
+fn put_number(buf: &mut [u8], at: usize, n: usize) -> usize
+    requires { ⌜ at + 20 ≤ length (now buf) ⌝ }
+    ensures { λ r. ⌜ Puts (now (buf .entry)) at (decimal n) (now (buf .exit)) r ⌝ }
+    ensures { λ r. ⌜ r ≤ at + 20 ⌝ }
+{
+    if n < 10 {
+        return put_byte(buf, at, b'0' + n as u8);
+    }
+    let next = put_number(buf, at, n / 10);
+    put_byte(buf, next, b'0' + (n % 10) as u8)
+}
+
+// A number and the space after it.
+fn put_field(buf: &mut [u8], at: usize, n: usize) -> usize
+    requires { ⌜ at + 21 ≤ length (now buf) ⌝ }
+    ensures { λ r. ⌜ Puts (now (buf .entry)) at (field n) (now (buf .exit)) r ⌝ }
+    ensures { λ r. ⌜ r ≤ at + 21 ⌝ }
+{
+    let next = put_number(buf, at, n);
+    put_byte(buf, next, b' ')
+}
+
+// The state of an element.
+fn put_state(buf: &mut [u8], at: usize, deleted: bool) -> usize
+    requires { ⌜ at + 4 ≤ length (now buf) ⌝ }
+    ensures { λ r. ⌜ Puts (now (buf .entry)) at (state deleted) (now (buf .exit)) r ⌝ }
+    ensures { λ r. ⌜ r ≤ at + 4 ⌝ }
+{
+    if deleted {
+        return put_bytes(buf, at, b"dead");
+    }
+    put_bytes(buf, at, b"live")
+}
+
+// A name after a space, its first six letters where it has more; nothing where it is empty.
+fn put_name(buf: &mut [u8], at: usize, name: &[u8]) -> usize
+    requires { ⌜ at + 7 ≤ length (now buf) ⌝ }
+    ensures { λ r. ⌜ Puts (now (buf .entry)) at (nameField (take 6 (now (name .entry)))) (now (buf .exit)) r ⌝ }
+    ensures { λ r. ⌜ r ≤ at + 7 ⌝ }
+{
+    if name.len() == 0 {
+        return at;
+    }
+    let next = put_byte(buf, at, b' ');
+    if 6 < name.len() {
+        return put_bytes(buf, next, &name[..6]);
+    }
+    put_bytes(buf, next, name)
+}
+
+// One element's line, and the number of its bytes. The buffer needs 100 bytes: with fewer nothing is written.
+pub fn element_line(
+    buf: &mut [u8],
+    place: usize,
+    depth: usize,
+    kind: usize,
+    size: usize,
+    deleted: bool,
+    name: &[u8],
+) -> usize
+    ensures { λ r. ⌜ Writes (now (buf .entry)) (elementLine place depth kind size deleted (now (name .entry))) (now (buf .exit)) r ⌝ }
+{
+    if buf.len() < 100 {
+        return 0;
+    }
+    let at = put_field(buf, 0, place);
+    let at = put_field(buf, at, depth);
+    let at = put_field(buf, at, kind);
+    let at = put_field(buf, at, size);
+    let at = put_state(buf, at, deleted);
+    let at = put_name(buf, at, name);
+    put_line_feed(buf, at)
+}
+
+// Word k of the element at a place.
+fn word_of(file: &[u8], at: usize, k: usize) -> usize
+    requires { ⌜ k ≤ 20 ⌝ }
+    ensures { λ r. ⌜ WordRead (now (file .entry)) (at + k) r ⌝ }
+{
+    if at < file.len() {
+        words::word(file, at + k)
+    } else {
+        0
+    }
+}
+
+// The name of the element at a place, by its type; a type that has none answers as an empty name.
+fn name_of(file: &[u8], at: usize, kind: usize) -> names::Unpacked
+    requires { ⌜ kind ≡ typeAt (words (now file)) at ⌝ }
+    ensures { λ r. ⌜ Named (words (now (file .entry))) at r ⌝ }
+{
+    if kind == 1 {
+        return names::unpack(word_of(file, at, 16), word_of(file, at, 17));
+    }
+    if kind == 2 {
+        return names::unpack(word_of(file, at, 19), word_of(file, at, 20));
+    }
+    names::unpack(0, 0)
+}
+
+// The number of letters of an unpacked text.
+fn text_length(answer: names::Answer) -> usize
+    ensures { λ r. ⌜ r ≡ textLength answer ⌝ }
+{
+    match answer {
+        names::Answer::Text { length } => length,
+        names::Answer::Refused {
+            number: _,
+            place: _,
+        } => 0,
+    }
+}
+
+// The line of the element that starts at a place of a file, and the number of its bytes. Where nothing stands all words
+// are 0. The buffer needs 100 bytes: with fewer nothing is written.
+pub fn line(file: &[u8], at: usize, depth: usize, buf: &mut [u8]) -> usize
+    ensures { λ r. ⌜ Writes (now (buf .entry)) (lineOf (words (now (file .entry))) at depth) (now (buf .exit)) r ⌝ }
+{
+    let first = words::word(file, at);
+    let kind = elements::type_of(first);
+    let size = word_of(file, at, 1) + 2;
+    let deleted = first / 32768 % 2 == 1;
+    let name = name_of(file, at, kind);
+    let answer = name.answer;
+    let letters = name.letters;
+    let length = text_length(answer);
+    element_line(buf, at, depth, kind, size, deleted, &letters[..length])
+}
+
+// The heading, and the number of its bytes. The buffer needs 100 bytes: with fewer nothing is written.
+pub fn heading(buf: &mut [u8]) -> usize
+    ensures { λ r. ⌜ Writes (now (buf .entry)) headingLine (now (buf .exit)) r ⌝ }
+{
+    if buf.len() < 100 {
+        return 0;
+    }
+    put_bytes(buf, 0, b"PLACE DEPTH TYPE WORDS STATE NAME\n")
+}
+
+// The line of a refused file, and the number of its bytes. The buffer needs 100 bytes: with fewer nothing is written.
+pub fn refused_line(buf: &mut [u8], number: usize, place: usize) -> usize
+    ensures { λ r. ⌜ Writes (now (buf .entry)) (refusedLine number place) (now (buf .exit)) r ⌝ }
+{
+    if buf.len() < 100 {
+        return 0;
+    }
+    let at = put_bytes(buf, 0, b"REFUSED ");
+    let at = put_field(buf, at, number);
+    let at = put_number(buf, at, place);
+    put_line_feed(buf, at)
+}
+
+// The last line, and the number of its bytes. The buffer needs 100 bytes: with fewer nothing is written.
+pub fn end_line(buf: &mut [u8], marker: usize) -> usize
+    ensures { λ r. ⌜ Writes (now (buf .entry)) (endLine marker) (now (buf .exit)) r ⌝ }
+{
+    if buf.len() < 100 {
+        return 0;
+    }
+    let at = put_bytes(buf, 0, b"END ");
+    let at = put_number(buf, at, marker);
+    put_line_feed(buf, at)
+}

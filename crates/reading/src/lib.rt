@@ -1,0 +1,242 @@
+// Reading an accepted file: extents, views, points and linkages. Every call judges once and then goes straight to its
+// place. Definitions: specs/Places, specs/Descent; of views, points and linkages specs/Views.
+ghost use mathlib.Core.Path.{_≡_};
+ghost use Prim.Native.Nat.{_/_, _<_};
+ghost use lib.ListN.{length};
+ghost use Rattle.words.specs.Words.{words};
+ghost use Rattle.reading.specs.Places.{spottedAt, extentAnswer, extentBytes};
+ghost use Rattle.reading.specs.Descent.{extentWords, descentTo, locateOf};
+
+pub mod attributes;
+pub mod points;
+pub mod views;
+
+pub use attributes::linkage_at;
+pub use points::point_at;
+pub use views::view_at;
+
+// The direct header of an element.
+pub enum Above {
+    Top,
+    Under { place: usize },
+}
+
+// The element that starts at a place: where its extent ends, its depth and its direct header; or the refusal.
+pub enum Spotted {
+    At {
+        end: usize,
+        depth: usize,
+        above: Above,
+    },
+    Refused {
+        number: usize,
+        place: usize,
+    },
+}
+
+// An extent, from its first word to the word after its last.
+pub enum Extent {
+    At { start: usize, end: usize },
+    Refused { number: usize, place: usize },
+}
+
+// A number that only some types have.
+pub enum Number {
+    Absent,
+    Value { value: usize },
+}
+
+// The range longs, unsigned.
+pub enum Range {
+    Absent,
+    Longs {
+        low_x: usize,
+        low_y: usize,
+        low_z: usize,
+        high_x: usize,
+        high_y: usize,
+        high_z: usize,
+    },
+}
+
+// Words 14 to 17 of known types other than 1.
+pub enum Display {
+    Absent,
+    Words {
+        group: usize,
+        index: usize,
+        properties: usize,
+        style: usize,
+        weight: usize,
+        colour: usize,
+    },
+}
+
+// The two name words of types 1 and 2.
+pub enum Name {
+    Absent,
+    Words { first: usize, second: usize },
+}
+
+pub struct Element {
+    pub level: usize,
+    pub c: bool,
+    pub kind: usize,
+    pub deleted: bool,
+    pub size: usize,
+    pub depth: usize,
+    pub above: Above,
+    pub range: Range,
+    pub display: Display,
+    pub points: Number,
+    pub name: Name,
+    pub total: Number,
+    pub count: Number,
+}
+
+pub enum View {
+    Seen { element: Element },
+    Refused { number: usize, place: usize },
+}
+
+// A point of a 2D or a 3D file.
+pub enum Point {
+    Flat { x: i64, y: i64 },
+    Solid { x: i64, y: i64, z: i64 },
+    Refused { number: usize, place: usize },
+}
+
+pub enum Attribute {
+    At {
+        user: bool,
+        place: usize,
+        size: usize,
+        id: usize,
+    },
+    Refused {
+        number: usize,
+        place: usize,
+    },
+}
+
+// The words of the element at a place with its extent.
+fn extent_words(file: &[u8], at: usize) -> usize
+    requires { ⌜ at < length (now file) / 2 ⌝ }
+    ensures { λ r. ⌜ r ≡ extentWords (words (now (file .entry))) at ⌝ }
+{
+    if elements::is_header(elements::type_at(file, at)) {
+        return 19 + words::word(file, at + 18);
+    }
+    elements::size_at(file, at)
+}
+
+// The element that starts at a place of a judged file: over the elements whose extents end by the place, and into the
+// header whose extent holds it.
+fn descend(file: &[u8], place: usize) -> Spotted
+    requires { ⌜ place < length (now file) / 2 ⌝ }
+    ensures { λ r. ⌜ r ≡ descentTo (words (now (file .entry))) place ⌝ }
+{
+    let mut here = 0;
+    let mut depth = 0;
+    let mut above = Above::Top;
+    while here < place {
+        let end = here + extent_words(file, here);
+        if end <= place {
+            here = end;
+        } else {
+            if !elements::is_header(elements::type_at(file, here)) {
+                return Spotted::Refused {
+                    number: 13,
+                    place: 0,
+                };
+            }
+            above = Above::Under { place: here };
+            depth += 1;
+            here += elements::size_at(file, here);
+        }
+    }
+    if here == place {
+        let end = here + extent_words(file, here);
+        return Spotted::At { end, depth, above };
+    }
+    Spotted::Refused {
+        number: 13,
+        place: 0,
+    }
+}
+
+// The element that starts at a place before the marker of a judged file.
+pub fn locate(file: &[u8], place: usize, marker: usize) -> Spotted
+    ensures { λ r. ⌜ r ≡ locateOf (words (now (file .entry))) place marker ⌝ }
+{
+    if place < marker {
+        if place < file.len() / 2 {
+            return descend(file, place);
+        }
+    }
+    Spotted::Refused {
+        number: 13,
+        place: 0,
+    }
+}
+
+// The element that starts at a place of a file: 1, the file's own refusals, then 13.
+pub fn spotted_at(file: &[u8], dim: usize, place: usize) -> Spotted
+    ensures { λ r. ⌜ r ≡ spottedAt dim (now (file .entry)) place ⌝ }
+{
+    match files::judge(file, dim) {
+        files::Judged::Refused {
+            number,
+            place: fault,
+        } => Spotted::Refused {
+            number,
+            place: fault,
+        },
+        files::Judged::Accepted {
+            elements: _,
+            deepest: _,
+            marker,
+        } => locate(file, place, marker),
+    }
+}
+
+// Where the extent of the element at a place starts and ends.
+pub fn extent_answer(file: &[u8], dim: usize, place: usize) -> Extent
+    ensures { λ r. ⌜ r ≡ extentAnswer dim (now (file .entry)) place ⌝ }
+{
+    match spotted_at(file, dim, place) {
+        Spotted::At {
+            end,
+            depth: _,
+            above: _,
+        } => Extent::At { start: place, end },
+        Spotted::Refused {
+            number,
+            place: fault,
+        } => Extent::Refused {
+            number,
+            place: fault,
+        },
+    }
+}
+
+// The extent of the element at a place, as that part of the file; empty where refused.
+pub fn extent_at(file: &[u8], dim: usize, place: usize) -> &[u8]
+    ensures { λ r. ⌜ now r ≡ extentBytes dim (now (file .entry)) place ⌝ }
+{
+    match spotted_at(file, dim, place) {
+        Spotted::At {
+            end,
+            depth: _,
+            above: _,
+        } => {
+            let a = 2 * place;
+            let e = 2 * end;
+            &file[a..e]
+        }
+        Spotted::Refused {
+            number: _,
+            place: _,
+        } => &file[..0],
+    }
+}

@@ -1,0 +1,130 @@
+// What a view gives of an element. Definitions: specs/Views.
+ghost use mathlib.Core.Path.{_≡_};
+ghost use Prim.Native.Nat.{_/_, _<_};
+ghost use lib.ListN.{length};
+ghost use Rattle.words.specs.Words.{words};
+ghost use Rattle.reading.specs.Views.{rangeOf, displayOf, numberIf, nameWords, elementView, viewOf};
+use super::Above;
+use super::Display;
+use super::Element;
+use super::Name;
+use super::Number;
+use super::Range;
+use super::Spotted;
+use super::View;
+use super::spotted_at;
+
+// The range of the element at a place, where it has the words.
+fn range_at(file: &[u8], at: usize) -> Range
+    requires { ⌜ at < length (now file) / 2 ⌝ }
+    ensures { λ r. ⌜ r ≡ rangeOf (words (now (file .entry))) at ⌝ }
+{
+    if elements::size_at(file, at) < 14 {
+        return Range::Absent;
+    }
+    Range::Longs {
+        low_x: words::long(file, at + 2),
+        low_y: words::long(file, at + 4),
+        low_z: words::long(file, at + 6),
+        high_x: words::long(file, at + 8),
+        high_y: words::long(file, at + 10),
+        high_z: words::long(file, at + 12),
+    }
+}
+
+// Words 14 to 17, of the types that have them.
+fn display_at(file: &[u8], at: usize) -> Display
+    requires { ⌜ at < length (now file) / 2 ⌝ }
+    ensures { λ r. ⌜ r ≡ displayOf (words (now (file .entry))) at ⌝ }
+{
+    if elements::is_linked(elements::type_at(file, at)) {
+        let symbology = words::word(file, at + 17);
+        return Display::Words {
+            group: words::word(file, at + 14),
+            index: words::word(file, at + 15),
+            properties: words::word(file, at + 16),
+            style: symbology % 8,
+            weight: symbology / 8 % 32,
+            colour: symbology / 256,
+        };
+    }
+    Display::Absent
+}
+
+// A number that only some types have.
+fn number_if(present: bool, value: usize) -> Number
+    ensures { λ r. ⌜ r ≡ numberIf present value ⌝ }
+{
+    if present {
+        return Number::Value { value };
+    }
+    Number::Absent
+}
+
+// The name words of a cell.
+fn name_at(file: &[u8], at: usize) -> Name
+    requires { ⌜ at < length (now file) / 2 ⌝ }
+    ensures { λ r. ⌜ r ≡ nameWords (words (now (file .entry))) at ⌝ }
+{
+    let t = elements::type_at(file, at);
+    if t == 1 {
+        return Name::Words {
+            first: words::word(file, at + 16),
+            second: words::word(file, at + 17),
+        };
+    }
+    if t == 2 {
+        return Name::Words {
+            first: words::word(file, at + 19),
+            second: words::word(file, at + 20),
+        };
+    }
+    Name::Absent
+}
+
+// All that a view gives of the element at a place.
+fn element_at(file: &[u8], at: usize, depth: usize, above: Above) -> Element
+    requires { ⌜ at < length (now file) / 2 ⌝ }
+    ensures { λ r. ⌜ r ≡ elementView (words (now (file .entry))) at depth above ⌝ }
+{
+    let w = words::word(file, at);
+    let t = elements::type_at(file, at);
+    let word_18 = words::word(file, at + 18);
+    Element {
+        level: w % 64,
+        c: w / 128 % 2 == 1,
+        kind: t,
+        deleted: w / 32768 % 2 == 1,
+        size: elements::size_at(file, at),
+        depth,
+        above,
+        range: range_at(file, at),
+        display: display_at(file, at),
+        points: number_if(elements::is_pointed(t), word_18),
+        name: name_at(file, at),
+        total: number_if(elements::is_header(t), word_18),
+        count: number_if(elements::is_counted(t), words::word(file, at + 19)),
+    }
+}
+
+// A view of the element at a place.
+pub fn view_at(file: &[u8], dim: usize, place: usize) -> View
+    ensures { λ r. ⌜ r ≡ viewOf dim (now (file .entry)) place ⌝ }
+{
+    match spotted_at(file, dim, place) {
+        Spotted::At {
+            end: _,
+            depth,
+            above,
+        } => View::Seen {
+            element: element_at(file, place, depth, above),
+        },
+        Spotted::Refused {
+            number,
+            place: fault,
+        } => View::Refused {
+            number,
+            place: fault,
+        },
+    }
+}

@@ -1,0 +1,51 @@
+#!/usr/bin/env bash
+# The outside tests: the second reader's own tests, both readers on the same inputs through the C interface, the program
+# celllist against the second reader, and the C host. Counts are added up; the last line is "N passed, M failed".
+set -u
+cd "$(dirname "$0")/.." || exit 1
+top=$PWD
+passed=0
+failed=0
+work=$(mktemp -d) || exit 1
+trap 'rm -rf "$work"' EXIT
+
+# count STATUS PASSED: a step's result
+count() {
+    if [ "$1" -eq 0 ]; then passed=$((passed + $2)); else failed=$((failed + 1)); fi
+}
+
+# the second reader's own tests
+if (cd tests/reader && cargo test --release --offline) > "$work/reader" 2>&1; then
+    n=$(grep -E '^test result: ok' "$work/reader" | sed -E 's/.* ([0-9]+) passed.*/\1/' | awk '{ n += $1 } END { print n }')
+    count 0 "$n"
+    echo "second reader: $n tests"
+else
+    cat "$work/reader"
+    count 1 0
+fi
+
+# the proved library as an archive
+rt staticlib dgn > "$work/archive" 2>&1
+status=$?
+[ $status -eq 0 ] || cat "$work/archive"
+count $status 1
+
+# both readers on the same inputs
+(cd tests/compare && cargo build --release --offline) > "$work/build" 2>&1 || cat "$work/build"
+tests/compare/target/release/compare > "$work/compare" 2>&1
+status=$?
+cat "$work/compare"
+count $status "$(tail -n 1 "$work/compare" | sed -E 's/^([0-9]+) passed.*/\1/')"
+
+# the C host
+gcc -O2 -Wall -Wextra -Werror -o "$work/host" examples/host.c target/staticlib/libdgn.a
+count $? 1
+"$work/host" "$top/tests/real/a11_cells_2d.dgn" 00417 > "$work/host.out"
+diff "$work/host.out" examples/host.out
+count $? 1
+"$work/host" "$top/tests/real/a18_cell_hdr_link_dgnlib_2d.dgn" 00417 > "$work/host.out"
+diff "$work/host.out" examples/host-refused.out
+count $? 1
+
+echo "$passed passed, $failed failed"
+[ "$failed" -eq 0 ]

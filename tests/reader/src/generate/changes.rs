@@ -1,0 +1,77 @@
+//! Changes to a given file, and bytes that are hardly a file.
+
+use super::random::Random;
+use crate::words::bytes_of;
+
+/// Words that often decide something.
+const TELLING: [u16; 26] = [
+    0, 1, 2, 3, 16, 17, 18, 19, 20, 24, 26, 27, 33, 46, 101, 102, 255, 256, 4096, 32768, 63999,
+    64000, 65516, 65517, 65534, 65535,
+];
+
+/// The file cut before each word, the empty file first, the whole file last.
+pub fn cuts(file: &[u8]) -> impl Iterator<Item = &[u8]> {
+    (0..=file.len() / 2).map(move |words| &file[..words * 2])
+}
+
+/// Changes one word of a file; nothing in a file without one.
+pub fn change_word(random: &mut Random, file: &mut [u8]) {
+    let words = file.len() / 2;
+    if words == 0 {
+        return;
+    }
+    let at = random.index(words);
+    change_word_at(random, file, at);
+}
+
+/// A copy of the file for each of its words, that word changed.
+pub fn each_word_changed<'a>(
+    random: &'a mut Random,
+    file: &'a [u8],
+) -> impl Iterator<Item = Vec<u8>> + 'a {
+    (0..file.len() / 2).map(move |at| {
+        let mut changed = file.to_vec();
+        change_word_at(random, &mut changed, at);
+        changed
+    })
+}
+
+/// Changes the word at a place that the file has.
+fn change_word_at(random: &mut Random, file: &mut [u8], place: usize) {
+    let at = place * 2;
+    let old = u16::from_le_bytes([file[at], file[at + 1]]);
+    let new = match random.below(6) {
+        0 => random.word(),
+        1 => old.wrapping_add(1),
+        2 => old.wrapping_sub(1),
+        3 => old ^ 1 << random.below(16),
+        4 => old & 0x00FF | (random.below(128) as u16) << 8,
+        _ => random.pick(&TELLING),
+    };
+    file[at..at + 2].copy_from_slice(&new.to_le_bytes());
+}
+
+/// Any bytes, even in number but for one time in twenty.
+pub fn random_bytes(random: &mut Random) -> Vec<u8> {
+    let words = random.index(120);
+    let odd = usize::from(random.one_in(20));
+    random.bytes(words * 2 + odd)
+}
+
+/// Words of which many look like the start of an element.
+pub fn soup(random: &mut Random) -> Vec<u8> {
+    let length = random.index(150);
+    let words: Vec<u16> = (0..length)
+        .map(|_| match random.below(8) {
+            0 => {
+                let kind = random.pick(&[1u16, 2, 3, 4, 7, 9, 12, 14, 17, 18, 21, 24, 66]);
+                kind << 8 | (random.below(2) as u16) << 7 | random.below(64) as u16
+            }
+            1 => random.pick(&TELLING),
+            2 => random.word(),
+            3 => 65535,
+            _ => random.below(40) as u16,
+        })
+        .collect();
+    bytes_of(&words)
+}

@@ -1,0 +1,85 @@
+//! Valid files.
+
+use super::elements;
+use super::random::Random;
+use super::tree::{lay, Node};
+use crate::words::bytes_of;
+
+/// A valid file and what judging must report of it.
+#[derive(Debug, Clone)]
+pub struct Valid {
+    pub file: Vec<u8>,
+    pub dim: u64,
+    pub elements: u64,
+    pub deepest: u64,
+    pub marker: u64,
+}
+
+/// 2 or 3.
+pub fn dimension(random: &mut Random) -> u64 {
+    2 + random.below(2)
+}
+
+/// A small valid file.
+pub fn valid(random: &mut Random, dim: u64) -> Valid {
+    let nodes = nodes(random, dim);
+    let after = match random.below(4) {
+        0 => {
+            let number = random.index(5);
+            let mut words = random.words(number);
+            if random.one_in(3) {
+                words.push(65535);
+            }
+            words
+        }
+        _ => Vec::new(),
+    };
+    finish(&nodes, dim, &after)
+}
+
+/// A small valid file that ends with its marker, as a session needs it.
+pub fn valid_to_marker(random: &mut Random, dim: u64) -> Valid {
+    let nodes = nodes(random, dim);
+    finish(&nodes, dim, &[])
+}
+
+/// The top-level elements of a small file.
+pub fn nodes(random: &mut Random, dim: u64) -> Vec<Node> {
+    let mut nodes = Vec::new();
+    if random.one_in(12) {
+        nodes.push(deep(random, dim));
+    }
+    let mut budget = random.below(9);
+    while budget > 0 {
+        nodes.push(elements::tree(random, dim, 0, None, &mut budget));
+    }
+    nodes
+}
+
+/// A nest down to depth 8, or nearly.
+fn deep(random: &mut Random, dim: u64) -> Node {
+    let depth = 6 + random.below(3);
+    let kind = if depth < 8 {
+        elements::kind(random, dim, Some(2))
+    } else {
+        random.pick(&[2, 3, 9, 12])
+    };
+    let last = Node::new(elements::single(random, dim, kind, true));
+    elements::chain(random, dim, depth, last)
+}
+
+/// Lays out the elements, the marker and the words after it.
+pub fn finish(nodes: &[Node], dim: u64, after: &[u16]) -> Valid {
+    let laid = lay(nodes);
+    let marker = laid.words.len() as u64;
+    let mut words = laid.words;
+    words.push(65535);
+    words.extend_from_slice(after);
+    Valid {
+        file: bytes_of(&words),
+        dim,
+        elements: laid.elements,
+        deepest: laid.deepest,
+        marker,
+    }
+}

@@ -1,0 +1,24 @@
+//! Inputs for comparing two readers, made from a seed.
+//!
+//! The same seed always gives the same inputs. Files are small unless a
+//! function of `large` is asked.
+
+pub mod changes;
+pub mod elements;
+pub mod faults;
+pub mod files;
+pub mod journals;
+pub mod large;
+pub mod places;
+pub mod random;
+pub mod sessions;
+pub mod texts;
+pub mod tree;
+pub mod writes;
+
+pub use faults::{aimed, two_faults, Aimed, ORDER};
+pub use files::{valid, Valid};
+pub use journals::undo_state;
+pub use places::{place, places};
+pub use random::Random;
+pub use sessions::{next_call, rough_session, rough_state, session, session_from, Session};

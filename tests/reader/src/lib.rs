@@ -1,0 +1,37 @@
+//! A second reader of ISFF design files and cell libraries.
+//!
+//! Every function takes any bytes, lengths and numbers, and answers with a
+//! result or with a refusal. A place is a word index from 0.
+
+#![forbid(unsafe_code)]
+
+pub mod book;
+pub mod calls;
+pub mod celllist;
+pub mod edits;
+pub mod find;
+pub mod generate;
+pub mod judge;
+pub mod layout;
+pub mod linkage;
+pub mod names;
+pub mod record;
+pub mod refusal;
+pub mod session;
+pub mod undo;
+pub mod view;
+pub mod words;
+pub mod write;
+
+pub use book::Book;
+pub use calls::{Call, State};
+pub use celllist::celllist;
+pub use edits::{insert, mark, remove, rename};
+pub use find::{find, Found};
+pub use judge::{judge, Judged};
+pub use linkage::{linkage, Linkage, LinkageKind};
+pub use names::{pack, unpack};
+pub use refusal::{FindRefusal, Refusal};
+pub use undo::undo;
+pub use view::{extent, point, view, Display, View};
+pub use write::{write, Fields};

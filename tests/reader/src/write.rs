@@ -1,0 +1,116 @@
+//! Writing elements of types 3, 4, 6 and 11.
+
+use crate::layout;
+use crate::linkage;
+use crate::refusal::{self, plain, Refusal};
+use crate::words::{count, put};
+
+/// All header fields, as plain numbers so that any value can be handed in.
+#[derive(Debug, Clone, PartialEq, Eq, Default)]
+pub struct Fields {
+    /// The type.
+    pub kind: u64,
+    pub level: u64,
+    pub c: u64,
+    pub deleted: u64,
+    pub range: [u64; 6],
+    pub graphic_group: u64,
+    pub attribute_index: u64,
+    pub properties: u64,
+    pub style: u64,
+    pub weight: u64,
+    pub colour: u64,
+}
+
+impl Fields {
+    fn in_range(&self) -> bool {
+        let word = u64::from(u16::MAX);
+        let long = u64::from(u32::MAX);
+        matches!(self.kind, 3 | 4 | 6 | 11)
+            && self.level <= 63
+            && self.c <= 1
+            && self.deleted <= 1
+            && self.range.iter().all(|&value| value <= long)
+            && self.graphic_group <= word
+            && self.attribute_index <= word
+            && self.properties <= word
+            && self.style <= 7
+            && self.weight <= 31
+            && self.colour <= 255
+    }
+}
+
+/// Writes an element at the start of `out`; gives the number of words written.
+pub fn write(
+    fields: &Fields,
+    points: &[i32],
+    tail: &[u8],
+    dim: u64,
+    out: &mut [u8],
+) -> Result<u64, Refusal> {
+    if !layout::good_dimension(dim) || !fields.in_range() || tail.len() % 2 != 0 {
+        return plain(refusal::CALL);
+    }
+    let numbers = points.len() as u64;
+    let n = numbers / dim;
+    if numbers % dim != 0 || (fields.kind == 3 && n != 2) {
+        return plain(refusal::CALL);
+    }
+    if fields.kind != 3 && !layout::good_n(n) {
+        return plain(refusal::SHORT);
+    }
+    let fixed = layout::fixed_part(fields.kind, dim, n);
+    let size = fixed + count(tail);
+    if size > layout::LARGEST {
+        return plain(refusal::TOTAL);
+    }
+    if linkage::has_a(fields.properties) {
+        let good = match linkage::part_begin(fields.attribute_index, fixed, size) {
+            Some(begin) => linkage::filled(tail, begin - fixed, count(tail)),
+            None => false,
+        };
+        if !good {
+            return plain(refusal::LINKAGE);
+        }
+    }
+    if (out.len() as u64) < size * 2 {
+        return plain(refusal::ROOM);
+    }
+
+    put(
+        out,
+        0,
+        fields.level | fields.c << 7 | fields.kind << 8 | fields.deleted << 15,
+    );
+    put(out, 1, size - 2);
+    let mut next = 2;
+    for value in fields.range {
+        put_long(out, &mut next, value);
+    }
+    put(out, 14, fields.graphic_group);
+    put(out, 15, fields.attribute_index);
+    put(out, 16, fields.properties);
+    put(
+        out,
+        17,
+        fields.style | fields.weight << 3 | fields.colour << 8,
+    );
+    next = 18;
+    if fields.kind != 3 {
+        put(out, next, n);
+        next += 1;
+    }
+    for &value in points {
+        put_long(out, &mut next, u64::from(value as u32));
+    }
+    let from = (fixed * 2) as usize;
+    out[from..from + tail.len()].copy_from_slice(tail);
+    Ok(size)
+}
+
+/// Writes a long, high word first, and steps past it.
+fn put_long(out: &mut [u8], next: &mut u64, value: u64) {
+    put(out, *next, value >> 16);
+    put(out, *next + 1, value);
+    *next += 2;
+}
