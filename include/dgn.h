@@ -5,7 +5,7 @@
  * caller has to check a file first.
  *
  * Every function returns 0 where it is done, or the number of one refusal (14 to 19 are answers of editing):
- *    1 CALL         dimension, a length, a field out of its range, an answer slice too short
+ *    1 CALL         dimension, a length, a field out of its range, a used file without its end, an answer slice too short
  *    2 NO END       no word left where the end marker or an element is due
  *    3 CUT          an element or piece is cut off, or words are left over after a piece
  *    4 RESERVED     bit 6 of an element's first word is set
@@ -26,8 +26,8 @@
  *   19 BAD JOURNAL  the last record is ill-formed or its reversal is not allowed
  *
  * Answers of several numbers go to `out`, `out_len` numbers long; each function says how many it needs. With fewer it
- * returns 1 and writes nothing. Where it refuses otherwise, out[0] is the refusal's place and the rest stays. A refusal
- * changes no other lent byte.
+ * returns 1 and writes nothing. Where it refuses otherwise, out[0] is the refusal's place and the rest stays (but see
+ * dgn_find). A refusal changes no other lent byte.
  */
 #ifndef DGN_H
 #define DGN_H

@@ -1,10 +1,10 @@
 -- The promises, in the user's order, each with a one-line proof that cites where it lives.
-use Prim.Native.Nat.{ℕ, _+_}
+use Prim.Native.Nat.{ℕ, _+_, _-_, _≤_}
 use mathlib.Core.Path.{_≡_}
 use mathlib.Core.Logic.{_↔_}
 use mathlib.Core.Bool.{true}
-use mathlib.Core.List.{List}
-use lib.ListN.{length, take}
+use mathlib.Core.List.{List, _++_}
+use lib.ListN.{length, take, drop}
 use Rattle.words.specs.Words.{words}
 use Rattle.names.specs.Names.{packed, unpacked, answerOf, textOf, nameOk}
 use Rattle.names.specs.declared.Packed.the-variants.{Words}
@@ -19,6 +19,12 @@ use Rattle.reading.proofs.Starts as starts
 use Rattle.finder.specs.Finder.{findOf}
 use Rattle.finder.specs.declared.Found.the-variants as found
 use Rattle.finder.proofs.Named as named
+use Rattle.finder.specs.Walk.{walkStart}
+use Rattle.linkages.specs.Linkages.{Linkages, fillFrom, linkagesFill}
+use Rattle.linkages.proofs.Meaning as meaning
+use Rattle.listing.specs.Lines.{headingLine, endLine}
+use Rattle.demands.specs.Listing.{listingOf}
+use Rattle.demands.proofs.Listing as listing
 use Rattle.edits.specs.Calls.{Session, Call, step}
 use Rattle.edits.specs.Book.{wasRefused}
 use Rattle.edits.specs.Demand.{EveryRun}
@@ -52,6 +58,19 @@ after-marker = exact.judged-after-marker
 -- the count that judging reports is the length of the list of elements in file order
 pub count-is-length : (dim : ℕ) (s : List ℕ) (e d k : ℕ) → judgeOf dim s ≡ Accepted e d k → e ≡ length (spotsOf dim (words s))
 count-is-length = exact.count-is-length
+
+-- the listing of celllist: what its loop prints along the walk is a line for each element in file order
+pub listing-is : (s : List ℕ) (e d m : ℕ) → judgeOf 2 s ≡ Accepted e d m →
+    headingLine ++ (listing.walkLines e (words s) walkStart ++ endLine m) ≡ listingOf s
+listing-is = listing.listing-is
+
+-- the test that linkages fill an attribute part is their meaning
+pub linkages-are : (n : ℕ) (ws : List ℕ) (at end : ℕ) → at ≤ end → end ≤ length ws → fillFrom n ws at end ≡ true →
+    Linkages (take (end - at) (drop at ws))
+linkages-are = meaning.fills-is
+
+pub are-linkages : {xs : List ℕ} → Linkages xs → (pre post : List ℕ) → linkagesFill (pre ++ (xs ++ post)) (length pre) (length pre + length xs) ≡ true
+are-linkages = meaning.is-fills
 
 -- each place in that list is one that a view accepts, and no other place is
 pub view-accepts : (dim : ℕ) (s : List ℕ) (p e d m : ℕ) → judgeOf dim s ≡ Accepted e d m →

@@ -101,7 +101,7 @@ abbrev pub nameNumbers : Name → List ℕ
 nameNumbers cells.Absent = 0 ∷ 0 ∷ 0 ∷ []
 nameNumbers (cells.Words first second) = 1 ∷ first ∷ second ∷ []
 
--- all 32 of them
+-- all of them, and a 0 to fill 32
 abbrev pub elementNumbers : Element → List ℕ
 elementNumbers e =
     e .level ∷ flag (e .c) ∷ e .kind ∷ flag (e .deleted) ∷ e .size ∷ e .depth ∷ aboveNumbers (e .above)

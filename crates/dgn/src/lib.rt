@@ -1,4 +1,4 @@
-// The C interface: every call of the library on numbers and byte slices, under the names of include/dgn.h. No logic:
+// The C interface: judge, pack, find, extent and linkage on numbers and byte slices, as in include/dgn.h. No logic:
 // each contract is the library's own equation, put into numbers by specs/Answers.
 ghost use mathlib.Core.Path.{_≡_};
 ghost use Rattle.names.specs.Names.{packed};

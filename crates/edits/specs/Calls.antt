@@ -10,7 +10,7 @@ use Rattle.words.specs.Words.{words, bytes, wordAt}
 use Rattle.names.specs.Names.{packed}
 use Rattle.names.specs.declared.Packed.{Packed}
 use Rattle.names.specs.declared.Packed.the-variants as name
-use Rattle.files.specs.Judge.{topOf, callOk}
+use Rattle.files.specs.Judge.{topOf}
 use Rattle.files.specs.Spots.{Spot, spotsOf}
 use Rattle.files.specs.declared.Verdict.{Verdict}
 use Rattle.files.specs.declared.Verdict.the-variants.{Good, Fault}
@@ -89,13 +89,14 @@ pub record Result : Type 0 where
 abbrev pub refused : Session → ℕ → ℕ → Result
 refused s n p = record { answer = Refused n p; after = s }
 
--- an edit made on the used words ws, with the record's words r behind the journal; 15 and 16 before anything changes
+-- an edit made: ws are the used words after it, the record's words r stand behind the journal
 unfoldable pub editMade : Session → List ℕ → List ℕ → Result
 editMade s ws r = record {
   answer = Made (2 * length ws) (s .jused + 2 * length r);
   after = record { file = stored (s .file) (s .used) ws; used = 2 * length ws; journal = pushed (s .journal) (s .jused) r; jused = s .jused + 2 * length r };
 }
 
+-- 15 and 16, before anything changes
 unfoldable pub editWithin : Session → List ℕ → List ℕ → Fault?
 editWithin s ws r =
     orElse (unless (leb (2 * length ws) (length (s .file))) 15) (unless (leb (s .jused + 2 * length r) (length (s .journal))) 16)
@@ -132,7 +133,7 @@ undone dim s =
     resultBy (unless (not (eqb (s .jused) 0)) 17) s
     (undoBy dim s (usedWords (s .file) (s .used)) (lastRecord (usedWords (s .journal) (s .jused))))
 
--- a name's words, and whether the text is good
+-- the rename that a text asks for (of a bad text any, since it is refused), and whether the text is good
 abbrev pub nameOfText : Packed → ℕ → Edit
 nameOfText (name.Words a b) p = rename p a b
 nameOfText (name.Refused n q) p = rename p 0 0

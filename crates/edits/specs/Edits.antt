@@ -27,7 +27,7 @@ flagged false w = w % 32768
 abbrev pub namePlace : List ℕ → ℕ → ℕ
 namePlace ws p = p + cond (eqb (typeAt ws p) 1) 16 19
 
--- the headers around a place, outermost first: those whose extents it lies in
+-- the headers around a place, outermost first: those begun before it whose extents it lies in
 abbrev pub keepIf : Bool → ℕ → List ℕ → List ℕ
 keepIf true q qs = q ∷ qs
 keepIf false q qs = qs
@@ -54,11 +54,12 @@ abbrev pub moved : Bool → ℕ → ℕ → ℕ
 moved true n w = w + n
 moved false n w = w - n
 
--- a header's total raised or lowered by n; the direct header's count, if it has one, by 1
+-- a count raised or lowered by 1
 abbrev pub countMoved : Bool → Bool → ℕ → List ℕ → List ℕ
 countMoved true up q ws = set ws (q + 19) (moved up 1 (wordAt ws (q + 19)))
 countMoved false up q ws = ws
 
+-- a header's total raised or lowered by n; the direct header's count, if it has one, by 1
 unfoldable pub corrected : Bool → ℕ → Bool → ℕ → List ℕ → List ℕ
 corrected up n direct q ws =
     countMoved (direct && isCounted (typeAt ws q)) up q (set ws (q + 18) (moved up n (wordAt ws (q + 18))))

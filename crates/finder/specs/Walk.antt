@@ -38,6 +38,6 @@ stepOver ws w = record {
   ends = w .ends;
 }
 
--- the next element; where no element can be, the walk stays
+-- the next element; beyond the words the walk stays, and its caller stops at the marker
 unfoldable pub nextOf : List ℕ → Walk → Walk
 nextOf ws w = cond (ltb (w .place) (length ws)) (cond (opens ws (w .place) (w .depth)) (stepIn ws w) (stepOver ws w)) w

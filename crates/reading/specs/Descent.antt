@@ -31,6 +31,6 @@ locateFrom (suc n) ws here depth above p =
 unfoldable pub descentTo : List ℕ → ℕ → Spotted
 descentTo ws p = locateFrom (suc p) ws 0 0 Top p
 
--- the same for a place before the marker
+-- the same for a place before the marker and within the words
 unfoldable pub locateOf : List ℕ → ℕ → ℕ → Spotted
 locateOf ws p marker = cond (ltb p marker && ltb p (length ws)) (descentTo ws p) (spotted.Refused 13 0)

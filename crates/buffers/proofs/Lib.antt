@@ -1,0 +1,5 @@
+pub mod Over
+pub mod Stored
+pub mod Fits
+pub mod Records
+pub mod Laws

@@ -1,0 +1,67 @@
+-- What moved down and the zeros behind it are the cut words stored (`remove-moves`); where a test fails nothing fits.
+use mathlib.Core.Path.{sym, _∙_}
+use native.Mathlib.Omega.{arith}
+use borrow.Author.Needs.{needs}
+use Rattle.words.proofs.Laws.{lent-below}
+use Rattle.buffers.proofs.Stored.{remove-moves}
+use Rattle.buffers.proofs.Fits.{removed-fits, removed-not}
+use Rattle.buffers.proofs.remove_words.Statement.{statement}
+use Rattle.buffers.proofs.remove_words.Tie as tie
+
+returns : tie.Need-returns
+returns c = removed-not _ _ _ _ (λ a l h. c .if1 .taken a)
+
+returns-2 : tie.Need-returns-2
+returns-2 c = removed-not _ _ _ _ (λ a l h. omega arith)
+
+returns-3 : tie.Need-returns-3
+returns-3 c = removed-not _ _ _ _ (λ a l h. omega arith)
+
+sub-if4 : tie.Need-sub-if4
+sub-if4 c = search needs
+
+returns-4 : tie.Need-returns-4
+returns-4 c = removed-not _ _ _ _ (λ a l h. omega arith)
+
+mul-freed : tie.Need-mul-freed
+mul-freed c = search needs
+
+mul-move-down : tie.Need-mul-move-down
+mul-move-down c = search needs
+
+move-down-requires : tie.Need-move-down-requires
+move-down-requires c κs = search needs
+
+sub-clear : tie.Need-sub-clear
+sub-clear c = search needs
+
+clear-requires : tie.Need-clear-requires
+clear-requires c κs = search needs
+
+same-length : tie.Need-same-length
+same-length c = search needs
+
+returns-5 : tie.Need-returns-5
+returns-5 c =
+    let args = c .before .before .before .before .before .before .before .before .before .before .before .before .before .args in
+    let file = lent-below (args .file .now) (c .before .before .before .before .before .before .before .before .before .before .before .before .slice-known .given) in
+    let even = c .before .before .before .before .before .before .before .before .before .before .before .if1 .left in
+    remove-moves _ _ _ file even (omega arith) _ _ _ (omega arith) (c .before .before .before .before .before .before .move-down .ensures) (c .before .before .clear .ensures)
+    ∙ sym (removed-fits _ _ _ _ even (omega arith) (omega arith))
+
+pub remove-words-spec : {M : Type 1} → statement M
+remove-words-spec =
+    tie.close
+    (tie.spec
+    returns
+    returns-2
+    returns-3
+    sub-if4
+    returns-4
+    mul-freed
+    mul-move-down
+    move-down-requires
+    sub-clear
+    clear-requires
+    same-length
+    returns-5)

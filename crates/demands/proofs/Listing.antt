@@ -1,0 +1,45 @@
+-- The loop of celllist, which prints the line of each step of the walk, gives the listing: the walk's places and depths
+-- are those of the elements in file order.
+use Prim.Native.Nat.{ℕ, zero, suc}
+use mathlib.Core.Path.{_≡_, refl, sym, ap, _∙_}
+use mathlib.Core.List.{List, [], _∷_, _++_, map}
+use lib.ListN.{length}
+use Rattle.words.specs.Words.{words}
+use Rattle.files.specs.Judge.{judgeOf}
+use Rattle.files.specs.Spots.{Spot, spotsOf}
+use Rattle.files.specs.declared.Judged.the-variants.{Accepted}
+use Rattle.grammar.proofs.Exact.{count-is-length}
+use Rattle.finder.specs.declared.Walk.{Walk}
+use Rattle.finder.specs.Walk.{nextOf, walkStart}
+use Rattle.finder.proofs.Walks.{walked, walk-is}
+use Rattle.listing.specs.Lines.{lineOf, headingLine, endLine}
+use Rattle.demands.specs.Listing.{elementLines, listingOf}
+
+-- what n turns of the loop print from a step of the walk on
+abbrev pub walkLines : ℕ → List ℕ → Walk → List ℕ
+walkLines zero ws w = []
+walkLines (suc n) ws w = lineOf ws (w .place) (w .depth) ++ walkLines n ws (nextOf ws w)
+
+abbrev lines : List ℕ → List (ℕ × ℕ) → List ℕ
+lines ws [] = []
+lines ws (x ∷ xs) = lineOf ws (x .0) (x .1) ++ lines ws xs
+
+walk-lines : (n : ℕ) (ws : List ℕ) (w : Walk) → walkLines n ws w ≡ lines ws (walked n ws w)
+walk-lines zero ws w = refl
+walk-lines (suc n) ws w = ap (λ l. lineOf ws (w .place) (w .depth) ++ l) (walk-lines n ws (nextOf ws w))
+
+element-lines : (ws : List ℕ) (xs : List Spot) → lines ws (map (λ x. (x .place, x .depth)) xs) ≡ elementLines ws xs
+element-lines ws [] = refl
+element-lines ws (x ∷ xs) = ap (λ l. lineOf ws (x .place) (x .depth) ++ l) (element-lines ws xs)
+
+pub listing-is : (s : List ℕ) (e d m : ℕ) → judgeOf 2 s ≡ Accepted e d m →
+    headingLine ++ (walkLines e (words s) walkStart ++ endLine m) ≡ listingOf s
+unfolding listingOf
+listing-is s e d m q =
+    let l = count-is-length 2 s e d m q in
+    let same : walkLines e (words s) walkStart ≡ elementLines (words s) (spotsOf 2 (words s)) =
+    ap (λ n. walkLines n (words s) walkStart) l
+    ∙ walk-lines (length (spotsOf 2 (words s))) (words s) walkStart
+    ∙ ap (lines (words s)) (walk-is 2 s e d m q .0)
+    ∙ element-lines (words s) (spotsOf 2 (words s)) in
+    rw (q, same) refl

@@ -1,0 +1,4 @@
+pub mod Depths
+pub mod Inserting
+pub mod Opening
+pub mod Exact

@@ -1,0 +1,5 @@
+pub mod Stores
+pub mod Bounds
+pub mod Element
+pub mod Writable
+pub mod Laid

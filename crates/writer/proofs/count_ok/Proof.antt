@@ -1,0 +1,27 @@
+use borrow.Author.Tests.{le-leb, lt-leb}
+use Rattle.elements.proofs.Laws.{refused, accepted}
+use Rattle.writer.specs.Writing.{countOk}
+use borrow.Author.Needs.{needs}
+use Rattle.writer.proofs.count_ok.Statement.{statement}
+use Rattle.writer.proofs.count_ok.Tie as tie
+use Rattle.writer.proofs.count_ok.Reads as reads
+use Rattle.writer.proofs.count_ok.Lts as lts
+use Rattle.elements.proofs.is_pointed.Reads as is-pointed-reads
+
+is-pointed-requires : tie.Need-is-pointed-requires
+is-pointed-requires c κs = search needs
+
+returns : tie.Need-returns
+unfolding countOk
+returns c = simp (refused ((c .before .is-pointed .ensures)) ((c .if1 .taken)))
+
+returns-2 : tie.Need-returns-2
+unfolding countOk
+returns-2 c = simp (accepted ((c .before .before .is-pointed .ensures)) ((c .before .if1 .left)), lt-leb _ _ ((c .if2 .taken)))
+
+returns-3 : tie.Need-returns-3
+unfolding countOk
+returns-3 c = simp (accepted ((c .before .before .is-pointed .ensures)) ((c .before .if1 .left)), le-leb _ _ ((c .if2 .left)))
+
+pub count-ok-spec : {M : Type 1} → statement M
+count-ok-spec = tie.close (tie.spec is-pointed-requires returns returns-2 returns-3)

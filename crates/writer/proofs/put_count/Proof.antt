@@ -1,0 +1,34 @@
+use mathlib.Core.Path.{refl, sym, _∙_}
+use native.Mathlib.Omega.{arith}
+use borrow.Author.Tests.{not-false}
+use Rattle.writer.proofs.Stores.{laid-none, laid-word}
+use borrow.Author.Needs.{needs}
+use Rattle.writer.proofs.put_count.Statement.{statement}
+use Rattle.writer.proofs.put_count.Tie as tie
+use Rattle.writer.proofs.put_count.Reads as reads
+use Rattle.writer.proofs.put_count.Lts as lts
+use Rattle.elements.proofs.is_pointed.Reads as is-pointed-reads
+use Rattle.words.proofs.put_word.Reads as put-word-reads
+
+is-pointed-requires : tie.Need-is-pointed-requires
+is-pointed-requires c κs = search needs
+
+cast-put-word : tie.Need-cast-put-word
+cast-put-word c = search needs
+
+put-word-requires : tie.Need-put-word-requires
+put-word-requires c κs = search needs
+
+same-length : tie.Need-same-length
+same-length c = search needs
+
+returns : tie.Need-returns
+returns c = let e = sym ((c .before .before .before .before .before .is-pointed .ensures)) ∙ ((c .before .before .before .before .if1 .taken)) in (rw e refl, rw e (((c .before .before .put-word .ensures)) ∙ laid-word ((c .before .before .before .before .before .before .before .args .out .now)) 18 ((c .before .before .before .before .before .before .before .args .n)) (omega (arith, (c .before .before .before .before .before .before .before .pre .0)))))
+
+returns-2 : tie.Need-returns-2
+returns-2 c = let e = sym ((c .before .is-pointed .ensures)) ∙ ((c .if1 .left)) in (rw e refl, rw e (laid-none ((c .before .before .before .args .out .now)) 18))
+
+pub put-count-spec : {M : Type 1} → statement M
+put-count-spec =
+    tie.close
+    (tie.spec is-pointed-requires cast-put-word put-word-requires same-length returns returns-2)

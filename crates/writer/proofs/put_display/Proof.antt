@@ -1,0 +1,72 @@
+use native.Mathlib.Omega.{arith}
+use Rattle.writer.specs.Words.{symbology, displayWords}
+use Rattle.writer.proofs.Bounds.{bounds}
+use Rattle.writer.proofs.Stores.{words-laid}
+use borrow.Author.Needs.{needs}
+use Rattle.writer.proofs.put_display.Statement.{statement}
+use Rattle.writer.proofs.put_display.Tie as tie
+use Rattle.writer.proofs.put_display.Reads as reads
+use Rattle.writer.proofs.put_display.Lts as lts
+use Rattle.words.proofs.put_word.Reads as put-word-reads
+
+mul-symbology : tie.Need-mul-symbology
+mul-symbology c = let b = bounds _ ((c .before .before .pre .1)) in omega arith
+
+add-symbology : tie.Need-add-symbology
+add-symbology c = let b = bounds _ ((c .before .before .before .pre .1)) in omega arith
+
+mul-symbology-2 : tie.Need-mul-symbology-2
+mul-symbology-2 c = let b = bounds _ ((c .before .before .before .before .pre .1)) in omega arith
+
+add-symbology-2 : tie.Need-add-symbology-2
+add-symbology-2 c = let b = bounds _ ((c .before .before .before .before .pre .1)) in omega arith
+
+cast-put-word : tie.Need-cast-put-word
+cast-put-word c = let b = bounds _ ((c .before .before .before .before .before .before .pre .1)) in omega (arith, b .words)
+
+put-word-requires : tie.Need-put-word-requires
+put-word-requires c κs = search needs
+
+cast-put-word-2 : tie.Need-cast-put-word-2
+cast-put-word-2 c = let b = bounds _ ((c .before .before .before .before .before .before .before .before .before .before .before .pre .1)) in omega (arith, b .words)
+
+put-word-requires-2 : tie.Need-put-word-requires-2
+put-word-requires-2 c κs = search needs
+
+cast-put-word-3 : tie.Need-cast-put-word-3
+cast-put-word-3 c = let b = bounds _ ((c .before .before .before .before .before .before .before .before .before .before .before .before .before .before .before .before .pre .1)) in omega (arith, b .words)
+
+put-word-requires-3 : tie.Need-put-word-requires-3
+put-word-requires-3 c κs = search needs
+
+cast-put-word-4 : tie.Need-cast-put-word-4
+cast-put-word-4 c = let b = bounds _ ((c .before .before .before .before .before .before .before .before .before .before .before .before .before .before .before .before .before .before .before .before .pre .1)) in omega (arith, b .style, b .weight, b .colour)
+
+put-word-requires-4 : tie.Need-put-word-requires-4
+put-word-requires-4 c κs = search needs
+
+same-length : tie.Need-same-length
+same-length c = search needs
+
+returns : tie.Need-returns
+unfolding symbology
+returns c = cc ((c .before .before .before .before .before .before .before .before .before .before .before .before .before .before .before .before .put-word .ensures), (c .before .before .before .before .before .before .before .before .before .before .before .put-word2 .ensures), (c .before .before .before .before .before .before .put-word3 .ensures), (c .before .before .put-word4 .ensures), words-laid ((c .before .before .before .before .before .before .before .before .before .before .before .before .before .before .before .before .before .before .before .before .before .before .before .args .out .now)) 14 (displayWords ((c .before .before .before .before .before .before .before .before .before .before .before .before .before .before .before .before .before .before .before .before .before .before .before .args .fields))) (omega (arith, (c .before .before .before .before .before .before .before .before .before .before .before .before .before .before .before .before .before .before .before .before .before .before .before .pre .0))))
+
+pub put-display-spec : {M : Type 1} → statement M
+put-display-spec =
+    tie.close
+    (tie.spec
+    mul-symbology
+    add-symbology
+    mul-symbology-2
+    add-symbology-2
+    cast-put-word
+    put-word-requires
+    cast-put-word-2
+    put-word-requires-2
+    cast-put-word-3
+    put-word-requires-3
+    cast-put-word-4
+    put-word-requires-4
+    same-length
+    returns)

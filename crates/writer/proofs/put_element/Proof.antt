@@ -1,0 +1,59 @@
+use native.Mathlib.Omega.{arith}
+use Rattle.writer.proofs.Bounds.{called-ok, dim-some}
+use Rattle.writer.proofs.Writable.{writable}
+use Rattle.writer.proofs.Laid.{count-room, points-end, element-laid}
+use borrow.Author.Needs.{needs}
+use Rattle.writer.proofs.put_element.Statement.{statement}
+use Rattle.writer.proofs.put_element.Tie as tie
+use Rattle.writer.proofs.put_element.Reads as reads
+use Rattle.writer.proofs.put_element.Lts as lts
+use Rattle.writer.proofs.put_count.Reads as put-count-reads
+use Rattle.writer.proofs.put_header.Reads as put-header-reads
+use Rattle.writer.proofs.put_points.Reads as put-points-reads
+use Rattle.writer.proofs.put_tail.Reads as put-tail-reads
+use Rattle.writer.proofs.size_of.Reads as size-of-reads
+
+size-of-requires : tie.Need-size-of-requires
+size-of-requires c κs = let w = writable ((c .before .before .pre)) in (called-ok (w .call), w .count)
+
+put-header-requires : tie.Need-put-header-requires
+put-header-requires c κs = let w = writable ((c .before .before .before .before .pre)) in let l = count-room w in ((omega (arith, w .fits), (omega (arith, (c .before .size-of .ensures)), omega (arith, (c .before .size-of .ensures), w .size))), (w .call .kind, w .call .fields))
+
+div-put-count : tie.Need-div-put-count
+div-put-count c = omega (arith, dim-some (writable ((c .before .before .before .before .before .before .before .before .pre)) .call))
+
+put-count-requires : tie.Need-put-count-requires
+put-count-requires c κs = let w = writable ((c .before .before .before .before .before .before .before .before .pre)) in (omega (arith, (c .before .before .before .put-header .kept), count-room w .0, w .fits), omega (arith, count-room w .1))
+
+put-points-requires : tie.Need-put-points-requires
+put-points-requires c κs = let w = writable ((c .before .before .before .before .before .before .before .before .before .before .before .before .pre)) in omega (arith, points-end w ((c .before .before .before .put-count .result)) ((c .before .before .before .put-count .ensures .0)), w .fits, (c .before .before .before .before .before .before .before .put-header .kept), (c .before .before .before .put-count .kept))
+
+mul-put-tail : tie.Need-mul-put-tail
+mul-put-tail c = search needs
+
+add-put-tail : tie.Need-add-put-tail
+add-put-tail c = let w = writable ((c .before .before .before .before .before .before .before .before .before .before .before .before .before .before .before .before .pre)) in omega (arith, points-end w ((c .before .before .before .before .before .before .before .put-count .result)) ((c .before .before .before .before .before .before .before .put-count .ensures .0)), w .size)
+
+put-tail-requires : tie.Need-put-tail-requires
+put-tail-requires c κs = let w = writable ((c .before .before .before .before .before .before .before .before .before .before .before .before .before .before .before .before .pre)) in omega (arith, points-end w ((c .before .before .before .before .before .before .before .put-count .result)) ((c .before .before .before .before .before .before .before .put-count .ensures .0)), w .fits, (c .before .before .before .before .before .before .before .before .before .before .before .put-header .kept), (c .before .before .before .before .before .before .before .put-count .kept), (c .before .before .before .put-points .kept))
+
+same-length : tie.Need-same-length
+same-length c = search needs
+
+returns : tie.Need-returns
+returns c = let w = writable ((c .before .before .before .before .before .before .before .before .before .before .before .before .before .before .before .before .before .before .before .pre)) in ((c .before .before .before .before .before .before .before .before .before .before .before .before .before .before .before .before .size-of .ensures), cc ((c .before .before .before .before .before .before .before .before .before .before .before .before .before .before .before .before .size-of .ensures), (c .before .before .before .before .before .before .before .before .before .before .before .before .before .before .put-header .ensures), (c .before .before .before .before .before .before .before .before .before .before .put-count .ensures .1), (c .before .before .before .before .before .before .put-points .ensures), (c .before .before .put-tail .ensures), element-laid w ((c .before .before .before .before .before .before .before .before .before .before .before .before .before .before .before .before .before .before .before .args .out .now)) ((c .before .before .before .before .before .before .before .before .before .before .put-count .result)) ((c .before .before .before .before .before .before .before .before .before .before .put-count .ensures .0)) (w .fits)))
+
+pub put-element-spec : {M : Type 1} → statement M
+put-element-spec =
+    tie.close
+    (tie.spec
+    size-of-requires
+    put-header-requires
+    div-put-count
+    put-count-requires
+    put-points-requires
+    mul-put-tail
+    add-put-tail
+    put-tail-requires
+    same-length
+    returns)

@@ -1,0 +1,58 @@
+use native.Mathlib.Omega.{arith}
+use Rattle.writer.proofs.Bounds.{bounds}
+use Rattle.writer.proofs.Element.{kind-small, first-small}
+use Rattle.writer.proofs.Laid.{header-laid}
+use borrow.Author.Needs.{needs}
+use Rattle.writer.proofs.put_header.Statement.{statement}
+use Rattle.writer.proofs.put_header.Tie as tie
+use Rattle.writer.proofs.put_header.Reads as reads
+use Rattle.writer.proofs.put_header.Lts as lts
+use Rattle.words.proofs.put_word.Reads as put-word-reads
+use Rattle.writer.proofs.first_word.Reads as first-word-reads
+use Rattle.writer.proofs.put_display.Reads as put-display-reads
+use Rattle.writer.proofs.put_range.Reads as put-range-reads
+
+first-word-requires : tie.Need-first-word-requires
+first-word-requires c κs = let b = bounds _ ((c .before .before .pre .1 .1)) in (omega arith, kind-small _ ((c .before .before .pre .1 .0)))
+
+cast-put-word : tie.Need-cast-put-word
+cast-put-word c = let b = bounds _ ((c .before .before .before .pre .1 .1)) in omega (arith, (c .first-word .ensures), first-small ((c .before .before .before .args .fields)) (b .level) (kind-small _ ((c .before .before .before .pre .1 .0))))
+
+put-word-requires : tie.Need-put-word-requires
+put-word-requires c κs = search needs
+
+sub-put-word : tie.Need-sub-put-word
+sub-put-word c = search needs
+
+cast-put-word-2 : tie.Need-cast-put-word-2
+cast-put-word-2 c = search needs
+
+put-word-requires-2 : tie.Need-put-word-requires-2
+put-word-requires-2 c κs = search needs
+
+put-range-requires : tie.Need-put-range-requires
+put-range-requires c κs = search needs
+
+put-display-requires : tie.Need-put-display-requires
+put-display-requires c κs = search needs
+
+same-length : tie.Need-same-length
+same-length c = search needs
+
+returns : tie.Need-returns
+returns c = cc ((c .before .before .before .before .before .before .before .before .before .before .before .before .before .before .before .first-word .ensures), (c .before .before .before .before .before .before .before .before .before .before .before .before .before .before .put-word .ensures), (c .before .before .before .before .before .before .before .before .before .before .put-word2 .ensures), (c .before .before .before .before .before .before .put-range .ensures), (c .before .before .put-display .ensures), header-laid ((c .before .before .before .before .before .before .before .before .before .before .before .before .before .before .before .before .before .before .args .out .now)) ((c .before .before .before .before .before .before .before .before .before .before .before .before .before .before .before .before .before .before .args .fields)) ((c .before .before .before .before .before .before .before .before .before .before .before .before .before .before .before .before .before .before .args .size)) ((c .before .before .before .before .before .before .before .before .before .before .before .before .before .before .before .before .before .before .pre .0 .0)))
+
+pub put-header-spec : {M : Type 1} → statement M
+put-header-spec =
+    tie.close
+    (tie.spec
+    first-word-requires
+    cast-put-word
+    put-word-requires
+    sub-put-word
+    cast-put-word-2
+    put-word-requires-2
+    put-range-requires
+    put-display-requires
+    same-length
+    returns)

@@ -1,0 +1,71 @@
+use native.Mathlib.Omega.{arith}
+use Rattle.writer.specs.Words.{rangeOf}
+use Rattle.writer.proofs.Bounds.{bounds}
+use Rattle.writer.proofs.Stores.{longs-laid}
+use borrow.Author.Needs.{needs}
+use Rattle.writer.proofs.put_range.Statement.{statement}
+use Rattle.writer.proofs.put_range.Tie as tie
+use Rattle.writer.proofs.put_range.Reads as reads
+use Rattle.writer.proofs.put_range.Lts as lts
+use Rattle.words.proofs.put_long.Reads as put-long-reads
+
+cast-put-long : tie.Need-cast-put-long
+cast-put-long c = omega (arith, bounds _ ((c .before .before .before .pre .1)) .range)
+
+put-long-requires : tie.Need-put-long-requires
+put-long-requires c κs = search needs
+
+cast-put-long-2 : tie.Need-cast-put-long-2
+cast-put-long-2 c = omega (arith, bounds _ ((c .before .before .before .before .before .before .before .before .pre .1)) .range)
+
+put-long-requires-2 : tie.Need-put-long-requires-2
+put-long-requires-2 c κs = search needs
+
+cast-put-long-3 : tie.Need-cast-put-long-3
+cast-put-long-3 c = omega (arith, bounds _ ((c .before .before .before .before .before .before .before .before .before .before .before .before .before .pre .1)) .range)
+
+put-long-requires-3 : tie.Need-put-long-requires-3
+put-long-requires-3 c κs = search needs
+
+cast-put-long-4 : tie.Need-cast-put-long-4
+cast-put-long-4 c = omega (arith, bounds _ ((c .before .before .before .before .before .before .before .before .before .before .before .before .before .before .before .before .before .before .pre .1)) .range)
+
+put-long-requires-4 : tie.Need-put-long-requires-4
+put-long-requires-4 c κs = search needs
+
+cast-put-long-5 : tie.Need-cast-put-long-5
+cast-put-long-5 c = omega (arith, bounds _ ((c .before .before .before .before .before .before .before .before .before .before .before .before .before .before .before .before .before .before .before .before .before .before .before .pre .1)) .range)
+
+put-long-requires-5 : tie.Need-put-long-requires-5
+put-long-requires-5 c κs = search needs
+
+cast-put-long-6 : tie.Need-cast-put-long-6
+cast-put-long-6 c = omega (arith, bounds _ ((c .before .before .before .before .before .before .before .before .before .before .before .before .before .before .before .before .before .before .before .before .before .before .before .before .before .before .before .before .pre .1)) .range)
+
+put-long-requires-6 : tie.Need-put-long-requires-6
+put-long-requires-6 c κs = search needs
+
+same-length : tie.Need-same-length
+same-length c = omega (arith, (c .before .before .before .before .before .before .before .before .before .before .before .before .before .before .before .before .before .before .before .before .before .before .before .before .before .before .before .put-long .kept), (c .before .before .before .before .before .before .before .before .before .before .before .before .before .before .before .before .before .before .before .before .before .before .put-long2 .kept), (c .before .before .before .before .before .before .before .before .before .before .before .before .before .before .before .before .before .put-long3 .kept), (c .before .before .before .before .before .before .before .before .before .before .before .before .put-long4 .kept), (c .before .before .before .before .before .before .before .put-long5 .kept), (c .before .before .put-long6 .kept))
+
+returns : tie.Need-returns
+returns c = cc ((c .before .before .before .before .before .before .before .before .before .before .before .before .before .before .before .before .before .before .before .before .before .before .before .before .before .before .before .put-long .ensures), (c .before .before .before .before .before .before .before .before .before .before .before .before .before .before .before .before .before .before .before .before .before .before .put-long2 .ensures), (c .before .before .before .before .before .before .before .before .before .before .before .before .before .before .before .before .before .put-long3 .ensures), (c .before .before .before .before .before .before .before .before .before .before .before .before .put-long4 .ensures), (c .before .before .before .before .before .before .before .put-long5 .ensures), (c .before .before .put-long6 .ensures), longs-laid ((c .before .before .before .before .before .before .before .before .before .before .before .before .before .before .before .before .before .before .before .before .before .before .before .before .before .before .before .before .before .before .before .args .out .now)) 2 (rangeOf ((c .before .before .before .before .before .before .before .before .before .before .before .before .before .before .before .before .before .before .before .before .before .before .before .before .before .before .before .before .before .before .before .args .fields))) (omega (arith, (c .before .before .before .before .before .before .before .before .before .before .before .before .before .before .before .before .before .before .before .before .before .before .before .before .before .before .before .before .before .before .before .pre .0))))
+
+pub put-range-spec : {M : Type 1} → statement M
+put-range-spec =
+    tie.close
+    (tie.spec
+    cast-put-long
+    put-long-requires
+    cast-put-long-2
+    put-long-requires-2
+    cast-put-long-3
+    put-long-requires-3
+    cast-put-long-4
+    put-long-requires-4
+    cast-put-long-5
+    put-long-requires-5
+    cast-put-long-6
+    put-long-requires-6
+    same-length
+    returns)

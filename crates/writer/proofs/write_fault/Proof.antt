@@ -1,0 +1,80 @@
+use mathlib.Core.List.{List, []}
+use mathlib.Core.Path.{refl}
+use native.Mathlib.Omega.{arith}
+use borrow.Author.Tests.{le-leb, lt-leb}
+use Rattle.elements.specs.Rules.{Check}
+use Rattle.elements.proofs.Laws.{refused, accepted, pass, stop, tail, first}
+use Rattle.writer.specs.Writing.{writeChecks, writeFault}
+use Rattle.writer.proofs.Bounds.{called, dim-some}
+use borrow.Author.Needs.{needs}
+use Rattle.writer.proofs.write_fault.Statement.{statement}
+use Rattle.writer.proofs.write_fault.Tie as tie
+use Rattle.writer.proofs.write_fault.Reads as reads
+use Rattle.writer.proofs.write_fault.Lts as lts
+use Rattle.writer.proofs.call_ok.Reads as call-ok-reads
+use Rattle.writer.proofs.count_ok.Reads as count-ok-reads
+use Rattle.writer.proofs.size_of.Reads as size-of-reads
+use Rattle.writer.proofs.tail_ok.Reads as tail-ok-reads
+
+-- the checks of the call
+abbrev of : tie.Start → List Check
+of a = writeChecks (a .args .dim) (a .args .fields) (a .args .points .now) (a .args .tail .now) (a .args .room)
+
+call-ok-requires : tie.Need-call-ok-requires
+call-ok-requires c κs = search needs
+
+returns : tie.Need-returns
+unfolding writeFault
+returns c = first (of ((c .before .before .before))) (stop (refused ((c .before .call-ok .ensures)) ((c .if1 .taken))))
+
+div-count-ok : tie.Need-div-count-ok
+div-count-ok c = omega (arith, dim-some (called (accepted ((c .before .call-ok .ensures)) ((c .if1 .left)))))
+
+count-ok-requires : tie.Need-count-ok-requires
+count-ok-requires c κs = search needs
+
+returns-2 : tie.Need-returns-2
+unfolding writeFault
+returns-2 c = first (of ((c .before .before .before .before .before))) (pass (accepted ((c .before .before .before .call-ok .ensures)) ((c .before .before .if1 .left))) (stop (refused ((c .before .count-ok .ensures)) ((c .if2 .taken)))))
+
+size-of-requires : tie.Need-size-of-requires
+size-of-requires c κs = (accepted ((c .before .before .before .call-ok .ensures)) ((c .before .before .if1 .left)), accepted ((c .before .count-ok .ensures)) ((c .if2 .left)))
+
+returns-3 : tie.Need-returns-3
+unfolding writeFault
+returns-3 c = first (of ((c .before .before .before .before .before .before .before))) (pass (accepted ((c .before .before .before .before .before .call-ok .ensures)) ((c .before .before .before .before .if1 .left))) (pass (accepted ((c .before .before .before .count-ok .ensures)) ((c .before .before .if2 .left))) (stop (rw ((c .before .size-of .ensures)) at (lt-leb _ _ ((c .if3 .taken)))))))
+
+tail-ok-requires : tie.Need-tail-ok-requires
+tail-ok-requires c κs = (accepted ((c .before .before .before .before .before .call-ok .ensures)) ((c .before .before .before .before .if1 .left)), accepted ((c .before .before .before .count-ok .ensures)) ((c .before .before .if2 .left)))
+
+returns-4 : tie.Need-returns-4
+unfolding writeFault
+returns-4 c = first (of ((c .before .before .before .before .before .before .before .before .before))) (pass (accepted ((c .before .before .before .before .before .before .before .call-ok .ensures)) ((c .before .before .before .before .before .before .if1 .left))) (pass (accepted ((c .before .before .before .before .before .count-ok .ensures)) ((c .before .before .before .before .if2 .left))) (pass (rw ((c .before .before .before .size-of .ensures)) at (le-leb _ _ ((c .before .before .if3 .left)))) (stop (refused ((c .before .tail-ok .ensures)) ((c .if4 .taken)))))))
+
+mul-if5 : tie.Need-mul-if5
+mul-if5 c = search needs
+
+returns-5 : tie.Need-returns-5
+unfolding writeFault
+returns-5 c = first (of ((c .before .before .before .before .before .before .before .before .before .before))) (pass (accepted ((c .before .before .before .before .before .before .before .before .call-ok .ensures)) ((c .before .before .before .before .before .before .before .if1 .left))) (pass (accepted ((c .before .before .before .before .before .before .count-ok .ensures)) ((c .before .before .before .before .before .if2 .left))) (pass (rw ((c .before .before .before .before .size-of .ensures)) at (le-leb _ _ ((c .before .before .before .if3 .left)))) (pass (accepted ((c .before .before .tail-ok .ensures)) ((c .before .if4 .left))) (stop (rw ((c .before .before .before .before .size-of .ensures)) at (lt-leb _ _ ((c .if5 .taken)))))))))
+
+returns-6 : tie.Need-returns-6
+unfolding writeFault
+returns-6 c = first (of ((c .before .before .before .before .before .before .before .before .before .before))) (pass (accepted ((c .before .before .before .before .before .before .before .before .call-ok .ensures)) ((c .before .before .before .before .before .before .before .if1 .left))) (pass (accepted ((c .before .before .before .before .before .before .count-ok .ensures)) ((c .before .before .before .before .before .if2 .left))) (pass (rw ((c .before .before .before .before .size-of .ensures)) at (le-leb _ _ ((c .before .before .before .if3 .left)))) (pass (accepted ((c .before .before .tail-ok .ensures)) ((c .before .if4 .left))) (pass (rw ((c .before .before .before .before .size-of .ensures)) at (le-leb _ _ ((c .if5 .left)))) (tail [] refl))))))
+
+pub write-fault-spec : {M : Type 1} → statement M
+write-fault-spec =
+    tie.close
+    (tie.spec
+    call-ok-requires
+    returns
+    div-count-ok
+    count-ok-requires
+    returns-2
+    size-of-requires
+    returns-3
+    tail-ok-requires
+    returns-4
+    mul-if5
+    returns-5
+    returns-6)
