@@ -148,6 +148,22 @@ fn cuts(random: &mut Random, runs: &mut Runs, number: u64) {
     }
 }
 
+/// The most elements, the longest file and the deepest nesting, each in a stack of 256 KiB.
+fn small_stack() {
+    let mut random = Random::new(3);
+    let deep = loop {
+        let v = valid(&mut random, 2);
+        if v.deepest == 8 {
+            break v;
+        }
+    };
+    for v in [large::most_elements(), large::longest_file_of_cells(), large::largest_extent_nested(), deep] {
+        let run = move || library::judge(&v.file, v.dim).map(|j| (j.elements, j.deepest)) == Ok((v.elements, v.deepest));
+        let thread = std::thread::Builder::new().stack_size(256 * 1024).spawn(run).unwrap();
+        assert!(thread.join().unwrap());
+    }
+}
+
 fn main() {
     let mut args = std::env::args().skip(1).map(|a| a.parse::<u64>().expect("numbers: FILES SEED"));
     let wanted = args.next().unwrap_or(200_000);
@@ -164,6 +180,9 @@ fn main() {
     println!("celllist: the listings are the second reader's");
     library::short_answers(&[255, 255]);
     passed += 1;
+    small_stack();
+    passed += 1;
+    println!("a stack of 256 KiB is enough");
     limits(&mut random, &mut runs);
     passed += 1;
     println!("exact limits: equal");
