@@ -1,18 +1,17 @@
--- What callers cite. A buffer after one change is words stored again, so a next change is one of those words: a word
--- put, words put in, words taken out. Then a part of a lent buffer in words, and a record by its parts.
-use Prim.Native.Nat.{ℕ, zero, suc, _+_, _-_, _*_, _/_, _%_, _≤_, _<_, max}
+-- What callers cite. A buffer after one change is words stored again, so a next change is one of those words: words put
+-- in, words taken out. Then a part of a lent buffer in words, and how long a record is.
+use Prim.Native.Nat.{ℕ, zero, suc, _+_, _-_, _*_, _/_, _%_, _≤_, max}
 use mathlib.Core.Path.{_≡_, refl, sym, ap, _∙_}
 use mathlib.Core.List.{List, [], _∷_, _++_}
 use mathlib.Core.Option.{Option, none, some}
 use native.Mathlib.Omega.{arith}
-use lib.ListN.{length, take, drop, set, replicate, length-set, length-append, length-drop, take-append-drop}
-use lib.Seq.{take-at, take-take, drop-drop, drop-append-add, length-take-le, set-append-left}
-use Rattle.words.specs.Words.{words, bytes, Below, putWord}
-use Rattle.words.proofs.Laws.{length-words, length-bytes, bytes-words, words-bytes, words-take, words-drop, put-in}
+use lib.ListN.{length, take, drop, replicate, length-append, length-drop}
+use lib.Seq.{take-at, take-take, drop-drop, drop-append-add, length-take-le}
+use Rattle.words.specs.Words.{words, bytes, Below}
+use Rattle.words.proofs.Laws.{length-words, length-bytes, words-bytes, words-take, words-drop}
 use Rattle.edits.specs.Edits.{splice, cut}
-use Rattle.edits.specs.Records.{Rec, flag, renamed, inserted, removed, six, recordWords}
+use Rattle.edits.specs.Records.{six}
 use Rattle.edits.specs.Calls.{usedWords, stored}
-use Rattle.edits.proofs.Bounds.{below-take}
 use Rattle.buffers.specs.Files.{wordsInserted, wordsRemoved}
 use Rattle.buffers.specs.Journals.{Within}
 use Rattle.buffers.proofs.Fits.{inserted-fits, removed-fits}
@@ -25,14 +24,6 @@ stored-all s used ws e =
     let none : used - 2 * length ws ≡ 0 = omega arith in
     let most : max used (2 * length ws) ≡ used = omega arith in
     rw (none, most) refl
-
--- the used words stored: the buffer as it is
-pub stored-used : (s : List ℕ) (used : ℕ) → Below 256 s → used % 2 ≡ 0 → used ≤ length s → stored s used (usedWords s used) ≡ s
-stored-used s used b even l =
-    let t = length-take-le used s l in
-    let n = length-words (take used s) in
-    stored-all s used (usedWords s used) (omega arith)
-    ∙ rw (bytes-words (take used s) (used / 2) (omega arith) (below-take 256 used s (omega arith) b)) (take-append-drop used s)
 
 -- words stored, then others: the last count
 pub stored-stored : (s : List ℕ) (used : ℕ) (ws vs : List ℕ) → used ≡ 2 * length ws → stored (stored s used ws) used vs ≡ stored s used vs
@@ -72,37 +63,6 @@ removed-stored s used ws p n e b h l =
     removed-fits (stored s used ws) used p n (omega arith) (omega arith) (omega arith)
     ∙ ap (λ v. stored (stored s used ws) used (cut p n v)) (used-stored s used ws e b) ∙ stored-stored s used ws (cut p n ws) e
 
----- the store of a word
-
-bytes-set : (ws : List ℕ) (p w : ℕ) → bytes (set ws p w) ≡ set (set (bytes ws) (2 * p) (w % 256)) (2 * p + 1) (w / 256 % 256)
-bytes-set [] p w = refl
-bytes-set (v ∷ ws) zero w = refl
-bytes-set (v ∷ ws) (suc p) w =
-    let two : 2 * suc p ≡ suc (suc (2 * p)) = omega arith in
-    let three : 2 * suc p + 1 ≡ suc (suc (2 * p + 1)) = omega arith in
-    rw (three, two) (ap (λ l. v % 256 ∷ v / 256 % 256 ∷ l) (bytes-set ws p w))
-
--- after words were stored: the word among them
-pub put-stored : (s : List ℕ) (used : ℕ) (ws : List ℕ) (p w : ℕ) → used ≡ 2 * length ws → p < length ws → putWord (stored s used ws) p w ≡ stored s used (set ws p w)
-put-stored s used ws p w e h =
-    let l = length-bytes ws in
-    let n : length (bytes ws ++ drop used s) ≡ length (bytes ws) + length (drop used s) = length-append (bytes ws) (drop used s) in
-    let m = length-set ws p w in
-    let k : length (set (bytes ws) (2 * p) (w % 256)) ≡ length (bytes ws) = length-set (bytes ws) (2 * p) (w % 256) in
-    ap (λ x. putWord x p w) (stored-all s used ws e)
-    ∙ put-in (bytes ws ++ drop used s) p w (omega arith)
-    ∙ ap (λ x. set x (2 * p + 1) (w / 256 % 256)) (set-append-left (bytes ws) (drop used s) (2 * p) (w % 256) (omega arith))
-    ∙ set-append-left (set (bytes ws) (2 * p) (w % 256)) (drop used s) (2 * p + 1) (w / 256 % 256) (omega arith)
-    ∙ ap (λ x. x ++ drop used s) (sym (bytes-set ws p w))
-    ∙ sym (stored-all s used (set ws p w) (omega arith))
-
--- in a buffer as it is
-pub put-used : (s : List ℕ) (used p w : ℕ) → Below 256 s → used % 2 ≡ 0 → used ≤ length s → p < used / 2 → putWord s p w ≡ stored s used (set (usedWords s used) p w)
-put-used s used p w b even l h =
-    let t = length-take-le used s l in
-    let n = length-words (take used s) in
-    ap (λ x. putWord x p w) (sym (stored-used s used b even l)) ∙ put-stored s used (usedWords s used) p w (omega arith) (omega arith)
-
 ---- a part of a lent buffer, from byte a up to, not including, byte e
 
 take-within : (m k u : ℕ) (s : List ℕ) → k + m ≤ u → take m (drop k (take u s)) ≡ take m (drop k s)
@@ -127,38 +87,7 @@ before-length j n p before W =
     let t = length-take-le (before / 2) (words j) (omega arith) in
     omega arith
 
----- a record's words by its parts: the payload, then the six words
-
-abbrev pub kindOf : Rec → ℕ
-kindOf (flag p) = 1
-kindOf (renamed p a b) = 2
-kindOf (inserted h p) = 3
-kindOf (removed h p x) = 4
-
-abbrev pub headerOf : Rec → Option ℕ
-headerOf (flag p) = none
-headerOf (renamed p a b) = none
-headerOf (inserted h p) = h
-headerOf (removed h p x) = h
-
-abbrev pub atOf : Rec → ℕ
-atOf (flag p) = p
-atOf (renamed p a b) = p
-atOf (inserted h p) = p
-atOf (removed h p x) = p
-
-abbrev pub payloadOf : Rec → List ℕ
-payloadOf (flag p) = []
-payloadOf (renamed p a b) = a ∷ b ∷ []
-payloadOf (inserted h p) = []
-payloadOf (removed h p x) = x
-
-pub record-parts : (r : Rec) → recordWords r ≡ payloadOf r ++ six (kindOf r) (headerOf r) (atOf r) (length (payloadOf r))
-unfolding recordWords
-record-parts (flag p) = refl
-record-parts (renamed p a b) = refl
-record-parts (inserted h p) = refl
-record-parts (removed h p x) = refl
+---- a pushed record
 
 -- how long a pushed record is
 six-length : (k : ℕ) (h : Option ℕ) (p n : ℕ) → length (six k h p n) ≡ 6

@@ -5,17 +5,13 @@ use mathlib.Core.Path.{_≡_, refl, sym, ap, _∙_}
 use mathlib.Core.List.{List, [], _∷_, _++_, append-assoc}
 use native.Mathlib.Omega.{arith}
 use native.Mathlib.Nat.{add-zero}
-use lib.ListN.{length, take, drop, set, getD, replicate, length-append, length-take, length-drop, length-replicate, take-append-drop, List·getD-append}
+use lib.ListN.{length, take, drop, set, getD, replicate, length-append, length-take, length-replicate, take-append-drop, List·getD-append}
 use lib.Seq.{slice, slice-empty, slice-cons, length-slice, take-at, drop-at, set-at, take-suc, drop-cons, length-take-le, getD-append-add, getD-drop, getD-take, drop-drop, drop-append-le, append-snoc}
 use Rattle.buffers.specs.Moves.{over}
 
 pub over-nil : (s : List ℕ) (a : ℕ) → over s a [] ≡ s
 unfolding over
 over-nil s a = rw add-zero (take-append-drop a s)
-
-pub length-over : (s : List ℕ) (a : ℕ) (x : List ℕ) → a + length x ≤ length s → length (over s a x) ≡ length s
-unfolding over
-length-over s a x h = simp (length-append, length-take, length-drop) (omega arith)
 
 -- a store behind what was written, and one before it
 pub over-snoc : (s : List ℕ) (a : ℕ) (x : List ℕ) (i v : ℕ) → i ≡ a + length x → i < length s → set (over s a x) i v ≡ over s a (x ++ (v ∷ []))

@@ -82,9 +82,9 @@ cleared s s₁ s₂ used at n h l e g =
 
 ---- the same in words
 
-pub length-splice : (s : List ℕ) (p : ℕ) (x : List ℕ) → p ≤ length s → length (splice p x s) ≡ length s + length x
+pub length-splice : (s : List ℕ) (p : ℕ) (x : List ℕ) → length (splice p x s) ≡ length s + length x
 unfolding splice
-length-splice s p x h = simp (length-append, length-take, length-drop) (omega arith)
+length-splice s p x = simp (length-append, length-take, length-drop) (omega arith)
 
 pub length-cut : (s : List ℕ) (p n : ℕ) → p + n ≤ length s → length (cut p n s) ≡ length s - n
 unfolding cut
@@ -104,7 +104,7 @@ module _ (s : List ℕ) (used p : ℕ) (b : Below 256 s) (even : used % 2 ≡ 0)
   insert-moves x s₁ s₂ bx ex h r e g =
       let t = length-take-le used s l in
       let y = splice (2 * p) x (take used s) in
-      let ly : length (splice (2 * p) x (take used s)) ≡ used + length x = length-splice (take used s) (2 * p) x (omega arith) ∙ (omega arith) in
+      let ly : length (splice (2 * p) x (take used s)) ≡ used + length x = length-splice (take used s) (2 * p) x ∙ (omega arith) in
       let none : used - (used + length x) ≡ 0 = omega arith in
       let most : max used (used + length x) ≡ used + length x = omega arith in
       let w = words-splice (take used s) p x (length x / 2) (omega arith) (omega arith) in

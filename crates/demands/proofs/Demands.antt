@@ -1,17 +1,21 @@
 -- The promises, in the user's order, each with a one-line proof that cites where it lives.
-use Prim.Native.Nat.{ℕ, _+_, _-_, _≤_}
+use Prim.Native.Nat.{ℕ, _+_, _-_, _/_, _<_, _≤_}
 use mathlib.Core.Path.{_≡_}
-use mathlib.Core.Logic.{_↔_}
+use mathlib.Core.Logic.{_↔_, _≢_}
 use mathlib.Core.Bool.{true}
 use mathlib.Core.List.{List, _++_}
 use lib.ListN.{length, take, drop}
-use Rattle.words.specs.Words.{words}
+use lib.IntN.{ℤ}
+use lib.Signed.{mag}
+use Rattle.words.specs.Words.{words, wordAt, longAt, signed, unsigned, putWord, putLong}
+use Rattle.words.proofs.Laws as stores
+use Rattle.words.proofs.Signed as signs
 use Rattle.names.specs.Names.{packed, unpacked, answerOf, textOf, nameOk}
 use Rattle.names.specs.declared.Packed.the-variants.{Words}
 use Rattle.names.proofs.OneToOne as names
 use Rattle.files.specs.Judge.{callOk, judgeOf}
 use Rattle.files.specs.Spots.{Spot, deepest, spotsOf}
-use Rattle.files.specs.declared.Judged.the-variants.{Accepted}
+use Rattle.files.specs.declared.Judged.the-variants.{Accepted, Refused}
 use Rattle.grammar.specs.Grammar.{File}
 use Rattle.grammar.proofs.Exact as exact
 use Rattle.reading.specs.Views.{viewOf}
@@ -23,6 +27,9 @@ use Rattle.finder.specs.Walk.{walkStart}
 use Rattle.linkages.specs.Linkages.{Linkages, fillFrom, linkagesFill}
 use Rattle.linkages.proofs.Meaning as meaning
 use Rattle.listing.specs.Lines.{headingLine, endLine}
+use Rattle.written.specs.RoundTrip.{ReadsBack, Rewrites}
+use Rattle.written.proofs.InFile as back
+use Rattle.written.proofs.Again as again
 use Rattle.demands.specs.Listing.{listingOf}
 use Rattle.demands.proofs.Listing as listing
 use Rattle.edits.specs.Calls.{Session, Call, step}
@@ -30,6 +37,8 @@ use Rattle.edits.specs.Book.{wasRefused}
 use Rattle.edits.specs.Demand.{EveryRun}
 use Rattle.edits.proofs.Refusals as refusals
 use Rattle.edits.proofs.Every as every
+use Rattle.sessions.specs.Runs.{EveryCall}
+use Rattle.sessions.proofs.Runs as runs
 
 ---- demand 1: each public contract is an equation on every input; of a session, a refusal leaves every byte and length
 
@@ -45,6 +54,10 @@ accepted-exactly = exact.accepted-exactly
 -- every file of the grammar, of an allowed length and dimension, is accepted
 pub every-file : (dim : ℕ) (s : List ℕ) (xs : List Spot) (k : ℕ) → callOk dim s ≡ true → File dim (words s) xs k → judgeOf dim s ≡ Accepted (length xs) (deepest xs) k
 every-file = exact.is-accepted
+
+-- a refused file of an allowed length and dimension is none of the grammar
+pub refused-is-none : (dim : ℕ) (s : List ℕ) (n p : ℕ) → judgeOf dim s ≡ Refused n p → callOk dim s ≡ true → (xs : List Spot) (k : ℕ) → File dim (words s) xs k → ⊥
+refused-is-none = exact.refused-is-none
 
 -- words have one reading at most: the same elements with the same extents, depths and headers, and the same marker
 pub one-reading : (dim : ℕ) (ws : List ℕ) (xs ys : List Spot) (k j : ℕ) → File dim ws xs k → File dim ws ys j → (xs ≡ ys) × (k ≡ j)
@@ -87,6 +100,21 @@ pub never-another : (dim : ℕ) (s t : List ℕ) (place looked : ℕ) → findOf
     named.Stored (words s) place (λ x y. unpacked x y ≡ answerOf t)
 never-another = named.never-another
 
+-- two texts that find the same place are the same text
+pub one-text : (dim : ℕ) (s t u : List ℕ) (place n k : ℕ) → findOf dim s t ≡ found.At place n → findOf dim s u ≡ found.At place k → t ≡ u
+one-text = named.one-text
+
+---- demand 2: what is written reads back the same, and what was accepted rewrites to the same bytes
+
+-- an element written, put at the top of an accepted file or under a cell as its C says, is accepted by judging, and view,
+-- points, linkages and tail give back what was handed in
+pub reads-back : ReadsBack
+reads-back = back.reads-back
+
+-- writing what view, points and tail give of an accepted element of a written kind makes the same bytes
+pub rewrites : Rewrites
+rewrites = again.rewrites
+
 ---- demand 2: texts and stored names match one to one
 
 -- unpacking what a text packs to gives that text, and packing the text of two accepted words gives those words
@@ -96,11 +124,31 @@ text-back = names.unpack-pack
 pub words-back : (a b : ℕ) → nameOk a b ≡ true → packed (textOf a b) ≡ Words a b
 words-back = names.pack-unpack
 
+-- each decides the other
+pub one-to-one : (t : List ℕ) (a b : ℕ) → packed t ≡ Words a b ↔ unpacked a b ≡ answerOf t
+one-to-one = names.one-to-one
+
 -- no two part codes share a stored name
 pub no-two-part-codes : (t u : List ℕ) (a b : ℕ) → packed t ≡ Words a b → packed u ≡ Words a b → t ≡ u
 no-two-part-codes = names.no-two-share
 
----- demand 3, over the definitions of the five calls
+---- demand 3, one theorem over every list of calls
 
+-- over the definitions that the five contracts are equations with
 pub demand-three : EveryRun
 demand-three = every.demand-three
+
+-- of the calls themselves, with any answers and bytes that their contracts allow, each lent what the last one left
+pub every-call : EveryCall
+every-call = runs.every-call
+
+---- below them: a store is read back, and every other word stays
+
+pub word-put : (s : List ℕ) (i w : ℕ) → w < 65536 → i < length s / 2 → wordAt (words (putWord s i w)) i ≡ w
+word-put = stores.word-put
+
+pub word-put-other : (s : List ℕ) (i j w : ℕ) → w < 65536 → j ≢ i → wordAt (words (putWord s i w)) j ≡ wordAt (words s) j
+word-put-other = stores.word-put-other
+
+pub signed-put : (s : List ℕ) (i : ℕ) (z : ℤ) → mag z < 2147483648 → i + 1 < length s / 2 → signed (longAt (words (putLong s i (unsigned z))) i) ≡ z
+signed-put = signs.signed-put

@@ -1,7 +1,7 @@
 -- The loop of celllist, which prints the line of each step of the walk, gives the listing: the walk's places and depths
 -- are those of the elements in file order.
 use Prim.Native.Nat.{ℕ, zero, suc}
-use mathlib.Core.Path.{_≡_, refl, sym, ap, _∙_}
+use mathlib.Core.Path.{_≡_, refl, ap, _∙_}
 use mathlib.Core.List.{List, [], _∷_, _++_, map}
 use lib.ListN.{length}
 use Rattle.words.specs.Words.{words}

@@ -1,6 +1,6 @@
 -- What the program celllist prints for the bytes of its standard input, at most 65,536 of them (document 01, "Worked on
 -- both sides"): one line of a refused file; else the heading, a line for each element in file order, and the end.
-use Prim.Native.Nat.{ℕ, zero, suc}
+use Prim.Native.Nat.{ℕ}
 use mathlib.Core.List.{List, [], _∷_, _++_}
 use Rattle.words.specs.Words.{words}
 use Rattle.files.specs.Judge.{judgeOf}

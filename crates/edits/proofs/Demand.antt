@@ -3,7 +3,7 @@
 use Prim.Native.Nat.{ℕ, _-_, _*_, _/_, _%_, _≤_}
 use mathlib.Core.Path.{_≡_, refl, sym, ap, _∙_, subst}
 use mathlib.Core.Bool.{true, _&&_, _||_, and-eq-true-iff}
-use mathlib.Core.List.{List, [], _∷_, _++_}
+use mathlib.Core.List.{List, []}
 use native.Mathlib.Omega.{arith}
 use lib.ListN.{length, take}
 use lib.Seq.{length-take-le}
@@ -16,8 +16,8 @@ use Rattle.files.specs.declared.Verdict.{Verdict}
 use Rattle.files.specs.declared.Verdict.the-variants.{Good, Fault}
 use Rattle.edits.specs.Edits.{Edit}
 use Rattle.edits.specs.Allowed.{fine, unless}
-use Rattle.edits.specs.Calls.{Session, Call, bufferOk, usedOk, usedWords, endsInMarker, sessionOk, fileFault, openFault, step}
-use Rattle.edits.specs.Book.{Run, ran, noting, applied, undos}
+use Rattle.edits.specs.Calls.{Session, Call, bufferOk, usedOk, usedWords, endsInMarker, sessionOk, fileFault, openFault}
+use Rattle.edits.specs.Book.{Run, ran, applied, undos}
 use Rattle.edits.specs.Demand.{Opened, PiecesBytes, runOf, usedBytes, AcceptedFile, Demand3, EveryRun}
 use Rattle.edits.proofs.Accepted.{Accepted}
 use Rattle.edits.proofs.Bounds.{below-take}
@@ -134,14 +134,3 @@ demand-3 dim hyp s cs O b =
 
 pub every-run : ((dim : ℕ) → Hypotheses dim) → EveryRun
 every-run hyps dim = demand-3 dim (hyps dim)
-
--- calls and then as many undos as edits are listed, as one list: the used bytes are the original's
-ran-append : (dim : ℕ) (r : Run) (cs ds : List Call) → ran dim r (cs ++ ds) ≡ ran dim (ran dim r cs) ds
-ran-append dim r [] ds = refl
-ran-append dim r (c ∷ cs) ds = ran-append dim (noting (r .book) c (step dim (r .session) c)) cs ds
-
-pub undo-all-original : (dim : ℕ) → Hypotheses dim → (s : Session) (cs : List Call) → Opened dim s → PiecesBytes cs
-    → usedBytes (runOf dim s (cs ++ undos (runOf dim s cs .book)) .session) ≡ usedBytes s
-undo-all-original dim hyp s cs O b =
-    ap (λ r. usedBytes (r .session)) (ran-append dim (record { session = s; book = [] }) cs (undos (runOf dim s cs .book)))
-    ∙ demand-3 dim hyp s cs O b .undos-bytes

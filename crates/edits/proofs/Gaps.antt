@@ -40,7 +40,7 @@ pub starts : (s : Option Spot) → isSome s ≡ true → (x : Spot) × (s ≡ so
 starts none e = absurd (false≢true e)
 starts (some x) e = (x, refl)
 
-under-starts : (s : Option Spot) (h : Option ℕ) → under? s h ≡ true → (x : Spot) × (s ≡ some x) × (x .header ≡ h)
+pub under-starts : (s : Option Spot) (h : Option ℕ) → under? s h ≡ true → (x : Spot) × (s ≡ some x) × (x .header ≡ h)
 under-starts none h e = absurd (false≢true e)
 under-starts (some x) h e = (x, refl, same-header (x .header) h e)
 

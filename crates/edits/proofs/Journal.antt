@@ -14,11 +14,6 @@ use Rattle.edits.specs.Records.{Rec, flag, renamed, inserted, removed, l
 use Rattle.edits.proofs.Accepted.{Small, SmallHeader}
 use Rattle.edits.proofs.Bounds.{below-nil, below-cons, below-append}
 
--- an empty journal has no record
-pub no-record : lastRecord [] ≡ none
-unfolding lastRecord
-no-record = refl
-
 -- the last six words of a journal, and the payload before them
 six-read : (pre : List ℕ) (k a b c d n : ℕ) → n ≤ length pre
     → lastRecord (pre ++ (k ∷ a ∷ b ∷ c ∷ d ∷ n ∷ []))

@@ -1,8 +1,8 @@
 -- The calls of a session on its two lent buffers, with their refusals in document 01's order and what every byte and
 -- length then is.
-use Prim.Native.Nat.{ℕ, _+_, _-_, _*_, _/_, _%_, max}
-use mathlib.Core.List.{List, [], _∷_, _++_}
-use mathlib.Core.Bool.{Bool, true, false, cond, not, _&&_, _||_}
+use Prim.Native.Nat.{ℕ, _+_, _-_, _*_, _%_, max}
+use mathlib.Core.List.{List, _++_}
+use mathlib.Core.Bool.{Bool, true, false, not, _&&_, _||_}
 use mathlib.Core.Option.{Option, none, some}
 use lib.ListN.{length, take, drop, replicate}
 use lib.Dec.{eqb, leb}
@@ -11,14 +11,14 @@ use Rattle.names.specs.Names.{packed}
 use Rattle.names.specs.declared.Packed.{Packed}
 use Rattle.names.specs.declared.Packed.the-variants as name
 use Rattle.files.specs.Judge.{topOf}
-use Rattle.files.specs.Spots.{Spot, spotsOf}
+use Rattle.files.specs.Spots.{spotsOf}
 use Rattle.files.specs.declared.Verdict.{Verdict}
 use Rattle.files.specs.declared.Verdict.the-variants.{Good, Fault}
 use Rattle.edits.specs.declared.Edited.{Edited}
 use Rattle.edits.specs.declared.Edited.the-variants.{Made, Refused}
 use Rattle.edits.specs.Edits.{Edit, mark, rename, insert, remove, apply}
 use Rattle.edits.specs.Allowed.{Fault?, fine, fault, orElse, unless, editFault, renameFault}
-use Rattle.edits.specs.Records.{Rec, Last, recordOf, recordWords, lastRecord, reversal, reversible}
+use Rattle.edits.specs.Records.{Last, recordOf, recordWords, lastRecord, reversal, reversible}
 
 -- a session: the file's buffer and used length, the journal's buffer and used length, in bytes
 pub record Session : Type 0 where

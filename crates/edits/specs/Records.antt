@@ -1,8 +1,8 @@
 -- Journal records (document 01, "Editing"): a payload, then six words: kind, header place as a long, place as a long,
 -- payload words.
-use Prim.Native.Nat.{ℕ, _+_, _-_, _*_, _/_, _%_}
+use Prim.Native.Nat.{ℕ, _+_, _-_, _/_, _%_}
 use mathlib.Core.List.{List, [], _∷_, _++_}
-use mathlib.Core.Bool.{Bool, true, false, cond, not, _&&_}
+use mathlib.Core.Bool.{Bool, true, false, cond, _&&_}
 use mathlib.Core.Option.{Option, none, some}
 use lib.ListN.{length, take, drop}
 use lib.Dec.{eqb, leb}
@@ -10,7 +10,7 @@ use Rattle.words.specs.Words.{wordAt, longAt}
 use Rattle.elements.specs.Header.{deletedOf}
 use Rattle.files.specs.Spots.{Spot, spotsOf, spotIn}
 use Rattle.edits.specs.Edits.{Edit, mark, rename, insert, remove, namePlace, extentIn}
-use Rattle.edits.specs.Allowed.{Fault?, fine, fault, orElse, unless, under?, startsAt, editFault}
+use Rattle.edits.specs.Allowed.{Fault?, fine, fault, under?, editFault}
 
 -- kind 1 flag; 2 rename, with the two old words; 3 insert; 4 remove, with the words removed
 pub data Rec : Type 0 where

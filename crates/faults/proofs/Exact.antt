@@ -104,13 +104,13 @@ judged-top dim s e d m q = go (callOk dim s) (topOf dim (words s)) refl q
     go true (Fault n p) t q = let z : _≡_ {A = ℕ} 0 1 = cc in absurd (omega arith)
     go false v t q = let z : _≡_ {A = ℕ} 0 1 = cc in absurd (omega arith)
 
-standing : (dim : ℕ) (s : List ℕ) (m : ℕ) → AcceptedUsed dim s m → Below 256 s → Standing dim (words s)
+pub standing : (dim : ℕ) (s : List ℕ) (m : ℕ) → AcceptedUsed dim s m → Below 256 s → Standing dim (words s)
 standing dim s m u b =
     let t = judged-top dim s (u .elements) (u .deepest) m (u .judged) in
     judged-tree dim (words s) m (u .elements) (u .deepest) (t .0) (words-below s b) (t .1) (u .last)
 
 module _ (dim : ℕ) (s : List ℕ) (m : ℕ) (used : AcceptedUsed dim s m) (below : Below 256 s) where
-  found-is : (p : ℕ) → locateOf (words s) p m ≡ foundBy (spotIn (spotsOf dim (words s)) p)
+  pub found-is : (p : ℕ) → locateOf (words s) p m ≡ foundBy (spotIn (spotsOf dim (words s)) p)
   found-is p = locate-is dim s (used .elements) (used .deepest) m (used .judged) p
 
   at-is : (p : ℕ) → isAt (locateOf (words s) p m) ≡ startsAt (spotsOf dim (words s)) p

@@ -19,7 +19,6 @@ use Rattle.files.specs.declared.Stop.{Stop}
 use Rattle.files.specs.declared.Stop.the-variants.{More, Done, Lacking}
 use Rattle.files.specs.declared.Verdict.{Verdict}
 use Rattle.files.specs.declared.Verdict.the-variants.{Good, Fault}
-use Rattle.files.specs.declared.Judged.{Judged}
 use Rattle.files.specs.declared.Judged.the-variants.{Refused}
 use Rattle.files.specs.Judge.{stopOf, addTo, andThen, enclose, elementBy, listBy, elementFrom, listFrom, elementOf, topOf, callOk, answer, judgeOf}
 use Rattle.files.specs.Cycle.{IsElement, IsList}

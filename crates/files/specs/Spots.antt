@@ -1,12 +1,11 @@
 -- The elements of a file in file order: one list, over which the element count, the views, the finder and the listing
 -- are stated.
-use Prim.Native.Nat.{ℕ, zero, suc, _+_, _*_, max}
+use Prim.Native.Nat.{ℕ, zero, suc, _+_, max}
 use mathlib.Core.List.{List, [], _∷_, _++_}
 use mathlib.Core.Bool.{Bool, true, false}
 use mathlib.Core.Option.{Option, none, some}
 use lib.ListN.{length}
 use lib.Dec.{eqb}
-use Rattle.words.specs.Words.{words}
 use Rattle.elements.specs.Header.{typeAt}
 use Rattle.elements.specs.Rules.{headOf}
 use Rattle.elements.specs.declared.Head.{Head}

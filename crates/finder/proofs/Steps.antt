@@ -1,7 +1,7 @@
 -- One step of the walk: whether an element opens a list, and the depth of what follows it, where one list after another
 -- is closed, from the inmost out, while each ends there.
-use Prim.Native.Nat.{ℕ, zero, suc, _+_, _-_, _≤_, _<_}
-use mathlib.Core.Path.{_≡_, refl, sym, ap, _∙_}
+use Prim.Native.Nat.{ℕ, zero, suc, _-_, _≤_, _<_}
+use mathlib.Core.Path.{_≡_, refl, ap, _∙_}
 use mathlib.Core.Bool.{Bool, true, false, cond, _&&_, and-eq-true-iff}
 use mathlib.Core.List.{List}
 use native.Mathlib.Omega.{arith}
@@ -38,14 +38,6 @@ next-by ws w b l e = rw (lt-ltb (w .place) (length ws) l, e) refl
 pub next-past : (ws : List ℕ) (w : Walk) → length ws ≤ w .place → w ≡ nextOf ws w
 unfolding nextOf
 next-past ws w l = rw (le-ltb (w .place) (length ws) l) refl
-
--- whatever it opens or closes, the walk goes on by size
-pub next-place : (ws : List ℕ) (w : Walk) → w .place < length ws → nextOf ws w .place ≡ w .place + sizeAt ws (w .place)
-next-place ws w l = sym (ap (λ v. v .place) (next-by ws w (opens ws (w .place) (w .depth)) l refl)) ∙ go (opens ws (w .place) (w .depth))
-  where
-    go : (b : Bool) → cond b (stepIn ws w) (stepOver ws w) .place ≡ w .place + sizeAt ws (w .place)
-    go true = refl
-    go false = refl
 
 ---- the depth of what follows
 

@@ -1,7 +1,7 @@
 -- What is of the grammar is accepted: a tree whose words stand at a place, up to where its list ends, is judged good with
 -- the tree's own numbers, and its elements are found in file order, for every fuel that is enough. By the tree.
 use Prim.Native.Nat.{ℕ, zero, suc, _+_, _-_, _*_, _≤_, _<_, max}
-use mathlib.Core.Path.{_≡_, refl, sym, ap, _∙_, subst}
+use mathlib.Core.Path.{_≡_, refl, ap, _∙_, subst}
 use mathlib.Core.Bool.{Bool, true, false}
 use mathlib.Core.List.{List, [], _++_}
 use mathlib.Core.Option.{Option, some}

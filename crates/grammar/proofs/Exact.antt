@@ -70,11 +70,7 @@ file-before {ws = ws} {vs = vs} {k = k} f e =
     sym (take-append-drop (k + 1) vs) ∙ ap (λ l. l ++ drop (k + 1) vs) t ∙ append-assoc (f .body) (65535 ∷ []) (drop (k + 1) vs) in
     record { body = f .body; after = drop (k + 1) vs; direct = f .direct; whole = w; elements = f .elements; end = f .end }
 
--- words after the marker do not matter
-pub after-marker : (dim : ℕ) (body after other : List ℕ) (xs : List Spot) → File dim (body ++ (65535 ∷ after)) xs (length body) → File dim (body ++ (65535 ∷ other)) xs (length body)
-after-marker dim body after other xs f = file-before f (take-append-add body (65535 ∷ other) 1 ∙ sym (take-append-add body (65535 ∷ after) 1))
-
--- nor do they for judging: files with the same words up to the marker's are judged alike
+-- words after the marker do not matter: files with the same words up to the marker's are judged alike
 pub judged-after-marker : (dim : ℕ) (s t : List ℕ) (e d k : ℕ) → judgeOf dim s ≡ Accepted e d k → callOk dim t ≡ true → take (k + 1) (words t) ≡ take (k + 1) (words s) →
     judgeOf dim t ≡ Accepted e d k
 judged-after-marker dim s t e d k q c h =

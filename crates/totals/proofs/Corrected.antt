@@ -1,10 +1,10 @@
 -- A header corrected in a file's bytes is the header corrected in its words, where its total and its count fit a word; of
 -- a header of the grammar they do. Length and bytes are kept.
-use Prim.Native.Nat.{ℕ, zero, suc, _+_, _≤_, _<_, _/_, _%_}
+use Prim.Native.Nat.{ℕ, suc, _+_, _≤_, _<_, _/_, _%_}
 use native.Mathlib.Omega.{arith}
 use mathlib.Core.Path.{_≡_, refl, sym, ap, _∙_}
 use mathlib.Core.Bool.{Bool, true, false, _&&_, and-eq-true-iff}
-use mathlib.Core.List.{List, [], _∷_}
+use mathlib.Core.List.{List}
 use lib.ListN.{length, set, length-append}
 use lib.Seq.{getD-set-other, drop-set-lt}
 use lib.Dec.{ltb}
@@ -23,7 +23,7 @@ use Rattle.totals.specs.Totals.{wordMoved, countPut, headerPut}
 
 ---- bytes
 
-below-put : (s : List ℕ) (i w : ℕ) → Below 256 s → Below 256 (putWord s i w)
+pub below-put : (s : List ℕ) (i w : ℕ) → Below 256 s → Below 256 (putWord s i w)
 unfolding putWord
 below-put s i w b = go (ltb i (length s / 2))
   where

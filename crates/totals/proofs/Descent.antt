@@ -1,5 +1,5 @@
 -- The two descents, one law for each way through them: what is done at a header, and how it goes on under it.
-use Prim.Native.Nat.{ℕ, zero, suc, _+_, _-_, _≤_, _<_, _/_}
+use Prim.Native.Nat.{ℕ, suc, _+_, _-_, _≤_, _<_, _/_}
 use native.Mathlib.Omega.{arith}
 use mathlib.Core.Path.{_≡_, refl, sym, ap, _∙_}
 use mathlib.Core.Logic.{_≢_}
@@ -12,7 +12,6 @@ use Rattle.words.specs.Words.{words}
 use Rattle.elements.specs.Header.{typeAt, extentAt}
 use Rattle.elements.specs.Kinds.{isCounted}
 use Rattle.totals.specs.Totals.{holderOf, wordMoved, headerPut, totalsBy, totalsFrom, totalsPut, roomAt, roomBy, roomFrom, roomOf}
-use Rattle.totals.specs.declared.Holder.{Holder}
 use Rattle.totals.specs.declared.Holder.the-variants.{Nowhere, Itself, Inside}
 use Rattle.totals.specs.declared.Room.{Room}
 use Rattle.totals.specs.declared.Room.the-variants.{Fine, Full}

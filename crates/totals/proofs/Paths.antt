@@ -5,7 +5,7 @@ use native.Mathlib.Omega.{arith}
 use mathlib.Core.Path.{_≡_, sym, ap, _∙_, subst}
 use mathlib.Core.Bool.{true, _&&_, _||_, and-eq-true-iff}
 use mathlib.Core.List.{List, [], _∷_, _++_}
-use mathlib.Core.Option.{Option, none, some}
+use mathlib.Core.Option.{none, some}
 use lib.ListN.{length}
 use Rattle.elements.specs.Header.{typeAt}
 use Rattle.elements.specs.Kinds.{isHeader}
@@ -93,23 +93,22 @@ around-header dim ws p x a e =
     ∙ sym (ap (λ xs. downTo xs (x .header)) (g .spots)
     ∙ ap (λ y. downTo (spots 0 none 0 (plug (g .way) (node (g .own) (g .components) (g .rest)))) (y .header)) (g .spot) ∙ v .down)
 
--- and that is a header of the file
+-- a header that a piece may go in under is one of the file
+pub gap-header : (xs : List Spot) (ws : List ℕ) (h p : ℕ) → gapOk xs ws (some h) p ≡ true → ((y : Spot) × (spotIn xs h ≡ some y)) × (isHeader (typeAt ws h) ≡ true)
+unfolding gapOk
+gap-header xs ws h p e =
+    let a = and-eq-true-iff (startsAt xs h) (isHeader (typeAt ws h) && (under? (spotIn xs p) (some h) || endsAt (spotIn xs h) p)) .0 e in
+    let b = and-eq-true-iff (isHeader (typeAt ws h)) (under? (spotIn xs p) (some h) || endsAt (spotIn xs h) p) .0 (a .1) in
+    (starts (spotIn xs h) (a .0), b .0)
+
+-- and so is an element's direct header
 pub header-stands : (dim : ℕ) (ws : List ℕ) (p h : ℕ) (x : Spot) → Accepted dim ws → spotIn (spotsOf dim ws) p ≡ some x → x .header ≡ some h →
     ((y : Spot) × (spotIn (spotsOf dim ws) h ≡ some y)) × (isHeader (typeAt ws h) ≡ true)
-unfolding gapOk
 header-stands dim ws p h x a e q =
     let g = element-at dim ws p x a e in
     let f = node (g .own) (g .components) (g .rest) in
     let v = above-way dim (g .way) f ws (g .wf) (g .words) in
     let m = v .gap (heads-of dim (g .own) (g .components) (g .rest) 0 0 (g .way) (g .wf)) in
     let n : headerOf none 0 (g .way) ≡ some h = sym (ap (λ y. y .header) (g .spot)) ∙ q in
-    let xs = spots 0 none 0 (plug (g .way) f) in
-    go xs (g .spots) (length (front (g .way))) (ap (λ o. gapOk xs ws o (length (front (g .way)))) (sym n) ∙ m)
-  where
-    go : (xs : List Spot) → spotsOf dim ws ≡ xs → (b : ℕ) → gapOk xs ws (some h) b ≡ true →
-        ((y : Spot) × (spotIn (spotsOf dim ws) h ≡ some y)) × (isHeader (typeAt ws h) ≡ true)
-    go xs z b m =
-        let c = and-eq-true-iff (startsAt xs h) (isHeader (typeAt ws h) && (under? (spotIn xs b) (some h) || endsAt (spotIn xs h) b)) .0 m in
-        let d = and-eq-true-iff (isHeader (typeAt ws h)) (under? (spotIn xs b) (some h) || endsAt (spotIn xs h) b) .0 (c .1) in
-        let y = starts (spotIn xs h) (c .0) in
-        ((y .0, ap (λ l. spotIn l h) z ∙ y .1), d .0)
+    gap-header (spotsOf dim ws) ws h (length (front (g .way))) (ap (λ xs. gapOk xs ws (some h) (length (front (g .way)))) (g .spots)
+    ∙ ap (λ o. gapOk (spots 0 none 0 (plug (g .way) f)) ws o (length (front (g .way)))) (sym n) ∙ m)

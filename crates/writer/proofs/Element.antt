@@ -1,9 +1,9 @@
 -- What is read of an element's words where the call is good: its size, its type, its fixed part. They are the words
 -- before the tail, as many as the fixed part has, and the tail's; so its linkages are those of the tail.
-use Prim.Native.Nat.{ℕ, _+_, _-_, _*_, _/_, _%_, _≤_, _<_}
+use Prim.Native.Nat.{ℕ, _+_, _-_, _/_, _%_, _≤_, _<_}
 use mathlib.Core.Path.{_≡_, refl, sym, ap, _∙_}
-use mathlib.Core.Bool.{Bool, true, false, cond, not, _&&_, _||_}
-use mathlib.Core.List.{List, [], _∷_, _++_, map, append-assoc}
+use mathlib.Core.Bool.{Bool, true, false, not, _&&_, _||_}
+use mathlib.Core.List.{List, _++_, map, append-assoc}
 use native.Mathlib.Omega.{arith}
 use native.Mathlib.Nat.{zero-add}
 use lib.ListN.{length, length-append, length-map}
@@ -15,7 +15,7 @@ use Rattle.words.specs.Words.{words, wordAt, unsigned}
 use Rattle.words.proofs.Laws.{length-words}
 use Rattle.linkages.specs.Linkages.{linkagesFill}
 use Rattle.linkages.proofs.Local.{fill-local}
-use Rattle.elements.specs.Header.{typeOf, typeAt, sizeAt, pointsAt, attributesAt, attributePartAt}
+use Rattle.elements.specs.Header.{typeAt, sizeAt, pointsAt, attributesAt, attributePartAt}
 use Rattle.elements.specs.Kinds.{isLinked, fixedPart}
 use Rattle.elements.specs.Attributes.{attributesOk, linkagesOk}
 use Rattle.writer.specs.Words.{longs, bit, firstWord, headerWords, countWords, pointCount, sizeOf, elementWords}

@@ -1,6 +1,6 @@
 -- Words laid into a buffer: a store lays one word, and what is laid behind words that were laid is laid with them. So
 -- stores at rising places lay the list of their words.
-use Prim.Native.Nat.{ℕ, suc, _+_, _*_, _/_, _%_, _≤_, _<_}
+use Prim.Native.Nat.{ℕ, _+_, _*_, _/_, _%_, _≤_, _<_}
 use mathlib.Core.Path.{_≡_, refl, sym, ap, _∙_}
 use mathlib.Core.List.{List, [], _∷_, _++_, map, append-assoc}
 use native.Mathlib.Omega.{arith}
@@ -8,7 +8,7 @@ use native.Mathlib.Nat.{add-zero}
 use native.Mathlib.Numerals.{add-one}
 use lib.ListN.{length, getD, take, drop, set, length-append, length-drop, length-map, take-append-drop, List·getD-map}
 use lib.IntN.{ℤ, pos}
-use lib.Seq.{sets, sets-eq, length-take-le, take-at, drop-append-add, drop-drop, take-suc}
+use lib.Seq.{sets-eq, length-take-le, take-at, drop-append-add, drop-drop, take-suc}
 use Rattle.words.specs.Words.{bytes, unsigned, putWord, putLong}
 use Rattle.words.proofs.Laws.{put-in, length-put, length-put-long, length-bytes}
 use Rattle.writer.specs.Words.{longs}

@@ -5,12 +5,6 @@ use Rattle.writer.proofs.Bounds.{and-no, and-on}
 use borrow.Author.Needs.{needs}
 use Rattle.writer.proofs.call_ok.Statement.{statement}
 use Rattle.writer.proofs.call_ok.Tie as tie
-use Rattle.writer.proofs.call_ok.Reads as reads
-use Rattle.writer.proofs.call_ok.Lts as lts
-use Rattle.writer.proofs.dimension_ok.Reads as dimension-ok-reads
-use Rattle.writer.proofs.fields_ok.Reads as fields-ok-reads
-use Rattle.writer.proofs.kind_ok.Reads as kind-ok-reads
-use Rattle.writer.proofs.points_fit.Reads as points-fit-reads
 
 dimension-ok-requires : tie.Need-dimension-ok-requires
 dimension-ok-requires c κs = search needs

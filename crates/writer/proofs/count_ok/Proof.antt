@@ -4,9 +4,6 @@ use Rattle.writer.specs.Writing.{countOk}
 use borrow.Author.Needs.{needs}
 use Rattle.writer.proofs.count_ok.Statement.{statement}
 use Rattle.writer.proofs.count_ok.Tie as tie
-use Rattle.writer.proofs.count_ok.Reads as reads
-use Rattle.writer.proofs.count_ok.Lts as lts
-use Rattle.elements.proofs.is_pointed.Reads as is-pointed-reads
 
 is-pointed-requires : tie.Need-is-pointed-requires
 is-pointed-requires c κs = search needs

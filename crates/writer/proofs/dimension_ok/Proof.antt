@@ -5,8 +5,6 @@ use Rattle.elements.specs.Kinds.{oneOf}
 use Rattle.elements.proofs.Types.{in-arm, none-in}
 use Rattle.writer.proofs.dimension_ok.Statement.{statement}
 use Rattle.writer.proofs.dimension_ok.Tie as tie
-use Rattle.writer.proofs.dimension_ok.Reads as reads
-use Rattle.writer.proofs.dimension_ok.Lts as lts
 
 returns : tie.Need-returns
 returns c = in-arm (λ t. true ≡ oneOf (2 ∷ 3 ∷ []) t) (2 ∷ []) _ (refl, tt) ((c .match .keys1))

@@ -5,11 +5,6 @@ use Rattle.writer.proofs.Bounds.{and-no, and-on}
 use borrow.Author.Needs.{needs}
 use Rattle.writer.proofs.fields_ok.Statement.{statement}
 use Rattle.writer.proofs.fields_ok.Tie as tie
-use Rattle.writer.proofs.fields_ok.Reads as reads
-use Rattle.writer.proofs.fields_ok.Lts as lts
-use Rattle.writer.proofs.range_ok.Reads as range-ok-reads
-use Rattle.writer.proofs.symbology_ok.Reads as symbology-ok-reads
-use Rattle.writer.proofs.words_ok.Reads as words-ok-reads
 
 returns : tie.Need-returns
 unfolding fieldsOk

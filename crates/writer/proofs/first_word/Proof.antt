@@ -4,9 +4,6 @@ use Rattle.writer.proofs.Element.{bit-small}
 use borrow.Author.Needs.{needs}
 use Rattle.writer.proofs.first_word.Statement.{statement}
 use Rattle.writer.proofs.first_word.Tie as tie
-use Rattle.writer.proofs.first_word.Reads as reads
-use Rattle.writer.proofs.first_word.Lts as lts
-use Rattle.writer.proofs.bit_of.Reads as bit-of-reads
 
 bit-of-requires : tie.Need-bit-of-requires
 bit-of-requires c κs = search needs

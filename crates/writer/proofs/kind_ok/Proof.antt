@@ -5,8 +5,6 @@ use Rattle.elements.proofs.Types.{in-arm, none-in}
 use Rattle.writer.specs.Writing.{isWritten}
 use Rattle.writer.proofs.kind_ok.Statement.{statement}
 use Rattle.writer.proofs.kind_ok.Tie as tie
-use Rattle.writer.proofs.kind_ok.Reads as reads
-use Rattle.writer.proofs.kind_ok.Lts as lts
 
 returns : tie.Need-returns
 returns c = in-arm (λ t. true ≡ isWritten t) (3 ∷ 6 ∷ 11 ∷ []) _ (refl, (refl, (refl, tt))) ((c .match .keys1))

@@ -5,8 +5,6 @@ use Rattle.writer.specs.Writing.{pointsFit}
 use Rattle.writer.proofs.Bounds.{by-dims}
 use Rattle.writer.proofs.points_fit.Statement.{statement}
 use Rattle.writer.proofs.points_fit.Tie as tie
-use Rattle.writer.proofs.points_fit.Reads as reads
-use Rattle.writer.proofs.points_fit.Lts as lts
 
 mul-result : tie.Need-mul-result
 mul-result c = let h = by-dims (λ d. d ≤ 3) ((c .before .args .dim)) ((c .before .pre)) (omega arith) (omega arith) in omega arith

@@ -1,14 +1,9 @@
 use mathlib.Core.Path.{refl, sym, _∙_}
 use native.Mathlib.Omega.{arith}
-use borrow.Author.Tests.{not-false}
 use Rattle.writer.proofs.Stores.{laid-none, laid-word}
 use borrow.Author.Needs.{needs}
 use Rattle.writer.proofs.put_count.Statement.{statement}
 use Rattle.writer.proofs.put_count.Tie as tie
-use Rattle.writer.proofs.put_count.Reads as reads
-use Rattle.writer.proofs.put_count.Lts as lts
-use Rattle.elements.proofs.is_pointed.Reads as is-pointed-reads
-use Rattle.words.proofs.put_word.Reads as put-word-reads
 
 is-pointed-requires : tie.Need-is-pointed-requires
 is-pointed-requires c κs = search needs

@@ -5,9 +5,6 @@ use Rattle.writer.proofs.Stores.{words-laid}
 use borrow.Author.Needs.{needs}
 use Rattle.writer.proofs.put_display.Statement.{statement}
 use Rattle.writer.proofs.put_display.Tie as tie
-use Rattle.writer.proofs.put_display.Reads as reads
-use Rattle.writer.proofs.put_display.Lts as lts
-use Rattle.words.proofs.put_word.Reads as put-word-reads
 
 mul-symbology : tie.Need-mul-symbology
 mul-symbology c = let b = bounds _ ((c .before .before .pre .1)) in omega arith

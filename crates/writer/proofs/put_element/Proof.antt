@@ -5,13 +5,6 @@ use Rattle.writer.proofs.Laid.{count-room, points-end, element-laid}
 use borrow.Author.Needs.{needs}
 use Rattle.writer.proofs.put_element.Statement.{statement}
 use Rattle.writer.proofs.put_element.Tie as tie
-use Rattle.writer.proofs.put_element.Reads as reads
-use Rattle.writer.proofs.put_element.Lts as lts
-use Rattle.writer.proofs.put_count.Reads as put-count-reads
-use Rattle.writer.proofs.put_header.Reads as put-header-reads
-use Rattle.writer.proofs.put_points.Reads as put-points-reads
-use Rattle.writer.proofs.put_tail.Reads as put-tail-reads
-use Rattle.writer.proofs.size_of.Reads as size-of-reads
 
 size-of-requires : tie.Need-size-of-requires
 size-of-requires c κs = let w = writable ((c .before .before .pre)) in (called-ok (w .call), w .count)

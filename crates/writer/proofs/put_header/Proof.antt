@@ -5,12 +5,6 @@ use Rattle.writer.proofs.Laid.{header-laid}
 use borrow.Author.Needs.{needs}
 use Rattle.writer.proofs.put_header.Statement.{statement}
 use Rattle.writer.proofs.put_header.Tie as tie
-use Rattle.writer.proofs.put_header.Reads as reads
-use Rattle.writer.proofs.put_header.Lts as lts
-use Rattle.words.proofs.put_word.Reads as put-word-reads
-use Rattle.writer.proofs.first_word.Reads as first-word-reads
-use Rattle.writer.proofs.put_display.Reads as put-display-reads
-use Rattle.writer.proofs.put_range.Reads as put-range-reads
 
 first-word-requires : tie.Need-first-word-requires
 first-word-requires c κs = let b = bounds _ ((c .before .before .pre .1 .1)) in (omega arith, kind-small _ ((c .before .before .pre .1 .0)))

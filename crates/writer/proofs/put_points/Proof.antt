@@ -2,7 +2,7 @@ use lib.IntN.{pos}
 use mir.Syntax.{w32}
 use mir.ValLaws.{toZ-ofZ}
 use Prim.Native.Nat.{_+_, _-_, _*_, _≤_}
-use mathlib.Core.Path.{_≡_, refl, sym, ap, _∙_}
+use mathlib.Core.Path.{_≡_, refl, ap, _∙_}
 use mathlib.Core.List.{map}
 use native.Mathlib.Omega.{arith}
 use lib.ListN.{length, getD, take, length-map}
@@ -14,9 +14,6 @@ use Rattle.writer.specs.Writing.{laid}
 use Rattle.writer.proofs.Stores.{laid-none, next-point}
 use Rattle.writer.proofs.put_points.Statement.{statement}
 use Rattle.writer.proofs.put_points.Tie as tie
-use Rattle.writer.proofs.put_points.Reads as reads
-use Rattle.writer.proofs.put_points.Lts as lts
-use Rattle.words.proofs.put_signed_long.Reads as put-signed-long-reads
 
 abbrev Inv-loop : tie.InvT-loop
 Inv-loop out₀ at points k₀ out k = (k ≤ length points) × ((length out ≡ length out₀) × (out ≡ laid out₀ at (longs (take k (map unsigned points)))))

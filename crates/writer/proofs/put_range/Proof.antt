@@ -5,9 +5,6 @@ use Rattle.writer.proofs.Stores.{longs-laid}
 use borrow.Author.Needs.{needs}
 use Rattle.writer.proofs.put_range.Statement.{statement}
 use Rattle.writer.proofs.put_range.Tie as tie
-use Rattle.writer.proofs.put_range.Reads as reads
-use Rattle.writer.proofs.put_range.Lts as lts
-use Rattle.words.proofs.put_long.Reads as put-long-reads
 
 cast-put-long : tie.Need-cast-put-long
 cast-put-long c = omega (arith, bounds _ ((c .before .before .before .pre .1)) .range)

@@ -1,5 +1,5 @@
-use Prim.Native.Nat.{_+_, _-_, _/_, _≤_}
-use mathlib.Core.Path.{_≡_, refl, sym, ap, _∙_}
+use Prim.Native.Nat.{_+_, _-_, _≤_}
+use mathlib.Core.Path.{_≡_, refl, ap, _∙_}
 use native.Mathlib.Omega.{arith}
 use lib.ListN.{length, take}
 use lib.Seq.{take-all}
@@ -10,10 +10,6 @@ use Rattle.writer.specs.Writing.{laid}
 use Rattle.writer.proofs.Stores.{laid-none, next-word}
 use Rattle.writer.proofs.put_tail.Statement.{statement}
 use Rattle.writer.proofs.put_tail.Tie as tie
-use Rattle.writer.proofs.put_tail.Reads as reads
-use Rattle.writer.proofs.put_tail.Lts as lts
-use Rattle.words.proofs.put_word.Reads as put-word-reads
-use Rattle.words.proofs.word.Reads as word-reads
 
 abbrev Inv-loop : tie.InvT-loop
 Inv-loop out₀ at tail n k₀ out k = (k ≤ n) × ((length out ≡ length out₀) × (out ≡ laid out₀ at (take k (words tail))))

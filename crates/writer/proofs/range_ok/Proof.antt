@@ -3,8 +3,6 @@ use borrow.Author.Tests.{le-leb, lt-leb}
 use Rattle.writer.proofs.Bounds.{and-no, and-on}
 use Rattle.writer.proofs.range_ok.Statement.{statement}
 use Rattle.writer.proofs.range_ok.Tie as tie
-use Rattle.writer.proofs.range_ok.Reads as reads
-use Rattle.writer.proofs.range_ok.Lts as lts
 
 returns : tie.Need-returns
 returns c = and-no _ (lt-leb _ _ ((c .if1 .taken)))

@@ -4,9 +4,6 @@ use Rattle.writer.proofs.Bounds.{called, dim-some, count-small, fixed-m
 use borrow.Author.Needs.{needs}
 use Rattle.writer.proofs.size_of.Statement.{statement}
 use Rattle.writer.proofs.size_of.Tie as tie
-use Rattle.writer.proofs.size_of.Reads as reads
-use Rattle.writer.proofs.size_of.Lts as lts
-use Rattle.elements.proofs.fixed_part.Reads as fixed-part-reads
 
 div-n : tie.Need-div-n
 div-n c = omega (arith, dim-some (called ((c .before .pre .0))))

@@ -5,10 +5,6 @@ use mathlib.Core.Path.{_∙_}
 use borrow.Author.Needs.{needs}
 use Rattle.writer.proofs.tail_ok.Statement.{statement}
 use Rattle.writer.proofs.tail_ok.Tie as tie
-use Rattle.writer.proofs.tail_ok.Reads as reads
-use Rattle.writer.proofs.tail_ok.Lts as lts
-use Rattle.elements.proofs.fixed_part.Reads as fixed-part-reads
-use Rattle.linkages.proofs.linkages_fill.Reads as linkages-fill-reads
 
 returns : tie.Need-returns
 returns c = tail-free _ _ _ _ (called ((c .before .before .before .pre .0))) ((c .if1 .taken))

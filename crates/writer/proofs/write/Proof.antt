@@ -3,10 +3,6 @@ use Rattle.writer.proofs.Writable.{writes-refused, writes-made}
 use borrow.Author.Needs.{needs}
 use Rattle.writer.proofs.write.Statement.{statement}
 use Rattle.writer.proofs.write.Tie as tie
-use Rattle.writer.proofs.write.Reads as reads
-use Rattle.writer.proofs.write.Lts as lts
-use Rattle.writer.proofs.put_element.Reads as put-element-reads
-use Rattle.writer.proofs.write_fault.Reads as write-fault-reads
 
 write-fault-requires : tie.Need-write-fault-requires
 write-fault-requires c κs = search needs

@@ -9,12 +9,6 @@ use Rattle.writer.proofs.Bounds.{called, dim-some}
 use borrow.Author.Needs.{needs}
 use Rattle.writer.proofs.write_fault.Statement.{statement}
 use Rattle.writer.proofs.write_fault.Tie as tie
-use Rattle.writer.proofs.write_fault.Reads as reads
-use Rattle.writer.proofs.write_fault.Lts as lts
-use Rattle.writer.proofs.call_ok.Reads as call-ok-reads
-use Rattle.writer.proofs.count_ok.Reads as count-ok-reads
-use Rattle.writer.proofs.size_of.Reads as size-of-reads
-use Rattle.writer.proofs.tail_ok.Reads as tail-ok-reads
 
 -- the checks of the call
 abbrev of : tie.Start → List Check

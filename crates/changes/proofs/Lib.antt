@@ -1,0 +1,5 @@
+pub mod Steps
+pub mod Lengths
+pub mod Kept
+pub mod Found
+pub mod Made

@@ -1,0 +1,85 @@
+-- What an open session has: its lengths are right, and its used file is accepted.
+use Prim.Native.Nat.{ℕ, _-_, _≤_}
+use mathlib.Core.Path.{_≡_, refl, sym, _∙_, subst}
+use mathlib.Core.Bool.{true, _&&_, _||_, and-eq-true-iff}
+use mathlib.Core.List.{List}
+use native.Mathlib.Omega.{arith}
+use lib.ListN.{length, take}
+use lib.Dec.{eqb}
+use Rattle.edits.specs.Allowed.{Fault?, fine, fault, unless}
+use Rattle.edits.specs.Calls.{undo-call, usedWords, endsInMarker, sessionOk, fileFault, openFault}
+use Rattle.edits.proofs.Faults.{orElse-fine, unless-fine}
+use Rattle.files.specs.Judge.{topOf}
+use Rattle.faults.specs.declared.Opened.{Opened}
+use Rattle.faults.specs.declared.Opened.the-variants.{Ready, Refused}
+use Rattle.faults.specs.Opening.{openedBy, lengthsOk, sessionOf, OpenedAs}
+use Rattle.faults.proofs.Opening.{AcceptedUsed, Lengths, lengths-true, open-accepted}
+use Rattle.sessions.specs.Sessions.{Open, OpenFile}
+
+module _ (dim : ℕ) (file : List ℕ) (used : ℕ) (journal : List ℕ) (jused : ℕ) where
+  abbrev fault-of : Fault?
+  fault-of = openFault dim (sessionOf file used journal jused) undo-call
+
+  -- what opening answered
+  module _ (r : Opened) (is : OpenedAs dim file used (length journal) jused r) where
+    pub opened-ready : (m : ℕ) → r ≡ Ready m → Open dim file used journal jused m
+    opened-ready m h = go fault-of refl (sym h ∙ is journal refl)
+      where
+        go : (f : Fault?) → openFault dim (sessionOf file used journal jused) undo-call ≡ f → Ready m ≡ openedBy f (length (usedWords file used) - 1) → Open dim file used journal jused m
+        go fine e q = record { ready = e; marker-is = (let z : m ≡ length (usedWords file used) - 1 = cc in z) }
+        go (fault n p) e q = let z : _≡_ {A = ℕ} 0 1 = cc in absurd (omega arith)
+
+    pub opened-refused : (n p : ℕ) → r ≡ Refused n p → fault-of ≡ fault n p
+    opened-refused n p h = go fault-of refl (sym h ∙ is journal refl)
+      where
+        go : (f : Fault?) → openFault dim (sessionOf file used journal jused) undo-call ≡ f → Refused n p ≡ openedBy f (length (usedWords file used) - 1) →
+            openFault dim (sessionOf file used journal jused) undo-call ≡ fault n p
+        go fine e q = let z : _≡_ {A = ℕ} 0 1 = cc in absurd (omega arith)
+        go (fault n′ p′) e q = e ∙ (let z : fault n′ p′ ≡ fault n p = cc in z)
+
+  module _ (ready : openFault dim (sessionOf file used journal jused) undo-call ≡ fine) where
+    lengths : (lengthsOk (length file) used ≡ true) × (lengthsOk (length journal) jused ≡ true)
+    unfolding openFault sessionOk
+    lengths =
+        let f = orElse-fine (unless (sessionOk dim (sessionOf file used journal jused) && true) 1) (fileFault (topOf dim (usedWords file used)) (length (usedWords file used) - 1)) ready in
+        let t = and-eq-true-iff (sessionOk dim (sessionOf file used journal jused)) true .0 (unless-fine (sessionOk dim (sessionOf file used journal jused) && true) 1 (f .0)) in
+        let b = and-eq-true-iff (eqb dim 2 || eqb dim 3) _ .0 (t .0) in
+        let c = and-eq-true-iff (lengthsOk (length file) used) _ .0 (b .1) in
+        let d = and-eq-true-iff (lengthsOk (length journal) jused) (endsInMarker (usedWords file used)) .0 (c .1) in
+        (c .0, d .0)
+
+    pub file-lengths : Lengths (length file) used
+    file-lengths = lengths-true (length file) used (lengths .0)
+
+    pub journal-lengths : Lengths (length journal) jused
+    journal-lengths = lengths-true (length journal) jused (lengths .1)
+
+  -- its file
+  pub open-file : (m : ℕ) → Open dim file used journal jused m → OpenFile dim file used m
+  open-file m o =
+      let a = open-accepted dim file used journal jused (o .ready) in
+      let l = file-lengths (o .ready) in
+      subst (OpenFile dim file used) (sym (o .marker-is))
+      (record { elements = a .elements; deepest = a .deepest; judged = a .judged; last = a .last; even = l .used-even; within = l .within })
+
+-- its file's used part, as faults' laws have it
+pub accepted-used : (dim : ℕ) (file : List ℕ) (used m : ℕ) → OpenFile dim file used m → AcceptedUsed dim (take used file) m
+accepted-used dim file used m o = record { elements = o .elements; deepest = o .deepest; judged = o .judged; last = o .last }
+
+---- its lengths
+
+module _ {dim : ℕ} {file : List ℕ} {used : ℕ} {journal : List ℕ} {jused m : ℕ} (o : Open dim file used journal jused m) where
+  pub used-within : used ≤ length file
+  used-within = file-lengths dim file used journal jused (o .ready) .within
+
+  pub jused-within : jused ≤ length journal
+  jused-within = journal-lengths dim file used journal jused (o .ready) .within
+
+  pub used-most : used ≤ 1048576
+  used-most =
+      let l = used-within in
+      let m = file-lengths dim file used journal jused (o .ready) .small in
+      omega arith
+
+  pub journal-most : length journal ≤ 1048576
+  journal-most = journal-lengths dim file used journal jused (o .ready) .small

@@ -1,0 +1,73 @@
+-- What the contracts of the five calls allow is what their steps say, so demand 3 holds of the calls.
+use Prim.Native.Nat.{ℕ, _*_}
+use mathlib.Core.Path.{_≡_, refl, sym, _∙_, subst}
+use mathlib.Core.Bool.{not}
+use mathlib.Core.List.{List, [], _∷_}
+use mathlib.Core.Option.{none, some}
+use lib.ListN.{length}
+use lib.Dec.{eqb, leb}
+use Rattle.words.specs.Words.{words}
+use Rattle.names.specs.Names.{packed}
+use Rattle.files.specs.Spots.{spotsOf}
+use Rattle.edits.specs.declared.Edited.{Edited}
+use Rattle.edits.specs.Edits.{Edit, mark, insert, remove, apply}
+use Rattle.edits.specs.Allowed.{Fault?, fine, fault, orElse, unless, renameFault, editFault}
+use Rattle.edits.specs.Records.{Last, recordOf, recordWords, lastRecord, reversal, reversible}
+use Rattle.edits.specs.Calls.{Session, Call, mark-call, rename-call, insert-call, remove-call, undo-call, usedWords, openFault, Result, resultBy, editMade, editWithin, edited, undoMade, undoBy, undone, nameOfText, textOk, callOn, step}
+use Rattle.edits.specs.Book.{Run, ran}
+use Rattle.edits.proofs.Every.{demand-three}
+use Rattle.edits.specs.Demand.{Demand3}
+use Rattle.sessions.specs.Sessions.{Stepped}
+use Rattle.sessions.specs.Runs as runs
+use Rattle.sessions.specs.Runs.{leaves, Called, EveryCall}
+
+---- the session after a step is the one that its answer and its bytes leave
+
+abbrev Left : Session → Result → Type 0
+Left s q = leaves (q .answer) s (q .after .file) (q .after .journal) ≡ q .after
+
+left-by : (f : Fault?) (s : Session) (q : Result) → Left s q → Left s (resultBy f s q)
+left-by fine s q h = h
+left-by (fault n p) s q h = refl
+
+left-edit : (dim : ℕ) (s : Session) (e : Edit) (own : Fault?) → Left s (edited dim s e own)
+unfolding edited editMade
+left-edit dim s e own =
+    let ws = usedWords (s .file) (s .used) in
+    let r = recordWords (recordOf dim (usedWords (s .file) (s .used)) e) in
+    left-by (orElse own (editWithin s (apply dim ws e) r)) s (editMade s (apply dim ws e) r) refl
+
+left-undo : (dim : ℕ) (s : Session) (ws : List ℕ) (l : Last) → Left s (undoBy dim s ws l)
+unfolding undoMade
+left-undo dim s ws none = refl
+left-undo dim s ws (some l) =
+    left-by (orElse (unless (reversible dim ws (l .0)) 19) (unless (leb (2 * length (apply dim ws (reversal ws (l .0)))) (length (s .file))) 15)) s
+    (undoMade s (apply dim ws (reversal ws (l .0))) (2 * length (l .1))) refl
+
+left-call : (dim : ℕ) (s : Session) (ws : List ℕ) (c : Call) → Left s (callOn dim s ws c)
+unfolding undone
+left-call dim s ws (mark-call p deleted) = left-edit dim s (mark p deleted) (editFault dim ws (mark p deleted))
+left-call dim s ws (rename-call p text) = left-edit dim s (nameOfText (packed text) p) (renameFault (spotsOf dim ws) ws p (textOk (packed text)))
+left-call dim s ws (insert-call h p piece) = left-edit dim s (insert h p (words piece)) (editFault dim ws (insert h p (words piece)))
+left-call dim s ws (remove-call p) = left-edit dim s (remove p) (editFault dim ws (remove p))
+left-call dim s ws undo-call =
+    left-by (unless (not (eqb (s .jused) 0)) 17) s (undoBy dim s (usedWords (s .file) (s .used)) (lastRecord (usedWords (s .journal) (s .jused)))) (left-undo dim s (usedWords (s .file) (s .used)) (lastRecord (usedWords (s .journal) (s .jused))))
+
+left-step : (dim : ℕ) (s : Session) (c : Call) → Left s (step dim s c)
+unfolding step
+left-step dim s c = left-by (openFault dim s c) s (callOn dim s (usedWords (s .file) (s .used)) c) (left-call dim s (usedWords (s .file) (s .used)) c)
+
+---- the calls of a list are its steps
+
+step-left : (dim : ℕ) (s : Session) (c : Call) (a : Edited) (file journal : List ℕ) → Stepped dim s c a file journal → leaves a s file journal ≡ step dim s c .after
+step-left dim s c a file journal t = rw (t .answer, t .file-is, t .journal-is) (left-step dim s c)
+
+called-ran : (dim : ℕ) (r last : Run) (cs : List Call) → Called dim r cs last → last ≡ ran dim r cs
+called-ran dim r last [] (runs.none _) = refl
+called-ran dim r last (c ∷ cs) (runs.next _ _ _ a file journal _ t rest) =
+    called-ran dim _ last cs rest
+    ∙ rw (step-left dim (r .session) c a file journal t, t .answer) refl
+
+pub every-call : EveryCall
+every-call dim s cs last opened pieces called =
+    subst (Demand3 dim s) (sym (called-ran dim (record { session = s; book = [] }) last cs called)) (demand-three dim s cs opened pieces)

@@ -1,0 +1,97 @@
+use native.Mathlib.Omega.{arith}
+use Rattle.words.proofs.Laws.{lent-below}
+use Rattle.sessions.proofs.Opened.{used-within, jused-within, used-most}
+use Rattle.sessions.proofs.Steps.{answered}
+use Rattle.sessions.proofs.Calls.{remove-inside, remove-full, remove-done}
+use borrow.Author.Needs.{needs}
+use Rattle.sessions.proofs.remove_found.Statement.{statement}
+use Rattle.sessions.proofs.remove_found.Tie as tie
+
+sub-n : tie.Need-sub-n
+sub-n c = let i = remove-inside _ _ _ _ _ _ ((c .before .before .pre .0)) (lent-below ((c .before .before .args .file .now)) ((c .before .slice-known .given))) _ _ _ _ ((c .before .before .pre .1 .located)) .0 in omega arith
+
+mul-n : tie.Need-mul-n
+mul-n c = omega (arith, remove-inside _ _ _ _ _ _ ((c .before .before .pre .0)) (lent-below ((c .before .before .args .file .now)) ((c .before .slice-known .given))) _ _ _ _ ((c .before .before .pre .1 .located)) .1, used-most ((c .before .before .pre .0)))
+
+sub-if1 : tie.Need-sub-if1
+sub-if1 c = jused-within ((c .before .before .pre .0))
+
+add-if1 : tie.Need-add-if1
+add-if1 c = omega (arith, remove-inside _ _ _ _ _ _ ((c .before .before .pre .0)) (lent-below ((c .before .before .args .file .now)) ((c .before .slice-known .given))) _ _ _ _ ((c .before .before .pre .1 .located)) .1, used-within ((c .before .before .pre .0)), used-most ((c .before .before .pre .0)))
+
+refused-requires : tie.Need-refused-requires
+refused-requires c κs = search needs
+
+returns : tie.Need-returns
+returns c = answered ((c .refused .ensures)) (remove-full _ _ _ _ _ _ ((c .before .before .before .before .pre .0)) (lent-below ((c .before .before .before .before .args .file .now)) ((c .before .before .before .slice-known .given))) _ _ _ _ ((c .before .before .before .before .pre .1 .located)) ((c .before .if1 .taken)))
+
+header-number-requires : tie.Need-header-number-requires
+header-number-requires c κs = search needs
+
+mul-push : tie.Need-mul-push
+mul-push c = omega (arith, remove-inside _ _ _ _ _ _ ((c .before .before .before .before .before .pre .0)) (lent-below ((c .before .before .before .before .before .args .file .now)) ((c .before .before .before .before .slice-known .given))) _ _ _ _ ((c .before .before .before .before .before .pre .1 .located)) .0, remove-inside _ _ _ _ _ _ ((c .before .before .before .before .before .pre .0)) (lent-below ((c .before .before .before .before .before .args .file .now)) ((c .before .before .before .before .slice-known .given))) _ _ _ _ ((c .before .before .before .before .before .pre .1 .located)) .1, used-most ((c .before .before .before .before .before .pre .0)))
+
+mul-push-2 : tie.Need-mul-push-2
+mul-push-2 c = omega (arith, remove-inside _ _ _ _ _ _ ((c .before .before .before .before .before .pre .0)) (lent-below ((c .before .before .before .before .before .args .file .now)) ((c .before .before .before .before .slice-known .given))) _ _ _ _ ((c .before .before .before .before .before .pre .1 .located)) .1, used-most ((c .before .before .before .before .before .pre .0)))
+
+sub-push : tie.Need-sub-push
+sub-push c = omega (arith, remove-inside _ _ _ _ _ _ ((c .before .before .before .before .before .pre .0)) (lent-below ((c .before .before .before .before .before .args .file .now)) ((c .before .before .before .before .slice-known .given))) _ _ _ _ ((c .before .before .before .before .before .pre .1 .located)) .0)
+
+part-push-start : tie.Need-part-push-start
+part-push-start c = omega (arith, remove-inside _ _ _ _ _ _ ((c .before .before .before .before .before .before .pre .0)) (lent-below ((c .before .before .before .before .before .before .args .file .now)) ((c .before .before .before .before .before .slice-known .given))) _ _ _ _ ((c .before .before .before .before .before .before .pre .1 .located)) .0)
+
+part-push-end : tie.Need-part-push-end
+part-push-end c = omega (arith, remove-inside _ _ _ _ _ _ ((c .before .before .before .before .before .before .pre .0)) (lent-below ((c .before .before .before .before .before .before .args .file .now)) ((c .before .before .before .before .before .slice-known .given))) _ _ _ _ ((c .before .before .before .before .before .before .pre .1 .located)) .1, used-within ((c .before .before .before .before .before .before .pre .0)))
+
+push-requires : tie.Need-push-requires
+push-requires c κs = search needs
+
+sub-remove-extent : tie.Need-sub-remove-extent
+sub-remove-extent c = omega (arith, remove-inside _ _ _ _ _ _ ((c .before .before .before .before .before .before .before .before .before .before .before .pre .0)) (lent-below ((c .before .before .before .before .before .before .before .before .before .before .before .args .file .now)) ((c .before .before .before .before .before .before .before .before .before .before .slice-known .given))) _ _ _ _ ((c .before .before .before .before .before .before .before .before .before .before .before .pre .1 .located)) .0)
+
+remove-extent-requires : tie.Need-remove-extent-requires
+remove-extent-requires c κs = search needs
+
+sub-t13 : tie.Need-sub-t13
+sub-t13 c = omega (arith, remove-inside _ _ _ _ _ _ ((c .before .before .before .before .before .before .before .before .before .before .before .before .before .before .pre .0)) (lent-below ((c .before .before .before .before .before .before .before .before .before .before .before .before .before .before .args .file .now)) ((c .before .before .before .before .before .before .before .before .before .before .before .before .before .slice-known .given))) _ _ _ _ ((c .before .before .before .before .before .before .before .before .before .before .before .before .before .before .pre .1 .located)) .1)
+
+add-t19 : tie.Need-add-t19
+add-t19 c = search needs
+
+add-t11 : tie.Need-add-t11
+add-t11 c = search needs
+
+same-length : tie.Need-same-length
+same-length c = search needs
+
+same-length-2 : tie.Need-same-length-2
+same-length-2 c = search needs
+
+returns-2 : tie.Need-returns-2
+returns-2 c = remove-done _ _ _ _ _ _ ((c .before .before .before .before .before .before .before .before .before .before .before .before .before .before .pre .0)) (lent-below ((c .before .before .before .before .before .before .before .before .before .before .before .before .before .before .args .file .now)) ((c .before .before .before .before .before .before .before .before .before .before .before .before .before .slice-known .given))) _ _ _ _ ((c .before .before .before .before .before .before .before .before .before .before .before .before .before .before .pre .1 .located)) ((c .before .before .before .before .before .before .before .before .before .before .before .if1 .left)) _ _ _ ((c .before .before .remove-extent .ensures)) ((c .before .before .before .before .before .before .before .before .before .header-number .ensures)) ((c .before .before .before .before .before .before .push .ensures))
+
+pub remove-found-spec : {M : Type 1} → statement M
+remove-found-spec =
+    tie.close
+    (tie.spec
+    sub-n
+    mul-n
+    sub-if1
+    add-if1
+    refused-requires
+    returns
+    header-number-requires
+    mul-push
+    mul-push-2
+    sub-push
+    part-push-start
+    part-push-end
+    push-requires
+    sub-remove-extent
+    remove-extent-requires
+    sub-t13
+    add-t19
+    add-t11
+    same-length
+    same-length-2
+    returns-2)

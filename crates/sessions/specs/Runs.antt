@@ -1,0 +1,30 @@
+-- Demand 3 of the calls themselves: a list of calls on two lent buffers, each lent what the last one left.
+use Prim.Native.Nat.{ℕ}
+use mathlib.Core.List.{List, [], _∷_}
+use Rattle.edits.specs.declared.Edited.{Edited}
+use Rattle.edits.specs.declared.Edited.the-variants.{Made, Refused}
+use Rattle.edits.specs.Calls.{Session, Call}
+use Rattle.edits.specs.Book.{Run, noted, wasRefused}
+use Rattle.edits.specs.Demand.{Opened, PiecesBytes, Demand3}
+use Rattle.sessions.specs.Sessions.{Stepped}
+
+-- the session that a call leaves: the two buffers as they then are, and the answer's used lengths; where it is refused, the
+-- used lengths as they were
+abbrev pub leaves : Edited → Session → List ℕ → List ℕ → Session
+leaves (Made used jused) s file journal = record { file = file; used = used; journal = journal; jused = jused }
+leaves (Refused n p) s file journal = record { file = file; used = s .used; journal = journal; jused = s .jused }
+
+-- the calls of a list made one after another, with any answers and bytes that their contracts allow; the book is fed the
+-- calls and whether each was refused
+pub data Called (dim : ℕ) : Run → List Call → Run → Type 0 where
+  none : (r : Run) → Called dim r [] r
+  next : (r : Run) (c : Call) (cs : List Call) (answer : Edited) (file journal : List ℕ) (last : Run) →
+      Stepped dim (r .session) c answer file journal →
+      Called dim (record { session = leaves answer (r .session) file journal; book = noted (r .book) c (wasRefused answer) }) cs last →
+      Called dim r (c ∷ cs) last
+
+-- the demand, of every dimension, session and list of calls
+abbrev pub EveryCall : Type 0
+EveryCall =
+    (dim : ℕ) (s : Session) (cs : List Call) (last : Run) → Opened dim s → PiecesBytes cs →
+    Called dim (record { session = s; book = [] }) cs last → Demand3 dim s last

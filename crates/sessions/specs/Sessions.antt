@@ -1,0 +1,81 @@
+-- What the five calls of a session owe (document 01, "Editing"): each is one step of edits' definition of a session, of
+-- which demand 3 is proved. The rest are the private parts' own: an open session, and one record's reversal.
+use Prim.Native.Nat.{ℕ, _+_, _-_, _*_, _%_, _≤_}
+use mathlib.Core.Path.{_≡_}
+use mathlib.Core.List.{List}
+use lib.ListN.{length, take}
+use lib.Dec.{eqb, leb}
+use mathlib.Core.Bool.{Bool, cond}
+use Rattle.names.specs.Names.{packed}
+use Rattle.files.specs.Judge.{judgeOf}
+use Rattle.files.specs.declared.Judged.the-variants as judged
+use Rattle.reading.specs.declared.Above.{Above}
+use Rattle.reading.specs.declared.Above.the-variants.{Top, Under}
+use Rattle.reading.specs.declared.Spotted.the-variants.{At}
+use Rattle.reading.specs.Descent.{locateOf}
+use Rattle.edits.specs.declared.Edited.{Edited}
+use Rattle.edits.specs.declared.Edited.the-variants.{Made, Refused}
+use Rattle.edits.specs.Edits.{rename, apply}
+use Rattle.edits.specs.Allowed.{Fault?, fine, fault, orElse, unless}
+use Rattle.edits.specs.Records.{Rec, reversal, reversible}
+use Rattle.edits.specs.Calls.{Session, Call, rename-call, undo-call, usedWords, openFault, stored, nameOfText, textOk, step}
+use Rattle.faults.specs.Opening.{sessionOf}
+
+-- what a call answers and leaves in the two buffers is what the step says
+pub record Stepped (dim : ℕ) (s : Session) (c : Call) (r : Edited) (file journal : List ℕ) : Type 0 where
+  pub answer : r ≡ step dim s c .answer
+  pub file-is : file ≡ step dim s c .after .file
+  pub journal-is : journal ≡ step dim s c .after .journal
+
+-- the same of a rename by any text that asks for these two words, or is no name
+abbrev pub RenamedAs : ℕ → Session → ℕ → Bool → ℕ → ℕ → Edited → List ℕ → List ℕ → Type 0
+RenamedAs dim s p named a b r file journal =
+    (text : List ℕ) → nameOfText (packed text) p ≡ rename p a b → textOk (packed text) ≡ named →
+    Stepped dim s (rename-call p text) r file journal
+
+-- a session that opens, with the place of its file's marker
+pub record Open (dim : ℕ) (file : List ℕ) (used : ℕ) (journal : List ℕ) (jused marker : ℕ) : Type 0 where
+  pub ready : openFault dim (sessionOf file used journal jused) undo-call ≡ fine
+  pub marker-is : marker ≡ length (usedWords file used) - 1
+
+-- its file alone
+pub record OpenFile (dim : ℕ) (file : List ℕ) (used marker : ℕ) : Type 0 where
+  pub elements : ℕ
+  pub deepest : ℕ
+  pub judged : judgeOf dim (take used file) ≡ judged.Accepted elements deepest marker
+  pub last : marker + 1 ≡ length (usedWords file used)
+  pub even : used % 2 ≡ 0
+  pub within : used ≤ length file
+
+-- an element starts at a place of it, its extent ends at `end`, and it stands directly under `above`
+pub record Stands (file : List ℕ) (used marker p end : ℕ) (above : Above) : Type 0 where
+  pub depth : ℕ
+  pub located : locateOf (usedWords file used) p marker ≡ At end depth above
+
+-- a header place as a number, 4294967295 (the long -1) for the top, and back
+abbrev pub numberOf : Above → ℕ
+numberOf Top = 4294967295
+numberOf (Under h) = h
+
+abbrev pub aboveAt : ℕ → Above
+aboveAt n = cond (eqb n 4294967295) Top (Under n)
+
+-- a refusal, or what is made
+abbrev pub answerBy : Fault? → ℕ → ℕ → Edited
+answerBy fine used jused = Made used jused
+answerBy (fault n p) used jused = Refused n p
+
+abbrev pub fileBy : Fault? → List ℕ → List ℕ → List ℕ
+fileBy fine after before = after
+fileBy (fault n p) after before = before
+
+-- 19 and 15 of a record's reversal on a file's buffer
+abbrev pub reversalFault : ℕ → List ℕ → ℕ → Rec → Fault?
+reversalFault dim file used rec =
+    orElse (unless (reversible dim (usedWords file used) rec) 19)
+    (unless (leb (2 * length (apply dim (usedWords file used) (reversal (usedWords file used) rec))) (length file)) 15)
+
+-- what reversing a record answers and leaves, where the journal's used length before the record is `before`
+pub record Reversed (dim : ℕ) (file : List ℕ) (used : ℕ) (rec : Rec) (before : ℕ) (r : Edited) (after : List ℕ) : Type 0 where
+  pub answer : r ≡ answerBy (reversalFault dim file used rec) (2 * length (apply dim (usedWords file used) (reversal (usedWords file used) rec))) before
+  pub file-is : after ≡ fileBy (reversalFault dim file used rec) (stored file used (apply dim (usedWords file used) (reversal (usedWords file used) rec))) file

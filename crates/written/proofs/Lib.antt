@@ -1,0 +1,12 @@
+pub mod Own
+pub mod Numbers
+pub mod Walks
+pub mod Local
+pub mod Back
+pub mod InFile
+pub mod Spans
+pub mod Seen
+pub mod Fields
+pub mod Coordinates
+pub mod Rewrite
+pub mod Again

@@ -1,0 +1,72 @@
+-- The parts of an element of a written kind, as the reading calls give them and as the writer takes them: header fields,
+-- points, tail and linkages. s are a file's bytes, at is the element's place.
+use Prim.Native.Nat.{ℕ, zero, suc, _+_, _-_, _/_, _%_}
+use mathlib.Core.Path.{_≡_}
+use mathlib.Core.Bool.{cond}
+use mathlib.Core.List.{List, [], _∷_, _++_}
+use lib.ListN.{length, take, drop}
+use lib.Dec.{eqb}
+use lib.IntN.{ℤ}
+use Rattle.words.specs.Words.{words}
+use Rattle.linkages.specs.Linkages.{linkageIn}
+use Rattle.linkages.specs.declared.Linkage.{Linkage}
+use Rattle.linkages.specs.declared.Linkage.the-variants as linked
+use Rattle.elements.specs.Header.{typeAt, sizeAt, pointsAt}
+use Rattle.elements.specs.Kinds.{fixedPart}
+use Rattle.reading.specs.declared.Range.the-variants as range
+use Rattle.reading.specs.declared.Display.the-variants as display
+use Rattle.reading.specs.declared.Element.{Element}
+use Rattle.reading.specs.declared.Point.{Point}
+use Rattle.reading.specs.declared.Point.the-variants as point
+use Rattle.reading.specs.declared.Attribute.{Attribute}
+use Rattle.reading.specs.declared.Attribute.the-variants as attribute
+use Rattle.reading.specs.Views.{pointOf}
+use Rattle.writer.specs.Words.{pointCount}
+use Rattle.writer.specs.declared.Fields.{Fields}
+
+-- a view shows these header fields
+pub record Shows (e : Element) (f : Fields) : Type 0 where
+  pub level : e .level ≡ f .level
+  pub c : e .c ≡ f .c
+  pub kind : e .kind ≡ f .kind
+  pub deleted : e .deleted ≡ f .deleted
+  pub range : e .range ≡ range.Longs (f .«low_x») (f .«low_y») (f .«low_z») (f .«high_x») (f .«high_y») (f .«high_z»)
+  pub display : e .display ≡ display.Words (f .group) (f .index) (f .properties) (f .style) (f .weight) (f .colour)
+
+-- the coordinates of a point
+abbrev pub coordinates : Point → List ℤ
+coordinates (point.Flat x y) = x ∷ y ∷ []
+coordinates (point.Solid x y z) = x ∷ y ∷ z ∷ []
+coordinates (point.Refused n p) = []
+
+-- the coordinates of n points from number k on, one call for each
+unfoldable pub pointsFrom : ℕ → ℕ → ℕ → List ℕ → ℕ → List ℤ
+pointsFrom zero k dim s at = []
+pointsFrom (suc n) k dim s at = coordinates (pointOf dim s at k) ++ pointsFrom n (k + 1) dim s at
+
+-- the calls for points give these coordinates, and 13 for the number after the last
+pub record GivesPoints (dim : ℕ) (s : List ℕ) (at : ℕ) (points : List ℤ) : Type 0 where
+  pub all : pointsFrom (pointCount dim points) 0 dim s at ≡ points
+  pub no-more : pointOf dim s at (pointCount dim points) ≡ point.Refused 13 0
+
+-- the tail: all words after the fixed part
+unfoldable pub tailAt : ℕ → List ℕ → ℕ → List ℕ
+tailAt dim ws at =
+    take (sizeAt ws at - fixedPart dim (typeAt ws at) (pointsAt ws at)) (drop (at + fixedPart dim (typeAt ws at) (pointsAt ws at)) ws)
+
+-- a linkage of a tail that begins at a place of the file
+abbrev pub linkageMoved : ℕ → Linkage → Attribute
+linkageMoved from (linked.At user place size id) = attribute.At user (from + place) size id
+linkageMoved from linked.Nothing = attribute.Refused 13 0
+
+-- where the tail begins, counted from the element's start
+abbrev pub tailPlace : ℕ → Fields → List ℤ → ℕ
+tailPlace dim f points = fixedPart dim (f .kind) (pointCount dim points)
+
+-- linkage k of a tail handed in with its fields: with A set those from word 16 + index on, else none
+unfoldable pub tailLinkage : ℕ → Fields → List ℤ → List ℕ → ℕ → ℕ → Attribute
+tailLinkage dim f points tail at k =
+    cond (eqb (f .properties / 2048 % 2) 1)
+    (linkageMoved (at + tailPlace dim f points)
+    (linkageIn (words tail) (16 + f .index - tailPlace dim f points) (length tail / 2) k))
+    (attribute.Refused 13 0)
