@@ -1,6 +1,7 @@
 #!/usr/bin/env bash
 # The outside tests: the second reader's own tests, both readers on the same inputs through the C interface, the program
-# celllist against the second reader, and the C host. Counts are added up; the last line is "N passed, M failed".
+# celllist against the second reader, the C header and the C host. Counts are added up; the last line is
+# "N passed, M failed".
 set -u
 cd "$(dirname "$0")/.." || exit 1
 top=$PWD
@@ -12,6 +13,16 @@ trap 'rm -rf "$work"' EXIT
 # count STATUS PASSED: a step's result
 count() {
     if [ "$1" -eq 0 ]; then passed=$((passed + $2)); else failed=$((failed + 1)); fi
+}
+
+# run NAME COMMAND..: runs a program whose last line is "N passed, M failed", shows its output and counts it
+run() {
+    local name=$1 status
+    shift
+    "$@" > "$work/$name" 2>&1
+    status=$?
+    cat "$work/$name"
+    count $status "$(tail -n 1 "$work/$name" | sed -E 's/^([0-9]+) passed.*/\1/')"
 }
 
 # the second reader's own tests
@@ -31,14 +42,21 @@ status=$?
 count $status 1
 
 # both readers on the same inputs
-(cd tests/compare && cargo build --release --offline) > "$work/build" 2>&1 || cat "$work/build"
-tests/compare/target/release/compare > "$work/compare" 2>&1
-status=$?
-cat "$work/compare"
-count $status "$(tail -n 1 "$work/compare" | sed -E 's/^([0-9]+) passed.*/\1/')"
+if (cd tests/compare && cargo build --release --offline) > "$work/build" 2>&1; then
+    run compare tests/compare/target/release/compare
+else
+    cat "$work/build"
+    count 1 0
+fi
+
+# every function as the C header declares it
+strict="-std=c99 -pedantic -O2 -Wall -Wextra -Werror"
+gcc $strict -o "$work/header" tests/header.c target/staticlib/libdgn.a
+count $? 1
+run header.out "$work/header"
 
 # the C host
-gcc -O2 -Wall -Wextra -Werror -o "$work/host" examples/host.c target/staticlib/libdgn.a
+gcc $strict -o "$work/host" examples/host.c target/staticlib/libdgn.a
 count $? 1
 "$work/host" "$top/tests/real/a11_cells_2d.dgn" 00417 > "$work/host.out"
 diff "$work/host.out" examples/host.out

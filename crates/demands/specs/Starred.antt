@@ -8,9 +8,7 @@ use lib.IntN.{ℤ, pos, negsuc}
 use lib.ListN.{replicate}
 use Rattle.words.specs.Words.{words, bytes, longAt, signed}
 use Rattle.names.specs.Names.{packed, packedNumbers, unpacked, answerNumbers}
-use Rattle.files.specs.Judge.{judgeOf}
-use Rattle.files.specs.declared.Judged.{Judged}
-use Rattle.files.specs.declared.Judged.the-variants.{Accepted, Refused}
+use Rattle.files.specs.Judge.{judgeOf, judgedNumbers}
 
 -- a worked case: the numbers that the definitions give, and the numbers of document 01
 pub data Case : Type 0 where
@@ -58,16 +56,12 @@ nameCases =
     case (packedNumbers (packed text417)) (0 ∷ 55677 ∷ 0 ∷ []) ∷
     case (answerNumbers (unpacked 49234 51080 .answer) ++ unpacked 49234 51080 .letters) (0 ∷ 5 ∷ text00417 ++ (0 ∷ [])) ∷
     case (answerNumbers (unpacked 55677 0 .answer) ++ unpacked 55677 0 .letters) (0 ∷ 3 ∷ text417 ++ (0 ∷ 0 ∷ 0 ∷ [])) ∷
+    case (answerNumbers (unpacked 63999 63999 .answer) ++ unpacked 63999 63999 .letters) (0 ∷ 6 ∷ 57 ∷ 57 ∷ 57 ∷ 57 ∷ 57 ∷ 57 ∷ []) ∷
     case (answerNumbers (unpacked 64000 0 .answer)) (12 ∷ 0 ∷ []) ∷
     case (answerNumbers (unpacked 0 64000 .answer)) (12 ∷ 0 ∷ []) ∷
     []
 
--- the numbers of each answer of judging: 0, elements, depth and marker, or the refusal's number and place
-abbrev pub judgedNumbers : Judged → List ℕ
-judgedNumbers (Accepted elements deepest marker) = 0 ∷ elements ∷ deepest ∷ marker ∷ []
-judgedNumbers (Refused number place) = number ∷ place ∷ []
-
--- an element of a type, so many words long, C as given, and zeros but for word 18 and the words after it
+-- an element of a type, so many words long, C as given; all zeros from word 2 on but for word 18
 abbrev pub plain : ℕ → ℕ → ℕ → ℕ → List ℕ
 plain c kind size n = (128 * c + 256 * kind) ∷ (size - 2) ∷ replicate 16 0 ++ (n ∷ replicate (size - 19) 0)
 

@@ -3,36 +3,27 @@
 use Prim.Native.Nat.{ℕ}
 use mathlib.Core.Path.{_≡_}
 use mathlib.Core.List.{List, [], _∷_, _++_}
-use mathlib.Core.Bool.{Bool, cond}
+use mathlib.Core.Bool.{cond}
 use lib.ListN.{length}
 use lib.Seq.{sets}
 use lib.Dec.{leb}
-use lib.IntN.{ℤ, pos}
+use lib.IntN.{ℤ}
+use Rattle.names.specs.Names.{packedNumbers}
 use Rattle.names.specs.declared.Packed.{Packed}
-use Rattle.names.specs.declared.Packed.the-variants as packing
+use Rattle.names.specs.declared.Answer.{Answer}
+use Rattle.names.specs.declared.Answer.the-variants as unpacking
+use Rattle.names.specs.declared.Unpacked.{Unpacked}
+use Rattle.files.specs.Judge.{judgedNumbers}
 use Rattle.files.specs.declared.Judged.{Judged}
-use Rattle.files.specs.declared.Judged.the-variants as judging
+use Rattle.finder.specs.Finder.{foundNumbers}
 use Rattle.finder.specs.declared.Found.{Found}
-use Rattle.finder.specs.declared.Found.the-variants as finding
+use Rattle.reading.specs.Numbers.{extentNumbers, attributeNumbers, pointNumber, pointGiven, viewNumbers}
 use Rattle.reading.specs.declared.Extent.{Extent}
-use Rattle.reading.specs.declared.Extent.the-variants as extents
 use Rattle.reading.specs.declared.Attribute.{Attribute}
-use Rattle.reading.specs.declared.Attribute.the-variants as attributes
-use Rattle.reading.specs.declared.Above.{Above}
-use Rattle.reading.specs.declared.Above.the-variants as aboves
-use Rattle.reading.specs.declared.Number.{Number}
-use Rattle.reading.specs.declared.Number.the-variants as numbers
-use Rattle.reading.specs.declared.Range.{Range}
-use Rattle.reading.specs.declared.Range.the-variants as ranges
-use Rattle.reading.specs.declared.Display.{Display}
-use Rattle.reading.specs.declared.Display.the-variants as displays
-use Rattle.reading.specs.declared.Name.{Name}
-use Rattle.reading.specs.declared.Name.the-variants as cells
-use Rattle.reading.specs.declared.Element.{Element}
 use Rattle.reading.specs.declared.View.{View}
-use Rattle.reading.specs.declared.View.the-variants as views
 use Rattle.reading.specs.declared.Point.{Point}
-use Rattle.reading.specs.declared.Point.the-variants as points
+use Rattle.writer.specs.Writing.{writtenNumbers}
+use Rattle.writer.specs.declared.Written.{Written}
 
 -- a number for each answer, 0 where it is done, and the numbers for the caller's slice
 pub record Reply (A : Type 0) : Type 0 where
@@ -51,63 +42,39 @@ pub record Replied {A : Type 0} (needed : ℕ) (r : Reply A) (s : List A) (n : �
   pub is : n ≡ replyNumber needed r s
   pub out : t ≡ replySlice needed r s
 
+-- a list of numbers as a reply: the first is the number of the answer
+abbrev pub replyOf : List ℕ → Reply ℕ
+replyOf [] = record { number = 0; given = [] }
+replyOf (n ∷ given) = record { number = n; given = given }
+
 abbrev pub judgeReply : Judged → Reply ℕ
-judgeReply (judging.Accepted elements deepest marker) = record { number = 0; given = elements ∷ deepest ∷ marker ∷ [] }
-judgeReply (judging.Refused number place) = record { number = number; given = place ∷ [] }
+judgeReply r = replyOf (judgedNumbers r)
 
 abbrev pub packReply : Packed → Reply ℕ
-packReply (packing.Words first second) = record { number = 0; given = first ∷ second ∷ [] }
-packReply (packing.Refused number place) = record { number = number; given = place ∷ [] }
+packReply r = replyOf (packedNumbers r)
+
+-- the letters and a 0 behind them, so that the text ends at its first 0
+abbrev pub textReply : Answer → List ℕ → Reply ℕ
+textReply (unpacking.Text length) letters = record { number = 0; given = letters ++ (0 ∷ []) }
+textReply (unpacking.Refused number place) letters = record { number = number; given = place ∷ [] }
+
+abbrev pub unpackReply : Unpacked → Reply ℕ
+unpackReply u = textReply (u .answer) (u .letters)
 
 abbrev pub findReply : Found → Reply ℕ
-findReply (finding.At place looked) = record { number = 0; given = place ∷ looked ∷ [] }
-findReply (finding.Refused number place count) = record { number = number; given = place ∷ count ∷ [] }
+findReply r = replyOf (foundNumbers r)
 
 abbrev pub extentReply : Extent → Reply ℕ
-extentReply (extents.At start end) = record { number = 0; given = start ∷ end ∷ [] }
-extentReply (extents.Refused number place) = record { number = number; given = place ∷ [] }
-
--- true is 1
-abbrev pub flag : Bool → ℕ
-flag b = cond b 1 0
+extentReply r = replyOf (extentNumbers r)
 
 abbrev pub linkageReply : Attribute → Reply ℕ
-linkageReply (attributes.At user place size id) = record { number = 0; given = flag user ∷ place ∷ size ∷ id ∷ [] }
-linkageReply (attributes.Refused number place) = record { number = number; given = place ∷ [] }
+linkageReply r = replyOf (attributeNumbers r)
 
 abbrev pub pointReply : Point → Reply ℤ
-pointReply (points.Flat x y) = record { number = 0; given = x ∷ y ∷ pos 0 ∷ [] }
-pointReply (points.Solid x y z) = record { number = 0; given = x ∷ y ∷ z ∷ [] }
-pointReply (points.Refused number place) = record { number = number; given = pos place ∷ [] }
-
--- the parts of a view: 1 and its numbers, or 0 and zeros
-abbrev pub aboveNumbers : Above → List ℕ
-aboveNumbers aboves.Top = 0 ∷ 0 ∷ []
-aboveNumbers (aboves.Under place) = 1 ∷ place ∷ []
-
-abbrev pub numberNumbers : Number → List ℕ
-numberNumbers numbers.Absent = 0 ∷ 0 ∷ []
-numberNumbers (numbers.Value value) = 1 ∷ value ∷ []
-
-abbrev pub rangeNumbers : Range → List ℕ
-rangeNumbers ranges.Absent = 0 ∷ 0 ∷ 0 ∷ 0 ∷ 0 ∷ 0 ∷ 0 ∷ []
-rangeNumbers (ranges.Longs a b c d e f) = 1 ∷ a ∷ b ∷ c ∷ d ∷ e ∷ f ∷ []
-
-abbrev pub displayNumbers : Display → List ℕ
-displayNumbers displays.Absent = 0 ∷ 0 ∷ 0 ∷ 0 ∷ 0 ∷ 0 ∷ 0 ∷ []
-displayNumbers (displays.Words a b c d e f) = 1 ∷ a ∷ b ∷ c ∷ d ∷ e ∷ f ∷ []
-
-abbrev pub nameNumbers : Name → List ℕ
-nameNumbers cells.Absent = 0 ∷ 0 ∷ 0 ∷ []
-nameNumbers (cells.Words first second) = 1 ∷ first ∷ second ∷ []
-
--- all of them, and a 0 to fill 32
-abbrev pub elementNumbers : Element → List ℕ
-elementNumbers e =
-    e .level ∷ flag (e .c) ∷ e .kind ∷ flag (e .deleted) ∷ e .size ∷ e .depth ∷ aboveNumbers (e .above)
-    ++ (rangeNumbers (e .range) ++ (displayNumbers (e .display) ++ (numberNumbers (e .points)
-    ++ (nameNumbers (e .name) ++ (numberNumbers (e .total) ++ (numberNumbers (e .count) ++ (0 ∷ [])))))))
+pointReply r = record { number = pointNumber r; given = pointGiven r }
 
 abbrev pub viewReply : View → Reply ℕ
-viewReply (views.Seen element) = record { number = 0; given = elementNumbers element }
-viewReply (views.Refused number place) = record { number = number; given = place ∷ [] }
+viewReply r = replyOf (viewNumbers r)
+
+abbrev pub writeReply : Written → Reply ℕ
+writeReply r = replyOf (writtenNumbers r)

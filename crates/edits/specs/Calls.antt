@@ -1,7 +1,7 @@
 -- The calls of a session on its two lent buffers, with their refusals in document 01's order and what every byte and
 -- length then is.
 use Prim.Native.Nat.{ℕ, _+_, _-_, _*_, _%_, max}
-use mathlib.Core.List.{List, _++_}
+use mathlib.Core.List.{List, [], _∷_, _++_}
 use mathlib.Core.Bool.{Bool, true, false, not, _&&_, _||_}
 use mathlib.Core.Option.{Option, none, some}
 use lib.ListN.{length, take, drop, replicate}
@@ -154,3 +154,8 @@ callOn dim s ws undo-call = undone dim s
 -- one call
 unfoldable pub step : ℕ → Session → Call → Result
 step dim s c = resultBy (openFault dim s c) s (callOn dim s (usedWords (s .file) (s .used)) c)
+
+-- the numbers of each answer: 0 and the used lengths, or the refusal's number and place
+abbrev pub editedNumbers : Edited → List ℕ
+editedNumbers (Made used jused) = 0 ∷ used ∷ jused ∷ []
+editedNumbers (Refused number place) = number ∷ place ∷ []

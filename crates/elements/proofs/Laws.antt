@@ -1,16 +1,17 @@
 -- Laws of the rules of one element: no fault is that every test passes, and what the answer then is.
 use Prim.Native.Nat.{ℕ, _+_, _-_, _≤_}
-use mathlib.Core.Path.{_≡_, refl, sym, _∙_}
+use mathlib.Core.Path.{_≡_, refl, sym, subst, _∙_}
 use mathlib.Core.List.{List, [], _∷_, _++_}
-use mathlib.Core.Bool.{Bool, true, false, not, _&&_, _||_, and-eq-true-iff}
+use mathlib.Core.Bool.{Bool, true, false, cond, not, _&&_, _||_, and-eq-true-iff}
 use native.Mathlib.Omega.{arith}
-use lib.Dec.{leb}
-use borrow.Author.Tests.{leb-true, ne-eqb, not-true, not-false}
+use lib.Dec.{eqb, leb}
+use borrow.Author.Tests.{leb-true, eqb-true, eqb-false, ne-eqb, not-true, not-false}
 use Rattle.words.specs.Words.{words, wordAt}
 use Rattle.elements.specs.Header.{typeAt, sizeAt, pointsAt, extentAt}
 use Rattle.elements.specs.Kinds.{isHeader, isLinked, isPointed, fixedPart, mayStand}
 use Rattle.elements.specs.Attributes.{linkagesOk}
 use Rattle.elements.specs.Rules.{reservedOk, placeOk, pointsOk, fixedOk, extentOk, storedNameOk, Check, check, firstFault, checks, faultOf, headOf, HeadRead}
+use Rattle.elements.specs.declared.Head.{Head}
 use Rattle.elements.specs.declared.Head.the-variants.{Bad, Plain, Complex}
 use Rattle.elements.proofs.Types.{header-long, linked-long}
 
@@ -158,6 +159,22 @@ module _ (dim depth under : ℕ) (ws : List ℕ) (at bound : ℕ) where
   pub head-complex : faultOf dim depth under ws at bound ≡ 0 → isHeader (typeAt ws at) ≡ true → headOf dim depth under ws at bound ≡ Complex (at + sizeAt ws at) (at + extentAt ws at)
   unfolding headOf
   head-complex e h = simp (e, h)
+
+  ---- and back: what an answer says of the element
+
+  abbrev pub Means : Head → Type 0
+  Means (Bad n) = (faultOf dim depth under ws at bound ≡ n) × (n ≡ 0 → ⊥)
+  Means (Plain next) = Checked dim depth under ws at bound × ((isHeader (typeAt ws at) ≡ false) × (next ≡ at + sizeAt ws at))
+  Means (Complex inner end) = Checked dim depth under ws at bound × ((isHeader (typeAt ws at) ≡ true) × ((inner ≡ at + sizeAt ws at) × (end ≡ at + extentAt ws at)))
+
+  means-by : (b k : Bool) → eqb (faultOf dim depth under ws at bound) 0 ≡ b → isHeader (typeAt ws at) ≡ k → Means (cond b (cond k (Complex (at + sizeAt ws at) (at + extentAt ws at)) (Plain (at + sizeAt ws at))) (Bad (faultOf dim depth under ws at bound)))
+  means-by true true e h = (no-fault (eqb-true _ 0 e), (h, (refl, refl)))
+  means-by true false e h = (no-fault (eqb-true _ 0 e), (h, refl))
+  means-by false k e h = (refl, eqb-false _ 0 e)
+
+  pub head-means : (h : Head) → headOf dim depth under ws at bound ≡ h → Means h
+  unfolding headOf
+  head-means h e = subst Means e (means-by (eqb (faultOf dim depth under ws at bound) 0) (isHeader (typeAt ws at)) refl refl)
 
   ---- bounds
 

@@ -2,7 +2,7 @@
 -- its count; the first fault decides. `ws` are the words of the file, `under` is the type of the direct header, 0 at
 -- the top.
 use Prim.Native.Nat.{ℕ, zero, suc, _+_, _-_, _*_, _%_, max}
-use mathlib.Core.List.{List}
+use mathlib.Core.List.{List, [], _∷_}
 use mathlib.Core.Bool.{Bool, cond, _&&_, _||_}
 use lib.ListN.{length}
 use lib.Dec.{ltb, leb, eqb}
@@ -84,3 +84,8 @@ answer (Fault n p) = Refused n p
 -- judging a file: 1, then what all its elements are judged to be
 unfoldable pub judgeOf : ℕ → List ℕ → Judged
 judgeOf dim s = cond (callOk dim s) (answer (topOf dim (words s))) (Refused 1 0)
+
+-- the numbers of each answer of judging: 0, elements, depth and marker, or the refusal's number and place
+abbrev pub judgedNumbers : Judged → List ℕ
+judgedNumbers (Accepted elements deepest marker) = 0 ∷ elements ∷ deepest ∷ marker ∷ []
+judgedNumbers (Refused number place) = number ∷ place ∷ []

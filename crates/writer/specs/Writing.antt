@@ -78,3 +78,8 @@ bytesBy fault ws out = cond (eqb fault 0) (laid out 0 ws) out
 pub record Writes (dim : ℕ) (f : Fields) (points : List ℤ) (tail out : List ℕ) (r : Written) (last : List ℕ) : Type 0 where
   pub answer : r ≡ answerBy (writeFault dim f points tail (length out)) (sizeOf dim f points tail)
   pub bytes : last ≡ bytesBy (writeFault dim f points tail (length out)) (elementWords dim f points tail) out
+
+-- the numbers of each answer: 0 and the words written, or the refusal's number and place
+abbrev pub writtenNumbers : Written → List ℕ
+writtenNumbers (Made words) = 0 ∷ words ∷ []
+writtenNumbers (Refused number place) = number ∷ place ∷ []

@@ -1,0 +1,123 @@
+//! The files that are measured, made from fixed seeds. Each ends with a cell named LAST that holds one line; the end
+//! marker is the file's last word.
+
+use reader::generate::tree::{lay, Node};
+use reader::generate::{elements, large, texts, Random};
+use reader::words::bytes_of;
+
+pub const KIB: usize = 1024;
+
+/// The name of the last cell, and one that no cell has.
+pub const LAST: &[u8] = b"LAST";
+pub const ABSENT: &[u8] = b"ABSENT";
+
+#[derive(Clone, Copy, PartialEq)]
+pub enum Kind {
+    Lines,
+    Cells,
+    Raw,
+    Mixed,
+    Mixed3D,
+}
+
+pub const KINDS: [Kind; 5] = [Kind::Lines, Kind::Cells, Kind::Raw, Kind::Mixed, Kind::Mixed3D];
+
+impl Kind {
+    pub fn name(self) -> &'static str {
+        match self {
+            Kind::Lines => "lines",
+            Kind::Cells => "nested cells",
+            Kind::Raw => "two-word elements",
+            Kind::Mixed => "mixed",
+            Kind::Mixed3D => "mixed, 3D",
+        }
+    }
+
+    pub fn dim(self) -> u64 {
+        if self == Kind::Mixed3D { 3 } else { 2 }
+    }
+
+    /// The next top-level element with all beneath it.
+    fn node(self, random: &mut Random) -> Node {
+        match self {
+            Kind::Lines => line(random, false),
+            Kind::Cells => nest(random, 0),
+            Kind::Raw => Node::new(large::raw_of(2, false)),
+            Kind::Mixed | Kind::Mixed3D => {
+                let mut budget = 1 + random.below(30);
+                elements::tree(random, self.dim(), 0, None, &mut budget)
+            }
+        }
+    }
+}
+
+pub struct Input {
+    pub kind: Kind,
+    pub file: Vec<u8>,
+    /// The places of the last cell and of the last element, which is the line in it.
+    pub cell: u64,
+    pub last: u64,
+}
+
+/// An element of a known type with its fixed part alone, any words in it and A clear.
+fn plain(random: &mut Random, kind: u16, fixed: usize, c: bool) -> Vec<u16> {
+    let mut own = random.words(fixed);
+    own[0] = kind << 8 | u16::from(c) << 7 | random.below(64) as u16;
+    own[1] = (fixed - 2) as u16;
+    own[16] &= !(1 << 11);
+    own
+}
+
+fn line(random: &mut Random, c: bool) -> Node {
+    let fixed = elements::fixed(3, 2, 0);
+    Node::new(plain(random, 3, fixed, c))
+}
+
+/// A cell with lines and, down to a depth drawn anew at each level, a cell among them.
+fn nest(random: &mut Random, depth: u64) -> Node {
+    let mut own = plain(random, 2, elements::fixed(2, 2, 0), depth > 0);
+    let (first, second) = texts::name_words(random);
+    own[19] = first;
+    own[20] = second;
+    let mut under: Vec<Node> = (0..1 + random.below(3)).map(|_| line(random, true)).collect();
+    if depth < 7 && !random.one_in(4) {
+        let at = random.index(under.len() + 1);
+        under.insert(at, nest(random, depth + 1));
+    }
+    Node::with(own, under)
+}
+
+/// A file of that many bytes.
+pub fn make(kind: Kind, bytes: usize, seed: u64) -> Input {
+    make_after(&[], kind, bytes, seed)
+}
+
+/// The same with some elements given that stand first.
+pub fn make_after(front: &[u16], kind: Kind, bytes: usize, seed: u64) -> Input {
+    let random = &mut Random::new(seed);
+    let dim = kind.dim();
+    let mut cell = plain(random, 2, elements::fixed(2, dim, 0), false);
+    let (first, second) = reader::pack(LAST).unwrap();
+    cell[19] = first;
+    cell[20] = second;
+    let line = plain(random, 3, elements::fixed(3, dim, 0), true);
+    let own = cell.len();
+    let closing = lay(&[Node::with(cell, vec![Node::new(line)])]).words;
+
+    // the room before the last cell; the marker is one word
+    let room = bytes / 2 - closing.len() - 1;
+    let mut words = front.to_vec();
+    loop {
+        let next = lay(&[kind.node(random)]).words;
+        // what is left is filled by one element, of two words at least
+        if words.len() + next.len() + 2 > room {
+            break;
+        }
+        words.extend(next);
+    }
+    words.extend(large::raw_of(room - words.len(), false));
+    words.extend(&closing);
+    words.push(65535);
+    let cell = room as u64;
+    Input { kind, file: bytes_of(&words), cell, last: cell + own as u64 }
+}

@@ -1,0 +1,37 @@
+//! The bench: checks that all answer alike, measures them in turn and prints tables of ratios.
+//! `bench FOLDER [ROUNDS]`: FOLDER takes the files that the programs read and write.
+
+mod calls;
+mod checks;
+mod inputs;
+mod programs;
+mod reading;
+mod tables;
+mod timing;
+
+use inputs::{make, Input, KIB, KINDS};
+
+const ROOT: &str = concat!(env!("CARGO_MANIFEST_DIR"), "/..");
+
+fn main() {
+    let mut arguments = std::env::args().skip(1);
+    let folder = arguments.next().expect("bench FOLDER [ROUNDS]");
+    let rounds: usize = arguments.next().map_or(301, |n| n.parse().expect("a number of rounds"));
+
+    let all: Vec<Input> = KINDS.iter().map(|&kind| make(kind, 1024 * KIB, 1)).collect();
+    let mut checked = checks::Checked::default();
+    for input in &all {
+        checked.input(input);
+    }
+    checked.generated(20);
+    checked.real(&format!("{ROOT}/tests/real"));
+    println!("Answers: {} files judged alike by all three, {} of them refused.", checked.files, checked.refused);
+
+    reading::judging(&all, rounds);
+    reading::places(&all, rounds);
+    // Edits join here when include/dgn.h has them (build.rs, calls.rs): at the front and at the end of 1 MiB, and the
+    // undo of each, against judge and a memmove of the same bytes; their `ready` restores the file and the journal.
+    programs::listing(&folder, rounds);
+    reading::growth(1 + rounds / 3);
+    programs::beside_gdal(&folder, 1 + rounds / 10);
+}

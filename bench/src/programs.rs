@@ -1,0 +1,121 @@
+//! Whole programs: celllist against the second reader's listing, and beside GDAL's ogrinfo where that is installed.
+
+use crate::calls;
+use crate::inputs::{make, make_after, Kind, KIB, KINDS};
+use crate::tables::{heading, row};
+use crate::timing::{measure, Measured};
+use crate::ROOT;
+use reader::words::{bytes_of, words_of};
+use std::fs::File;
+use std::process::{Command, Stdio};
+
+/// A process that reads one file as its standard input and writes another.
+struct Program {
+    path: String,
+    arguments: Vec<String>,
+    input: String,
+    output: String,
+}
+
+impl Program {
+    fn command(&self) -> Command {
+        let mut command = Command::new(&self.path);
+        command.args(&self.arguments).stdin(File::open(&self.input).expect("the input"));
+        command
+    }
+
+    /// What it writes.
+    fn listed(&self) -> Vec<u8> {
+        let output = self.command().output().expect("a program");
+        assert!(output.status.success(), "{}", self.path);
+        output.stdout
+    }
+}
+
+impl Measured for Program {
+    /// Every run writes a new file.
+    fn ready(&mut self) {
+        let _ = std::fs::remove_file(&self.output);
+    }
+
+    fn run(&mut self) {
+        let out = File::create(&self.output).expect("the output");
+        let status = self.command().stdout(Stdio::from(out)).status().expect("a program");
+        assert!(status.success(), "{}", self.path);
+    }
+}
+
+/// A program by its path and arguments, the folder of its files and its input.
+fn program(path: &str, arguments: &[&str], folder: &str, input: &str) -> Program {
+    Program {
+        path: path.to_string(),
+        arguments: arguments.iter().map(|a| a.to_string()).collect(),
+        input: input.to_string(),
+        output: format!("{folder}/output"),
+    }
+}
+
+fn celllist(folder: &str, input: &str) -> Program {
+    program(&format!("{ROOT}/target/bin/celllist"), &[], folder, input)
+}
+
+/// The listings of 64 KiB are the same; their times, and that of a process that only reads its input.
+pub fn listing(folder: &str, rounds: usize) {
+    heading(&["celllist, 64 KiB", "lines written", "µs", "to the second reader's", "to reading alone"]);
+    let here = std::env::current_exe().expect("this program");
+    let second = here.with_file_name("secondlist").to_str().expect("a path").to_string();
+    let input = format!("{folder}/input");
+    for kind in KINDS.into_iter().filter(|kind| kind.dim() == 2) {
+        std::fs::write(&input, make(kind, 64 * KIB, 1).file).expect("the input");
+        let ours = celllist(folder, &input);
+        let theirs = program(&second, &[], folder, &input);
+        let alone = program(&second, &["nothing"], folder, &input);
+        let listed = ours.listed();
+        assert!(listed == theirs.listed(), "celllist, {}", kind.name());
+        let lines = listed.iter().filter(|&&b| b == b'\n').count();
+        let times = measure(&mut [Box::new(ours), Box::new(theirs), Box::new(alone)], rounds);
+        row(&[
+            kind.name().to_string(),
+            lines.to_string(),
+            format!("{:.0}", times.time(0) * 1e6),
+            times.ratio(0, 1).to_string(),
+            times.ratio(0, 2).to_string(),
+        ]);
+    }
+}
+
+/// Lines behind the first element of a real file, which ogrinfo wants to see. It prints every field and point, so its
+/// time stands beside ours and is no ratio of like to like.
+pub fn beside_gdal(folder: &str, rounds: usize) {
+    if !Command::new("ogrinfo").arg("--version").stdout(Stdio::null()).status().is_ok_and(|s| s.success()) {
+        println!("\nogrinfo (Debian: gdal-bin) is not installed: no figures beside GDAL.");
+        return;
+    }
+    let real = words_of(&std::fs::read(format!("{ROOT}/tests/real/a02_lines_2d.dgn")).expect("a real file"));
+    let front = &real[..2 + real[1] as usize];
+    let path = |name: &str| format!("{folder}/{name}.dgn");
+    let bare = [front, &[65535]].concat();
+    std::fs::write(path("bare"), bytes_of(&bare)).expect("the input");
+    let small = make_after(front, Kind::Lines, 64 * KIB, 1);
+    std::fs::write(path("small"), &small.file).expect("the input");
+    let large = make_after(front, Kind::Lines, 1024 * KIB, 1);
+    std::fs::write(path("large"), &large.file).expect("the input");
+    let ogrinfo = |name: &str| Box::new(program("ogrinfo", &["-al", "-q", &path(name)], folder, "/dev/null"));
+    let file = &large.file;
+    let times = measure(
+        &mut [
+            ogrinfo("bare"),
+            ogrinfo("small"),
+            ogrinfo("large"),
+            Box::new(celllist(folder, &path("bare"))),
+            Box::new(celllist(folder, &path("small"))),
+            Box::new(|| assert!(calls::judge(file, 2).is_ok())),
+        ],
+        rounds,
+    );
+    heading(&["beside GDAL, lines, µs", "no lines", "64 KiB", "1024 KiB"]);
+    let cell = |who: usize| format!("{:.0}", times.time(who) * 1e6);
+    row(&["`ogrinfo -al -q`, process".to_string(), cell(0), cell(1), cell(2)]);
+    row(&["celllist, process".to_string(), cell(3), cell(4), "(65,536 bytes at most)".to_string()]);
+    row(&["judge, call".to_string(), String::new(), String::new(), cell(5)]);
+}

@@ -1,0 +1,169 @@
+//! Both readers on the same inputs: every answer of the library must be the second reader's, every number, place and
+//! byte of it.
+
+use crate::guard::Side;
+use crate::library;
+use crate::seen::Seen;
+use reader::generate::writes::Write;
+use reader::generate::{place, places, texts, Random};
+use reader::{Judged, Refusal, View};
+
+/// What was run so far.
+#[derive(Default)]
+pub struct Runs {
+    pub files: u64,
+    pub calls: u64,
+    pub seen: Seen,
+}
+
+/// The numbers of a view, in the order of include/dgn.h.
+fn view_numbers(v: &View) -> [usize; 32] {
+    let number = |n: Option<u64>| [u64::from(n.is_some()), n.unwrap_or(0)];
+    let range = v.range.unwrap_or([0; 6]).map(u64::from);
+    let display = v.display.as_ref().map_or([0; 6], |d| {
+        [d.graphic_group, d.attribute_index, d.properties, d.style, d.weight, d.colour]
+    });
+    let name = v.name.map_or([0; 2], |(first, second)| [u64::from(first), u64::from(second)]);
+    let mut all = vec![v.level, u64::from(v.c), v.kind, u64::from(v.deleted), v.size, v.depth];
+    all.extend(number(v.header));
+    all.push(u64::from(v.range.is_some()));
+    all.extend(range);
+    all.push(u64::from(v.display.is_some()));
+    all.extend(display);
+    all.extend(number(v.n));
+    all.push(u64::from(v.name.is_some()));
+    all.extend(name);
+    all.extend(number(v.total));
+    all.extend(number(v.count));
+    all.push(0);
+    let mut numbers = [0; 32];
+    for (slot, value) in numbers.iter_mut().zip(all) {
+        *slot = value as usize;
+    }
+    numbers
+}
+
+/// A point as three numbers; the third is 0 in a 2D file.
+fn point_numbers(point: &[i32]) -> [i64; 3] {
+    let mut numbers = [0; 3];
+    for (slot, &value) in numbers.iter_mut().zip(point) {
+        *slot = i64::from(value);
+    }
+    numbers
+}
+
+/// A text as seven bytes, zeros behind it.
+fn text_bytes(text: &[u8]) -> [u8; 7] {
+    let mut bytes = [0; 7];
+    bytes[..text.len()].copy_from_slice(text);
+    bytes
+}
+
+/// The sixteen fields of the writer, in the order of include/dgn.h.
+pub fn field_numbers(f: &reader::Fields) -> [usize; 16] {
+    let mut all = vec![f.kind, f.level, f.c, f.deleted];
+    all.extend(f.range);
+    all.extend([f.graphic_group, f.attribute_index, f.properties, f.style, f.weight, f.colour]);
+    let mut numbers = [0; 16];
+    for (slot, value) in numbers.iter_mut().zip(all) {
+        *slot = value as usize;
+    }
+    numbers
+}
+
+/// A small number, now and then a huge one.
+pub fn small_or_huge(random: &mut Random) -> u64 {
+    if random.one_in(20) {
+        random.draw()
+    } else {
+        random.below(6)
+    }
+}
+
+impl Runs {
+    pub fn judge(&mut self, file: &[u8], dim: u64) -> Result<Judged, Refusal> {
+        let ours = library::judge(file, dim);
+        assert_eq!(ours, reader::judge(file, dim), "judge, {dim}D, {file:02x?}");
+        self.files += 1;
+        self.calls += 1;
+        ours
+    }
+
+    pub fn find(&mut self, file: &[u8], dim: u64, text: &[u8]) {
+        assert_eq!(library::find(file, dim, text), reader::find(file, dim, text), "find {text:?}, {dim}D, {file:02x?}");
+        self.calls += 1;
+    }
+
+    /// The calls on one element, each with a number from 0.
+    pub fn at(&mut self, file: &[u8], dim: u64, p: u64, k: u64) {
+        assert_eq!(library::extent(file, dim, p), reader::extent(file, dim, p), "extent at {p}, {dim}D, {file:02x?}");
+        assert_eq!(
+            library::view(file, dim, p),
+            reader::view(file, dim, p).map(|v| view_numbers(&v)),
+            "view at {p}, {dim}D, {file:02x?}"
+        );
+        self.calls += 2;
+        self.numbered(file, dim, p, k);
+    }
+
+    /// A point and a linkage by number.
+    pub fn numbered(&mut self, file: &[u8], dim: u64, p: u64, k: u64) {
+        assert_eq!(
+            library::point(file, dim, p, k),
+            reader::point(file, dim, p, k).map(|v| point_numbers(&v)),
+            "point {k} at {p}, {dim}D, {file:02x?}"
+        );
+        assert_eq!(
+            library::linkage(file, dim, p, k),
+            reader::linkage(file, dim, p, k),
+            "linkage {k} at {p}, {dim}D, {file:02x?}"
+        );
+        self.calls += 2;
+    }
+
+    /// Every call: at a place that is mostly an element's start, and with a text that is mostly a name.
+    pub fn all(&mut self, random: &mut Random, file: &[u8], dim: u64) -> Result<Judged, Refusal> {
+        library::lend_at(if random.one_in(2) { Side::Before } else { Side::Behind }, false);
+        let judged = self.judge(file, dim);
+        let p = place(random, file);
+        let k = small_or_huge(random);
+        self.at(file, dim, p, k);
+        let text = texts::any_text(random);
+        self.find(file, dim, &text);
+        judged
+    }
+
+    /// Every call at every place of a file, beyond its end too: most are no element.
+    pub fn everywhere(&mut self, file: &[u8], dim: u64) {
+        for p in places(file) {
+            self.at(file, dim, p, 0);
+            self.numbered(file, dim, p, 1);
+        }
+    }
+
+    pub fn pack(&mut self, text: &[u8]) {
+        assert_eq!(library::pack(text), reader::pack(text), "pack {text:?}");
+        self.calls += 1;
+    }
+
+    pub fn unpack(&mut self, first: u16, second: u16) {
+        let ours = library::unpack(u64::from(first), u64::from(second));
+        assert_eq!(ours, reader::unpack(first, second).map(|t| text_bytes(&t)), "unpack {first} {second}");
+        self.calls += 1;
+    }
+
+    /// One call of the writer: its answer and every byte of the buffer. Gives the buffer where it was made.
+    pub fn write(&mut self, w: &Write) -> Option<Vec<u8>> {
+        let mut ours = vec![w.fill; w.room];
+        let mut theirs = ours.clone();
+        let answer = library::write(&field_numbers(&w.fields), &w.points, &w.tail, w.dim, &mut ours);
+        let expected = reader::write(&w.fields, &w.points, &w.tail, w.dim, &mut theirs);
+        assert_eq!(answer, expected, "{w:?}");
+        assert_eq!(ours, theirs, "{w:?}");
+        self.calls += 1;
+        answer.ok().map(|words| {
+            ours.truncate(2 * words as usize);
+            ours
+        })
+    }
+}
