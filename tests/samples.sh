@@ -1,0 +1,112 @@
+#!/usr/bin/env bash
+# The sample files and the script list: samples/make.c makes the stored files byte for byte; list prints the stored
+# outputs, and README.md shows them. The last line is "N passed, M failed".
+set -u
+cd "$(dirname "$0")/.." || exit 1
+top=$PWD
+passed=0
+failed=0
+work=$(mktemp -d) || exit 1
+trap 'rm -rf "$work"' EXIT
+
+# check NAME COMMAND..: counts whether the command succeeds
+check() {
+    local name=$1
+    shift
+    if "$@"; then passed=$((passed + 1)); else
+        echo "samples: $name"
+        failed=$((failed + 1))
+    fi
+}
+
+# lists STATUS OUT ARGUMENT..: whether list ends with this status and prints just what the file OUT has
+lists() {
+    local status=$1 out=$2
+    shift 2
+    "$top/list" "$@" > "$work/out" 2> "$work/err"
+    [ $? -eq "$status" ] && cmp "$work/out" "$out"
+}
+
+quiet() { [ ! -s "$work/err" ]; }
+said() { grep -q "$1" "$work/err"; }
+
+# shows COMMAND OUT: whether README.md has the command, and below it all that OUT has
+shows() { [[ $(cat README.md) == *$'\n$ '"$1"$'\n'"$(cat "$2")"$'\n'* ]]; }
+
+# the library as an archive, where it is missing or older than its sources
+archive=target/staticlib/libdgn.a
+newer() { find crates.txt crates -name must-fail -prune -o -newer "$archive" -print -quit; }
+if [ ! -e "$archive" ] || [ -n "$(newer)" ]; then
+    rt staticlib dgn > "$work/archive" 2>&1 || cat "$work/archive"
+fi
+check "the archive is not built" test -e "$archive"
+
+# the stored files
+check "make.c does not build" gcc -std=c99 -pedantic -O2 -Wall -Wextra -Werror -o "$work/make" samples/make.c "$archive"
+mkdir "$work/made"
+check "make fails" "$work/make" "$work/made"
+for file in samples/*.cel samples/*.dgn; do
+    cmp "$file" "$work/made/${file#samples/}" >&2 && echo "${file#samples/}"
+done > "$work/same"
+check "the files are not those that make makes" cmp "$work/same" <(cd "$work/made" && printf '%s\n' *.cel *.dgn)
+
+# the outputs
+for file in samples/*.cel samples/*.dgn; do
+    out=${file%.*}.out
+    case $(cat "$out") in REFUSED*) status=1 ;; *) status=0 ;; esac
+    check "list $file" lists $status "$out" "$file"
+    if [ $status -eq 1 ]; then check "list $file does not name the table of refusals" said 'README.md, "Refusals"'; fi
+    command="./list $file"
+    [ "$file" != samples/seals.cel ] || command=./list
+    check "README.md does not show $command" shows "$command" "$out"
+done
+
+# the C host as README.md shows it
+check "host.c does not build" gcc -o "$work/host" examples/host.c "$archive"
+"$work/host" samples/nested.dgn 00417 > "$work/host.out"
+check "README.md does not show what the C host prints" shows "./host samples/nested.dgn 00417" "$work/host.out"
+
+# no file, from another folder, by a link, a missing file, a folder, two files
+check "list" lists 0 samples/seals.out
+check "list says something where nothing is to be built" quiet
+cp samples/nested.dgn "$work/a drawing.dgn"
+cd "$work" || exit 1
+check "from another folder" lists 0 "$top/samples/nested.out" "a drawing.dgn"
+cd "$top" || exit 1
+ln -s "$top/list" "$work/link"
+check "by a link" cmp <("$work/link") samples/seals.out
+check "a missing file" lists 1 /dev/null "$work/none.dgn"
+check "a missing file is not named" said "none.dgn"
+check "a folder" lists 1 /dev/null samples
+check "two files" lists 2 /dev/null samples/nested.dgn samples/empty.dgn
+
+# the first run, in a copy where nothing is built, with a stand-in for rt: one that fails, then one that builds
+mkdir -p "$work/copy/crates" "$work/copy/samples" "$work/bin"
+cp list crates.txt "$work/copy"
+cp samples/seals.cel "$work/copy/samples"
+first() { PATH=$work/bin:$PATH "$work/copy/list" > "$work/out" 2> "$work/err"; }
+printf '#!/bin/sh\necho "rt: words NOT PROVED (exit 1, 1 s)"\nexit 1\n' > "$work/bin/rt"
+chmod +x "$work/bin/rt"
+first
+check "a build that fails: status" test $? -eq 2
+check "a build that fails: output" test ! -s "$work/out"
+check "a build that fails: what rt says" said "NOT PROVED"
+{
+    printf '#!/bin/sh\necho "rt: words proved (1 s)"\necho "fn words::word: proved"\nmkdir -p target/bin target/stamp\n'
+    printf 'cp "%s" target/bin/celllist\ntouch target/stamp/celllist\n' "$top/target/bin/celllist"
+} > "$work/bin/rt"
+first
+check "the first run: status" test $? -eq 0
+check "the first run: output" cmp "$work/out" samples/seals.out
+check "the first run: what is being proved" cmp "$work/err" <(
+    echo "list: proving celllist and the crates it depends on (about two minutes the first time)"
+    echo "rt: words proved (1 s)"
+)
+first
+check "the second run builds again" quiet
+touch "$work/copy/crates.txt"
+first
+check "newer sources are not built" said "rt: words proved"
+
+echo "$passed passed, $failed failed"
+[ "$failed" -eq 0 ]
