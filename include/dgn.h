@@ -96,6 +96,48 @@ size_t dgn_unpack(size_t first, size_t second, uint8_t *text, size_t text_len);
  * type 3, not a whole number of points, an odd tail), 7 (points not 2 to 101), 8 (above 65,535 words), 11, 15. */
 size_t dgn_write(const size_t *fields, size_t fields_len, const int32_t *points, size_t points_len, const uint8_t *tail, size_t tail_len, size_t dimension, uint8_t *buffer, size_t buffer_len, size_t *out, size_t out_len);
 
+/* ---- editing ----
+ *
+ * A session is two buffers, each with a used length in bytes that the caller keeps: the first `used` bytes of `file`
+ * are the file through its end marker, the first `jused` bytes of `journal` the records of the edits made, none at
+ * first. Buffers and used lengths are even, and a buffer has at most 1,048,576 bytes. out needs 2.
+ *
+ * A call that is made gives the new used lengths of file and journal in bytes: hand them to the next call. An edit
+ * writes its record behind the journal's used bytes. Insert and remove move the rest of the file and correct the total
+ * of every header around the place and the direct header's count; bytes freed at the file's end become 0. All other
+ * bytes stay. A refusal changes no byte of either buffer; out[0] is its place, and the used lengths are as they were.
+ *
+ * A record is its payload, then six words: kind (1 mark, 2 rename, 3 insert, 4 remove), the header's place (-1 for the
+ * top and for kinds 1 and 2) and the place, each two words with the high one first, and the number of payload words.
+ * The payload is for a rename the two old words of the name, for a remove the words removed, else none.
+ *
+ * Refusals of each call, in this order: 1 (also a used length beyond its buffer, a used file whose last word is not
+ * 65535), the file's own (2 to 12), 1 where the end marker stands before the last used word, then those named below. */
+
+/* The top of the file, for a header's place. */
+#define DGN_TOP ((size_t)-1)
+
+/* Marks the element at `place`: deleted 1 sets its deleted flag, 0 clears it, and another number is 1. Then 13, 14,
+ * 16. */
+size_t dgn_mark(uint8_t *file, size_t file_len, size_t used, uint8_t *journal, size_t journal_len, size_t jused, size_t dimension, size_t place, size_t deleted, size_t *out, size_t out_len);
+
+/* Renames the type 1 or 2 cell at `place`; for the text see dgn_pack. Then 13, 18, 12 at 0 for the text, 16. */
+size_t dgn_rename(uint8_t *file, size_t file_len, size_t used, uint8_t *journal, size_t journal_len, size_t jused, size_t dimension, size_t place, const uint8_t *text, size_t text_len, size_t *out, size_t out_len);
+
+/* Inserts a piece, one element with all beneath it, under the header at `header` or at DGN_TOP, at a place where a
+ * direct component starts or the list ends: at the end of the header's extent, at the top before the end marker. A
+ * piece of odd length or above 1,048,576 bytes is 1. Then 13 (also where `header` is none), the piece's own 3 to 12 and
+ * 9 with a place within the piece, 3 for words left over at the first of them, 8 at the outermost header that would
+ * grow too large, 15, 16. */
+size_t dgn_insert(uint8_t *file, size_t file_len, size_t used, uint8_t *journal, size_t journal_len, size_t jused, size_t dimension, size_t header, size_t place, const uint8_t *piece, size_t piece_len, size_t *out, size_t out_len);
+
+/* Removes the element at `place` with all beneath it. Then 13, 16. */
+size_t dgn_remove(uint8_t *file, size_t file_len, size_t used, uint8_t *journal, size_t journal_len, size_t jused, size_t dimension, size_t place, size_t *out, size_t out_len);
+
+/* Undoes the last edit not undone: reverses the journal's last record and takes it off. The journal's bytes stay, only
+ * its used length falls. Then 17, 19, 15. */
+size_t dgn_undo(uint8_t *file, size_t file_len, size_t used, const uint8_t *journal, size_t journal_len, size_t jused, size_t dimension, size_t *out, size_t out_len);
+
 #ifdef __cplusplus
 }
 #endif

@@ -39,6 +39,7 @@ int main(void)
     int64_t xyz[3];
     uint8_t text[7];
     uint8_t line[54];
+    uint8_t journal[100];
 
     put(0, 2 << 8);
     put(1, 44);
@@ -79,6 +80,30 @@ int main(void)
     check(dgn_unpack(49234, 51080, text, 7) == 0 && memcmp(text, "00417\0", 7) == 0, "unpack");
     check(dgn_unpack(64000, 0, text, 7) == 12 && text[0] == 0, "word 64000");
     check(dgn_unpack(49234, 51080, text, 6) == 1 && text[0] == 0, "six bytes are too few");
+
+    /* a session: the line taken out, put back under the cell, the cell renamed and marked, then all undone */
+    uint8_t original[sizeof file];
+    memcpy(original, file, sizeof file);
+    size_t used = 2 * words;
+    check(dgn_remove(file, 146, used, journal, 100, 0, 2, 46, out, 2) == 0 && are(out, 2, (size_t[]){94, 64}), "remove");
+    check(memcmp(file + 36, "\33\0", 2) == 0 && memcmp(file + 92, "\377\377\0\0", 4) == 0, "total, marker, freed bytes");
+    check(memcmp(journal, original + 92, 52) == 0, "the words removed");
+    check(memcmp(journal + 52, "\4\0\0\0\0\0\0\0\56\0\32\0", 12) == 0, "its record");
+    check(dgn_insert(file, 146, 94, journal, 100, 64, 2, 0, 46, original + 92, 52, out, 2) == 0 && are(out, 2, (size_t[]){146, 76}), "insert");
+    check(memcmp(file, original, 146) == 0, "the same file");
+    check(dgn_insert(file, 146, used, journal, 100, 76, 2, DGN_TOP, 72, original + 92, 52, out, 2) == 5 && out[0] == 0, "C at the top");
+    check(dgn_rename(file, 146, used, journal, 100, 76, 2, 0, (const uint8_t *)"417", 3, out, 2) == 0 && are(out, 2, (size_t[]){146, 92}), "rename");
+    check(dgn_mark(file, 146, used, journal, 100, 92, 2, 0, 1, out, 2) == 16 && out[0] == 0, "no room in the journal");
+    check(dgn_mark(file, 146, used, journal, 100, 76, 2, 0, 2, out, 2) == 1 && out[0] == 0, "deleted by 2");
+    check(dgn_mark(file, 146, used, journal, 100, 92, 2, 46, 1, out, 1) == 1, "an answer slice of one number");
+    check(dgn_undo(file, 146, used, journal, 100, 92, 2, out, 2) == 0 && are(out, 2, (size_t[]){146, 76}), "undo of the rename");
+    check(dgn_mark(file, 146, used, journal, 100, 76, 2, 46, 0, out, 2) == 0 && are(out, 2, (size_t[]){146, 88}), "mark");
+    check(file[93] == (original[93] & 127), "live");
+    check(dgn_undo(file, 146, used, journal, 100, 88, 2, out, 2) == 0 && are(out, 2, (size_t[]){146, 76}), "undo of the mark");
+    check(dgn_undo(file, 146, used, journal, 100, 76, 2, out, 2) == 0 && are(out, 2, (size_t[]){94, 64}), "undo of the insert");
+    check(dgn_undo(file, 146, 94, journal, 100, 64, 2, out, 2) == 0 && are(out, 2, (size_t[]){146, 0}), "undo of the remove");
+    check(dgn_undo(file, 146, used, journal, 100, 0, 2, out, 2) == 17 && out[0] == 0, "nothing to undo");
+    check(memcmp(file, original, 146) == 0, "the original");
 
     printf("%zu passed, %zu failed\n", passed, failed);
     return failed != 0;

@@ -1,6 +1,6 @@
 #!/usr/bin/env bash
 # The outside tests: the second reader's own tests, both readers on the same inputs through the C interface, the program
-# celllist against the second reader, the C header and the C host. Counts are added up; the last line is
+# celllist against the second reader, the C header and the C examples. Counts are added up; the last line is
 # "N passed, M failed".
 set -u
 cd "$(dirname "$0")/.." || exit 1
@@ -63,6 +63,13 @@ diff "$work/host.out" examples/host.out
 count $? 1
 "$work/host" "$top/tests/real/a18_cell_hdr_link_dgnlib_2d.dgn" 00417 > "$work/host.out"
 diff "$work/host.out" examples/host-refused.out
+count $? 1
+
+# the C session
+gcc $strict -o "$work/session" examples/session.c target/staticlib/libdgn.a
+count $? 1
+"$work/session" > "$work/session.out"
+diff "$work/session.out" examples/session.out
 count $? 1
 
 echo "$passed passed, $failed failed"

@@ -34,7 +34,11 @@ impl Kind {
     }
 
     pub fn dim(self) -> u64 {
-        if self == Kind::Mixed3D { 3 } else { 2 }
+        if self == Kind::Mixed3D {
+            3
+        } else {
+            2
+        }
     }
 
     /// The next top-level element with all beneath it.
@@ -71,6 +75,12 @@ fn plain(random: &mut Random, kind: u16, fixed: usize, c: bool) -> Vec<u16> {
 fn line(random: &mut Random, c: bool) -> Node {
     let fixed = elements::fixed(3, 2, 0);
     Node::new(plain(random, 3, fixed, c))
+}
+
+/// The bytes of a line without a tail, for the top.
+pub fn line_for(dim: u64, seed: u64) -> Vec<u8> {
+    let fixed = elements::fixed(3, dim, 0);
+    bytes_of(&plain(&mut Random::new(seed), 3, fixed, false))
 }
 
 /// A cell with lines and, down to a depth drawn anew at each level, a cell among them.

@@ -3,6 +3,7 @@
 
 mod calls;
 mod checks;
+mod edits;
 mod inputs;
 mod programs;
 mod reading;
@@ -29,8 +30,7 @@ fn main() {
 
     reading::judging(&all, rounds);
     reading::places(&all, rounds);
-    // Edits join here when include/dgn.h has them (build.rs, calls.rs): at the front and at the end of 1 MiB, and the
-    // undo of each, against judge and a memmove of the same bytes; their `ready` restores the file and the journal.
+    edits::table(rounds);
     programs::listing(&folder, rounds);
     reading::growth(1 + rounds / 3);
     programs::beside_gdal(&folder, 1 + rounds / 10);

@@ -36,8 +36,7 @@ pub fn judging(all: &[Input], rounds: usize) {
 
 /// Finding and viewing against judging the same file.
 pub fn places(all: &[Input], rounds: usize) {
-    let (first, last) = (format!("{}, first element", calls::VIEW), format!("{}, last element", calls::VIEW));
-    heading(&["to judge, 1 MiB", "find, name at the end", "find, name not there", &first, &last]);
+    heading(&["to judge, 1 MiB", "find, name at the end", "find, name not there", "view, first element", "view, last element"]);
     for input in all {
         let (file, dim) = (&input.file[..], input.kind.dim());
         let times = measure(

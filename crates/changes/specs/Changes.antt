@@ -1,5 +1,6 @@
--- The bytes that an edit leaves of a file's buffer once nothing refuses it (proofs/Made: they are the book's words, stored).
--- Mark and rename change the used part alone; insert and remove correct totals in it and move what follows.
+-- The bytes that an edit leaves of a file's buffer once nothing refuses it; proofs/Made: they are the buffer with the words
+-- of edits' `apply` stored. Mark and rename change the used part alone; insert and remove correct totals in it and move what
+-- follows.
 use Prim.Native.Nat.{ℕ, _+_, _/_}
 use mathlib.Core.List.{List, [], _∷_, _++_}
 use mathlib.Core.Bool.{Bool, true, false, cond}

@@ -1,9 +1,9 @@
--- The loop of celllist, which prints the line of each step of the walk, gives the listing: the walk's places and depths
--- are those of the elements in file order.
-use Prim.Native.Nat.{ℕ, zero, suc}
+-- The lines along the walk are the listing: the walk's places and depths are those of the elements in file order.
+use Prim.Native.Nat.{ℕ, zero, suc, _≤_}
 use mathlib.Core.Path.{_≡_, refl, ap, _∙_}
 use mathlib.Core.List.{List, [], _∷_, _++_, map}
 use lib.ListN.{length}
+use borrow.Author.Tests.{le-leb}
 use Rattle.words.specs.Words.{words}
 use Rattle.files.specs.Judge.{judgeOf}
 use Rattle.files.specs.Spots.{Spot, spotsOf}
@@ -13,12 +13,7 @@ use Rattle.finder.specs.declared.Walk.{Walk}
 use Rattle.finder.specs.Walk.{nextOf, walkStart}
 use Rattle.finder.proofs.Walks.{walked, walk-is}
 use Rattle.listing.specs.Lines.{lineOf, headingLine, endLine}
-use Rattle.demands.specs.Listing.{elementLines, listingOf}
-
--- what n turns of the loop print from a step of the walk on
-abbrev pub walkLines : ℕ → List ℕ → Walk → List ℕ
-walkLines zero ws w = []
-walkLines (suc n) ws w = lineOf ws (w .place) (w .depth) ++ walkLines n ws (nextOf ws w)
+use Rattle.demands.specs.Listing.{elementLines, listingOf, walkLines}
 
 abbrev lines : List ℕ → List (ℕ × ℕ) → List ℕ
 lines ws [] = []
@@ -32,14 +27,14 @@ element-lines : (ws : List ℕ) (xs : List Spot) → lines ws (map (λ x. (x .pl
 element-lines ws [] = refl
 element-lines ws (x ∷ xs) = ap (λ l. lineOf ws (x .place) (x .depth) ++ l) (element-lines ws xs)
 
-pub listing-is : (s : List ℕ) (e d m : ℕ) → judgeOf 2 s ≡ Accepted e d m →
+pub listing-is : (s : List ℕ) (e d m : ℕ) → length s ≤ 65536 → judgeOf 2 s ≡ Accepted e d m →
     headingLine ++ (walkLines e (words s) walkStart ++ endLine m) ≡ listingOf s
 unfolding listingOf
-listing-is s e d m q =
+listing-is s e d m h q =
     let l = count-is-length 2 s e d m q in
     let same : walkLines e (words s) walkStart ≡ elementLines (words s) (spotsOf 2 (words s)) =
     ap (λ n. walkLines n (words s) walkStart) l
     ∙ walk-lines (length (spotsOf 2 (words s))) (words s) walkStart
     ∙ ap (lines (words s)) (walk-is 2 s e d m q .0)
     ∙ element-lines (words s) (spotsOf 2 (words s)) in
-    rw (q, same) refl
+    rw (le-leb (length s) 65536 h, q, same) refl

@@ -1,5 +1,5 @@
--- The worked cases of document 01 that it marks with *, as one list. That all hold is proved, by one statement, in
--- proofs/Starred.
+-- The worked cases of document 01 that it marks with *, and its table of fixed parts, as one list. That all hold is one
+-- statement of the page of demands.
 use Prim.Native.Nat.{ℕ, suc, _+_, _*_, _-_}
 use mathlib.Core.List.{List, [], _∷_, _++_}
 use mathlib.Core.Bool.{Bool, true, false, _&&_}
@@ -8,6 +8,7 @@ use lib.IntN.{ℤ, pos, negsuc}
 use lib.ListN.{replicate}
 use Rattle.words.specs.Words.{words, bytes, longAt, signed}
 use Rattle.names.specs.Names.{packed, packedNumbers, unpacked, answerNumbers}
+use Rattle.elements.specs.Kinds.{fixedPart}
 use Rattle.files.specs.Judge.{judgeOf, judgedNumbers}
 
 -- a worked case: the numbers that the definitions give, and the numbers of document 01
@@ -107,6 +108,32 @@ cellCases =
     case (judged2D (cellWithLine 54)) (3 ∷ 72 ∷ []) ∷
     []
 
+-- the fixed parts of a type in words, 2D and 3D, with N points
+abbrev pub fixedParts : ℕ → ℕ → List ℕ
+fixedParts kind n = fixedPart 2 kind n ∷ fixedPart 3 kind n ∷ []
+
+-- the table of fixed parts: 1, 2, 3; 4, 6, 11, 21 with N=2 and N=101; 7, 12, 14, 17; 18 and 19, in a 2D file refused, 6
+abbrev pub tableCases : List Case
+tableCases =
+    case (fixedParts 1 0) (35 ∷ 35 ∷ []) ∷
+    case (fixedParts 2 0) (46 ∷ 62 ∷ []) ∷
+    case (fixedParts 3 0) (26 ∷ 30 ∷ []) ∷
+    case (fixedParts 4 2) (27 ∷ 31 ∷ []) ∷
+    case (fixedParts 4 101) (423 ∷ 625 ∷ []) ∷
+    case (fixedParts 6 2) (27 ∷ 31 ∷ []) ∷
+    case (fixedParts 6 101) (423 ∷ 625 ∷ []) ∷
+    case (fixedParts 11 2) (27 ∷ 31 ∷ []) ∷
+    case (fixedParts 11 101) (423 ∷ 625 ∷ []) ∷
+    case (fixedParts 21 2) (27 ∷ 31 ∷ []) ∷
+    case (fixedParts 21 101) (423 ∷ 625 ∷ []) ∷
+    case (fixedParts 7 0) (35 ∷ 43 ∷ []) ∷
+    case (fixedParts 12 0) (20 ∷ 20 ∷ []) ∷
+    case (fixedParts 14 0) (20 ∷ 20 ∷ []) ∷
+    case (fixedParts 17 0) (18 ∷ 18 ∷ []) ∷
+    case (fixedPart 3 18 0 ∷ judged2D (plain 0 18 21 2)) (21 ∷ 6 ∷ 0 ∷ []) ∷
+    case (fixedPart 3 19 0 ∷ judged2D (plain 0 19 21 2)) (21 ∷ 6 ∷ 0 ∷ []) ∷
+    []
+
 -- the one list
 abbrev pub starred : List Case
-starred = longCases ++ nameCases ++ fileCases ++ lineCases ++ pointCases ++ cellCases
+starred = longCases ++ nameCases ++ fileCases ++ lineCases ++ pointCases ++ cellCases ++ tableCases

@@ -1,5 +1,6 @@
 // The C interface on numbers and slices, as in include/dgn.h. No logic: each contract is the library's own equation, put
-// into numbers by specs/Answers; what dgn_write is handed and leaves is in specs/Writing.
+// into numbers by specs/Answers; what dgn_write is handed and leaves is in specs/Writing. The calls of a session are in
+// the module editing.
 ghost use mathlib.Core.Path.{_≡_};
 ghost use mathlib.Core.List.{[], _∷_, _++_};
 ghost use Prim.Native.Nat.{_+_, _≤_};
@@ -13,6 +14,8 @@ ghost use Rattle.reading.specs.Views.{viewOf, pointOf, linkageOf};
 ghost use Rattle.reading.specs.Numbers.{flag, aboveNumbers, numberNumbers, rangeNumbers, displayNumbers, nameNumbers, commonNumbers, kindNumbers};
 ghost use Rattle.dgn.specs.Answers.{Replied, judgeReply, packReply, unpackReply, findReply, extentReply, viewReply, pointReply, linkageReply};
 ghost use Rattle.dgn.specs.Writing.{fieldsGiven, fieldsOf, Wrote};
+
+pub mod editing;
 
 #[no_mangle]
 pub extern "C" fn dgn_judge(file: &[u8], dim: usize, out: &mut [usize]) -> usize

@@ -2,7 +2,7 @@
 -- journal their records, and every statement is read off these two.
 use Prim.Native.Nat.{ℕ, _-_, _*_, _/_, _%_, _≤_}
 use mathlib.Core.Path.{_≡_, refl, sym, ap, _∙_, subst}
-use mathlib.Core.Bool.{true, _&&_, _||_, and-eq-true-iff}
+use mathlib.Core.Bool.{true, _||_, and-eq-true-iff}
 use mathlib.Core.List.{List, []}
 use native.Mathlib.Omega.{arith}
 use lib.ListN.{length, take}
@@ -16,7 +16,7 @@ use Rattle.files.specs.declared.Verdict.{Verdict}
 use Rattle.files.specs.declared.Verdict.the-variants.{Good, Fault}
 use Rattle.edits.specs.Edits.{Edit}
 use Rattle.edits.specs.Allowed.{fine, unless}
-use Rattle.edits.specs.Calls.{Session, Call, bufferOk, usedOk, usedWords, endsInMarker, sessionOk, fileFault, openFault}
+use Rattle.edits.specs.Calls.{Session, Call, bufferOk, usedOk, usedWords, endsInMarker, sessionOk, fileFault, sessionFault}
 use Rattle.edits.specs.Book.{Run, ran, applied, undos}
 use Rattle.edits.specs.Demand.{Opened, PiecesBytes, runOf, usedBytes, AcceptedFile, Demand3, EveryRun}
 use Rattle.edits.proofs.Accepted.{Accepted}
@@ -45,12 +45,11 @@ file-tree dim hyp ws b ends = go (topOf dim ws) refl
     go (Fault n p) q f = let z : _≡_ {A = ℕ} 0 1 = cc in absurd (omega arith)
 
 begin : (dim : ℕ) → Hypotheses dim → (s : Session) → Opened dim s → Begun dim s
-unfolding openFault sessionOk
+unfolding sessionFault sessionOk
 begin dim hyp s O =
     let u = usedWords (s .file) (s .used) in
-    let two = orElse-fine (unless (sessionOk dim s && true) 1) (fileFault (topOf dim u) (length u - 1)) (O .ready) in
-    let ok = and-eq-true-iff (sessionOk dim s) true .0 (unless-fine (sessionOk dim s && true) 1 (two .0)) .0 in
-    let p = and-eq-true-iff (eqb dim 2 || eqb dim 3) _ .0 ok in
+    let two = orElse-fine (unless (sessionOk dim s) 1) (fileFault (topOf dim u) (length u - 1)) (O .ready) in
+    let p = and-eq-true-iff (eqb dim 2 || eqb dim 3) _ .0 (unless-fine (sessionOk dim s) 1 (two .0)) in
     let q = and-eq-true-iff (usedOk (s .file) (s .used)) _ .0 (p .1) in
     let r = and-eq-true-iff (usedOk (s .journal) (s .jused)) (endsInMarker u) .0 (q .1) in
     let none = O .journal-empty in

@@ -18,7 +18,7 @@ use Rattle.grammar.proofs.Forest.{flat}
 use Rattle.edits.specs.Edits.{Edit, mark, insert, remove, apply}
 use Rattle.edits.specs.Allowed.{Fault?, fine, fault, orElse, renameFault, editFault}
 use Rattle.edits.specs.Records.{recordOf, recordWords}
-use Rattle.edits.specs.Calls.{Session, Call, mark-call, rename-call, insert-call, remove-call, undo-call, bufferOk, usedWords, endsInMarker, sessionOk, openFault, Result, resultBy, editMade, editWithin, edited, undone, nameOfText, textOk, callOn}
+use Rattle.edits.specs.Calls.{Session, Call, mark-call, rename-call, insert-call, remove-call, undo-call, bufferOk, usedWords, endsInMarker, sessionOk, sessionFault, Result, resultBy, editMade, editWithin, edited, undone, nameOfText, textOk, callOn}
 use Rattle.edits.specs.Book.{Run, noted, noting}
 use Rattle.edits.specs.Demand.{PieceBytes}
 use Rattle.edits.proofs.Accepted.{Accepted, Carried, Sound}
@@ -162,8 +162,8 @@ module _ (dim : ℕ) (hyp : Hypotheses dim) (s₀ : Session) (B : Begun dim s₀
       let j = holds-ok (K .journal) (s₀ .journal) refl (B .journal-ok) in
       and-eq-true-iff _ _ .1 (B .dimension, and-eq-true-iff _ _ .1 (f, and-eq-true-iff _ _ .1 (j, ends)))
 
-  pub kept-ready : (s : Session) (es : List Edit) → Kept dim s₀ s es → openFault dim s undo-call ≡ fine
-  unfolding openFault
+  pub kept-ready : (s : Session) (es : List Edit) → Kept dim s₀ s es → sessionFault dim s ≡ fine
+  unfolding sessionFault
   kept-ready s es K =
       let v = hyp .tree-judged (K .ws) (accepted-at es (K .ws) (K .js) (K .replay)) in
       rw (kept-session s es K, K .file .words, v .3, eq-eqb (length (K .ws) - 1) (length (K .ws) - 1) refl) refl

@@ -12,7 +12,7 @@ use Rattle.edits.specs.declared.Edited.the-variants.{Refused}
 use Rattle.edits.specs.Edits.{Edit, apply}
 use Rattle.edits.specs.Allowed.{fine}
 use Rattle.edits.specs.Records.{recordOf, recordWords}
-use Rattle.edits.specs.Calls.{Session, Call, undo-call, openFault, usedWords, Result, refused, undoMade, undone, callOn, step}
+use Rattle.edits.specs.Calls.{Session, Call, undo-call, sessionFault, openFault, usedWords, Result, refused, undoMade, undone, callOn, step}
 use Rattle.edits.specs.Book.{Run, ran, struck, noted, noting, wasRefused, undos}
 use Rattle.edits.specs.Demand.{PieceBytes, PiecesBytes, noneRefused}
 use Rattle.edits.proofs.Accepted.{Sound}
@@ -25,8 +25,8 @@ use Rattle.edits.proofs.Steps.{Replayed, Begun, Kept, KeptRun, original
 ---- an undo, by the journal
 
 -- an undo that is not refused before it looks at the journal
-step-undo : (dim : ℕ) (s : Session) → openFault dim s undo-call ≡ fine → step dim s undo-call ≡ undone dim s
-unfolding step
+step-undo : (dim : ℕ) (s : Session) → sessionFault dim s ≡ fine → step dim s undo-call ≡ undone dim s
+unfolding step openFault
 step-undo dim s e = rw e refl
 
 -- nothing to take off

@@ -34,16 +34,16 @@ abbrev pub isSome : Option Spot → Bool
 isSome none = false
 isSome (some x) = true
 
--- 13: an element starts at the place
+-- 13 unless an element starts at the place
 abbrev pub startsAt : List Spot → ℕ → Bool
 startsAt xs p = isSome (spotIn xs p)
 
--- 14: the deleted flag is not yet as wanted
+-- 14 unless the deleted flag is still to be changed
 abbrev pub flagDiffers : Bool → ℕ → Bool
 flagDiffers true w = eqb (deletedOf w) 0
 flagDiffers false w = eqb (deletedOf w) 1
 
--- 18: it is a type 1 or 2
+-- 18 unless it is a type 1 or 2
 abbrev pub isCell : List ℕ → ℕ → Bool
 isCell ws p = eqb (typeAt ws p) 1 || eqb (typeAt ws p) 2
 
@@ -69,8 +69,8 @@ abbrev pub endsAt : Option Spot → ℕ → Bool
 endsAt none p = false
 endsAt (some x) p = eqb (x .end) p
 
--- 13 of an insert: the named header is one, and at the place a direct component of it starts or its list ends; at the
--- top the list ends at the marker
+-- 13 of an insert unless the named header is one, and at the place a direct component of it starts or its list ends; at
+-- the top the list ends at the marker
 unfoldable pub gapOk : List Spot → List ℕ → Option ℕ → ℕ → Bool
 gapOk xs ws none p = under? (spotIn xs p) none || eqb p (length ws - 1)
 gapOk xs ws (some h) p =

@@ -50,12 +50,13 @@ usedWords s n = words (take n s)
 abbrev pub endsInMarker : List ℕ → Bool
 endsInMarker ws = leb 1 (length ws) && eqb (wordAt ws (length ws - 1)) 65535
 
--- 1: the dimension, the buffers, the used lengths, the last used word
+-- 1 unless the dimension, the buffers, the used lengths and the last used word are right
 unfoldable pub sessionOk : ℕ → Session → Bool
 sessionOk dim s =
     (eqb dim 2 || eqb dim 3)
     && (usedOk (s .file) (s .used) && (usedOk (s .journal) (s .jused) && endsInMarker (usedWords (s .file) (s .used))))
 
+-- 1 unless the piece of an insert may be lent
 abbrev pub pieceOk : Call → Bool
 pieceOk (mark-call p deleted) = true
 pieceOk (rename-call p text) = true
@@ -68,10 +69,15 @@ abbrev pub fileFault : Verdict → ℕ → Fault?
 fileFault (Good next e d k) last = unless (eqb next last) 1
 fileFault (Fault n p) last = fault n p
 
-unfoldable pub openFault : ℕ → Session → Call → Fault?
-openFault dim s c =
-    orElse (unless (sessionOk dim s && pieceOk c) 1)
+-- the refusal of a session: 1, then these; fine where it opens
+unfoldable pub sessionFault : ℕ → Session → Fault?
+sessionFault dim s =
+    orElse (unless (sessionOk dim s) 1)
     (fileFault (topOf dim (usedWords (s .file) (s .used))) (length (usedWords (s .file) (s .used)) - 1))
+
+-- the refusal of a call before it looks at its arguments: 1 also for its piece
+unfoldable pub openFault : ℕ → Session → Call → Fault?
+openFault dim s c = orElse (unless (pieceOk c) 1) (sessionFault dim s)
 
 -- the buffer with the words ws used: zero where words were freed, and the rest as it was
 unfoldable pub stored : List ℕ → ℕ → List ℕ → List ℕ

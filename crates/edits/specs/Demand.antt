@@ -10,7 +10,7 @@ use Rattle.files.specs.Judge.{judgeOf}
 use Rattle.files.specs.declared.Judged.the-variants.{Accepted}
 use Rattle.edits.specs.declared.Edited.the-variants.{Refused}
 use Rattle.edits.specs.Allowed.{fine}
-use Rattle.edits.specs.Calls.{Session, Call, mark-call, rename-call, insert-call, remove-call, undo-call, usedWords, openFault, step}
+use Rattle.edits.specs.Calls.{Session, Call, mark-call, rename-call, insert-call, remove-call, undo-call, usedWords, sessionFault, step}
 use Rattle.edits.specs.Book.{Run, ran, noting, wasRefused, applied, undos}
 
 -- what a run starts with
@@ -22,7 +22,7 @@ pub record Opened (dim : ℕ) (s : Session) : Type 0 where
   -- the journal holds no record
   pub journal-empty : s .jused ≡ 0
   -- no refusal by 1 (dimension, buffers, used lengths, last used word), by the file's own, or by an earlier marker
-  pub ready : openFault dim s undo-call ≡ fine
+  pub ready : sessionFault dim s ≡ fine
 
 -- the pieces of a list of calls are bytes
 abbrev pub PieceBytes : Call → Type 0
@@ -61,7 +61,7 @@ pub record Demand3 (dim : ℕ) (s : Session) (r : Run) : Type 0 where
   -- the file is accepted, with its marker as the last used word
   pub accepted : AcceptedFile dim (r .session)
   -- no refusal by 1, by the file's own, or by an earlier marker, as at the start
-  pub ready : openFault dim (r .session) undo-call ≡ fine
+  pub ready : sessionFault dim (r .session) ≡ fine
   -- the file's buffer keeps its length
   pub file-length : length (r .session .file) ≡ length (s .file)
   -- the journal's buffer keeps its length

@@ -1,19 +1,19 @@
 -- Laws of the rules of one element: no fault is that every test passes, and what the answer then is.
-use Prim.Native.Nat.{ℕ, _+_, _-_, _≤_}
-use mathlib.Core.Path.{_≡_, refl, sym, subst, _∙_}
+use Prim.Native.Nat.{ℕ, _+_, _*_, _-_, _/_, _%_, _<_, _≤_}
+use mathlib.Core.Path.{_≡_, refl, sym, ap, subst, _∙_}
 use mathlib.Core.List.{List, [], _∷_, _++_}
-use mathlib.Core.Bool.{Bool, true, false, cond, not, _&&_, _||_, and-eq-true-iff}
+use mathlib.Core.Bool.{Bool, true, false, cond, not, _&&_, _||_, false≢true, or-true, and-true, and-false, and-eq-true-iff}
 use native.Mathlib.Omega.{arith}
 use lib.Dec.{eqb, leb}
-use borrow.Author.Tests.{leb-true, eqb-true, eqb-false, ne-eqb, not-true, not-false}
+use borrow.Author.Tests.{leb-true, leb-false, le-leb, lt-leb, eqb-true, eqb-false, eq-eqb, ne-eqb, not-true, not-false}
 use Rattle.words.specs.Words.{words, wordAt}
-use Rattle.elements.specs.Header.{typeAt, sizeAt, pointsAt, extentAt}
-use Rattle.elements.specs.Kinds.{isHeader, isLinked, isPointed, fixedPart, mayStand}
-use Rattle.elements.specs.Attributes.{linkagesOk}
+use Rattle.elements.specs.Header.{typeOf, typeAt, sizeAt, pointsAt, extentAt, attributesAt}
+use Rattle.elements.specs.Kinds.{isHeader, isLinked, isPointed, isUnread, fixedPart, mayStand}
+use Rattle.elements.specs.Attributes.{attributesOk, linkagesOk}
 use Rattle.elements.specs.Rules.{reservedOk, placeOk, pointsOk, fixedOk, extentOk, storedNameOk, Check, check, firstFault, checks, faultOf, headOf, HeadRead}
 use Rattle.elements.specs.declared.Head.{Head}
 use Rattle.elements.specs.declared.Head.the-variants.{Bad, Plain, Complex}
-use Rattle.elements.proofs.Types.{header-long, linked-long}
+use Rattle.elements.proofs.Types.{header-long, linked-long, fixed-any, not-header, raw-pointless, raw-part, header-pointless, stands-raw}
 
 -- all tests of an element pass
 pub record Checked (dim depth under : ℕ) (ws : List ℕ) (at bound : ℕ) : Type 0 where
@@ -36,7 +36,7 @@ pub accepted : {r t : Bool} → r ≡ t → not r ≡ false → t ≡ true
 accepted {r} e h = sym e ∙ not-false r h
 
 -- a test of two parts passes where both do
-both-true : (a b : Bool) → (a && b) ≡ true → (a ≡ true) × (b ≡ true)
+pub both-true : (a b : Bool) → (a && b) ≡ true → (a ≡ true) × (b ≡ true)
 both-true a b e = and-eq-true-iff a b .0 e
 
 ---- the sizes that the fixed part gives
@@ -69,6 +69,112 @@ extent-within ws at room e h =
     let r = both-true (leb (extentAt ws at) room) _ (q .1) in
     (leb-true _ _ (q .0), leb-true _ _ (r .0))
 
+---- the tests that a type decides
+
+module _ (dim : ℕ) (ws : List ℕ) (at : ℕ) where
+  -- without points only the size is tested
+  pub fixed-pointless : isPointed (typeAt ws at) ≡ false → fixedOk dim ws at ≡ leb (fixedPart dim (typeAt ws at) 0) (sizeAt ws at)
+  unfolding fixedOk
+  fixed-pointless e = simp (e, fixed-any dim (typeAt ws at) (pointsAt ws at) 0 e)
+
+  pub fixed-pointed : (not (isPointed (typeAt ws at)) || pointsOk ws at) ≡ true → fixedOk dim ws at ≡ leb (fixedPart dim (typeAt ws at) (pointsAt ws at)) (sizeAt ws at)
+  unfolding fixedOk
+  fixed-pointed e = rw e
+
+  pub fixed-points : (not (isPointed (typeAt ws at)) || pointsOk ws at) ≡ false → fixedOk dim ws at ≡ false
+  unfolding fixedOk
+  fixed-points e = rw e
+
+  pub fixed-raw : isHeader (typeAt ws at) ≡ false → isLinked (typeAt ws at) ≡ false → fixedOk dim ws at ≡ true
+  fixed-raw h k =
+      fixed-pointless (raw-pointless (typeAt ws at) k)
+      ∙ ap (λ (n : ℕ). leb n (sizeAt ws at)) (raw-part dim (typeAt ws at) 0 h k)
+      ∙ le-leb 2 (sizeAt ws at) (omega arith)
+
+  pub linkages-linked : isLinked (typeAt ws at) ≡ true → linkagesOk dim ws at ≡ (not (attributesAt ws at) || attributesOk dim ws at)
+  unfolding linkagesOk
+  linkages-linked e = rw e
+
+  pub linkages-none : isLinked (typeAt ws at) ≡ false → linkagesOk dim ws at ≡ true
+  unfolding linkagesOk
+  linkages-none e = rw e
+
+pub extent-simple : (ws : List ℕ) (at room : ℕ) → isHeader (typeAt ws at) ≡ false → extentOk ws at room ≡ leb (sizeAt ws at) 65535
+unfolding extentOk
+extent-simple ws at room e = simp (e, and-true)
+
+-- a header whose extent is not above 65,535 words is not larger itself
+size-with : (n e room : ℕ) → (leb n 65535 && (leb n e && (leb e room && leb e 65535))) ≡ (leb n e && (leb e room && leb e 65535))
+size-with n e room = go (leb n 65535) refl
+  where
+    go : (b : Bool) → leb n 65535 ≡ b → (b && (leb n e && (leb e room && leb e 65535))) ≡ (leb n e && (leb e room && leb e 65535))
+    go true q = refl
+    go false q = from (leb n e) (leb e 65535) refl refl
+      where
+        from : (c d : Bool) → leb n e ≡ c → leb e 65535 ≡ d → false ≡ (c && (leb e room && d))
+        from false d p r = refl
+        from true false p r = simp and-false
+        from true true p r = let x = leb-false n 65535 q in let y = leb-true n e p in let z = leb-true e 65535 r in absurd (omega arith)
+
+pub extent-header : (ws : List ℕ) (at room : ℕ) → isHeader (typeAt ws at) ≡ true → extentOk ws at room ≡ (leb (sizeAt ws at) (extentAt ws at) && (leb (extentAt ws at) room && leb (extentAt ws at) 65535))
+unfolding extentOk
+extent-header ws at room e = rw e (size-with (sizeAt ws at) (extentAt ws at) room)
+
+pub name-simple : (ws : List ℕ) (at : ℕ) → isHeader (typeAt ws at) ≡ false → storedNameOk ws at ≡ true
+unfolding storedNameOk
+name-simple ws at h = simp (not-header (typeAt ws at) 1 h refl, not-header (typeAt ws at) 2 h refl)
+
+-- the same of an element whose type, size and fixed part were read
+module _ (dim : ℕ) (ws : List ℕ) (at t size : ℕ) (q : t ≡ typeAt ws at) (z : size ≡ sizeAt ws at) where
+  pub plain-short : (fixed : ℕ) → fixed ≡ fixedPart dim t (pointsAt ws at) → (not (isPointed t) || pointsOk ws at) ≡ true → size < fixed → fixedOk dim ws at ≡ false
+  plain-short fixed e p h = fixed-pointed dim ws at (rw q at p) ∙ lt-leb _ _ (rw (e, q, z) at h)
+
+  pub plain-long : (fixed : ℕ) → fixed ≡ fixedPart dim t (pointsAt ws at) → (not (isPointed t) || pointsOk ws at) ≡ true → fixed ≤ size → fixedOk dim ws at ≡ true
+  plain-long fixed e p h = fixed-pointed dim ws at (rw q at p) ∙ le-leb _ _ (rw (e, q, z) at h)
+
+  pub header-short : (fixed : ℕ) → fixed ≡ fixedPart dim t 0 → isHeader t ≡ true → size < fixed → fixedOk dim ws at ≡ false
+  header-short fixed e k h = fixed-pointless dim ws at (header-pointless (typeAt ws at) (rw q at k)) ∙ lt-leb _ _ (rw (e, q, z) at h)
+
+  pub header-fixed : (fixed : ℕ) → fixed ≡ fixedPart dim t 0 → isHeader t ≡ true → fixed ≤ size → fixedOk dim ws at ≡ true
+  header-fixed fixed e k h = fixed-pointless dim ws at (header-pointless (typeAt ws at) (rw q at k)) ∙ le-leb _ _ (rw (e, q, z) at h)
+
+  pub header-part : (fixed : ℕ) → fixed ≡ fixedPart dim t 0 → isHeader t ≡ true → fixed ≡ fixedPart dim (typeAt ws at) (pointsAt ws at)
+  header-part fixed e k = e ∙ fixed-any dim t 0 (pointsAt ws at) (header-pointless t k) ∙ ap (λ (u : ℕ). fixedPart dim u (pointsAt ws at)) q
+
+-- an element with points has its N
+pub points-size : (ws : List ℕ) (at t : ℕ) → (not (isPointed t) || pointsOk ws at) ≡ true → isPointed t ≡ true → 19 ≤ sizeAt ws at
+points-size ws at t e h = leb-true 19 (sizeAt ws at) (both-true (leb 19 (sizeAt ws at)) _ (rw h at e) .0)
+
+---- bits 6 and 7 of word 0
+
+two-bits : (x k : ℕ) → x % 2 ≡ 0 → x / 2 % 2 ≡ k → x % 4 ≡ 2 * k
+two-bits x k p q = omega arith
+
+both-bits : (w k : ℕ) → w / 64 % 2 ≡ 0 → w / 128 % 2 ≡ k → w / 64 % 4 ≡ 2 * k
+both-bits w k p q =
+    let e : w / 128 ≡ w / 64 / 2 = omega arith in
+    two-bits (w / 64) k p (rw e at q)
+
+module _ (w depth : ℕ) where
+  pub flags-met : w / 64 % 4 ≡ cond (eqb depth 0) 0 2 → (reservedOk w && placeOk depth w) ≡ true
+  unfolding reservedOk placeOk
+  flags-met e = let p = go (eqb depth 0) e in simp (p .0, p .1, or-true)
+    where
+      go : (b : Bool) → w / 64 % 4 ≡ cond b 0 2 → (eqb (w / 64 % 2) 0 ≡ true) × (eqb (w / 128 % 2) (cond b 0 1) ≡ true)
+      go true e = (eq-eqb (w / 64 % 2) 0 (omega arith), eq-eqb (w / 128 % 2) 0 (omega arith))
+      go false e = (eq-eqb (w / 64 % 2) 0 (omega arith), eq-eqb (w / 128 % 2) 1 (omega arith))
+
+  pub flags-unmet : (w / 64 % 4 ≡ cond (eqb depth 0) 0 2 → ⊥) → (reservedOk w && placeOk depth w) ≡ eqb (typeOf w) 9
+  unfolding reservedOk placeOk
+  flags-unmet = go (eqb (typeOf w) 9) (eqb (w / 64 % 2) 0) (eqb depth 0) (eqb (w / 128 % 2) (cond (eqb depth 0) 0 1)) refl refl
+    where
+      go : (n r b c : Bool) → eqb (w / 64 % 2) 0 ≡ r → eqb (w / 128 % 2) (cond b 0 1) ≡ c → (w / 64 % 4 ≡ cond b 0 2 → ⊥) → ((n || r) && (n || c)) ≡ n
+      go true r b c p q h = refl
+      go false false b c p q h = refl
+      go false true b false p q h = refl
+      go false true true true p q h = absurd (h (both-bits w 0 (eqb-true (w / 64 % 2) 0 p) (eqb-true (w / 128 % 2) 0 q)))
+      go false true false true p q h = absurd (h (both-bits w 1 (eqb-true (w / 64 % 2) 0 p) (eqb-true (w / 128 % 2) 1 q)))
+
 ---- the first fault, check by check
 
 -- the number n is that of the first test of the list that fails: each test before it passes
@@ -81,6 +187,42 @@ pub first : (cs : List Check) {n : ℕ} → First cs n → n ≡ firstFault cs
 first _ (pass e p) = rw e (first _ p)
 first _ (stop e) = rw e
 first _ (tail cs e) = e
+
+-- bit 6 decides which of the checks 4 and 5 fails
+pub flags-stop : (w depth : ℕ) (cs : List Check) → (reservedOk w && placeOk depth w) ≡ false → First (check (reservedOk w) 4 ∷ check (placeOk depth w) 5 ∷ cs) (cond (eqb (w / 64 % 2) 0) 5 4)
+unfolding reservedOk placeOk
+flags-stop w depth cs = go (eqb (typeOf w) 9) (eqb (w / 64 % 2) 0) (eqb (w / 128 % 2) (cond (eqb depth 0) 0 1))
+  where
+    go : (n r c : Bool) → ((n || r) && (n || c)) ≡ false → First (check (n || r) 4 ∷ check (n || c) 5 ∷ cs) (cond r 5 4)
+    go true r c e = absurd (false≢true (sym e))
+    go false true c e = pass refl (stop e)
+    go false false c e = stop refl
+
+-- the checks that a raw type leaves
+pub raw-same : (dim under : ℕ) (ws : List ℕ) (at t size : ℕ) → t ≡ typeAt ws at → isHeader t ≡ false → isLinked t ≡ false → firstFault (check (not (eqb under 7)) 6 ∷ check (not (isUnread t)) 6 ∷ check (leb size 65535) 8 ∷ []) ≡ firstFault (check (mayStand dim under t) 6 ∷ check (fixedOk dim ws at) 7 ∷ check (leb size 65535) 8 ∷ check (linkagesOk dim ws at) 11 ∷ [])
+raw-same dim under ws at t size q h k =
+    rw (stands-raw dim under t h k, fixed-raw dim ws at (rw q at h) (rw q at k), linkages-none dim ws at (rw q at k)) (go (eqb under 7) (isUnread t) (leb size 65535))
+  where
+    go : (u v c : Bool) → firstFault (check (not u) 6 ∷ check (not v) 6 ∷ check c 8 ∷ []) ≡ firstFault (check (not v && not u) 6 ∷ check true 7 ∷ check c 8 ∷ check true 11 ∷ [])
+    go true true c = refl
+    go true false c = refl
+    go false true c = refl
+    go false false true = refl
+    go false false false = refl
+
+-- the checks that a type that is no header leaves
+pub simple-same : (ws : List ℕ) (at room : ℕ) (m f l : Bool) → isHeader (typeAt ws at) ≡ false → firstFault (check m 6 ∷ check f 7 ∷ check (leb (sizeAt ws at) 65535) 8 ∷ check l 11 ∷ []) ≡ firstFault (check m 6 ∷ check f 7 ∷ check (extentOk ws at room) 8 ∷ check l 11 ∷ check (storedNameOk ws at) 12 ∷ [])
+simple-same ws at room m f l h =
+    go m f (leb (sizeAt ws at) 65535) l
+    ∙ ap (λ (b : Bool). firstFault (check m 6 ∷ check f 7 ∷ check b 8 ∷ check l 11 ∷ check true 12 ∷ [])) (sym (extent-simple ws at room h))
+    ∙ ap (λ (b : Bool). firstFault (check m 6 ∷ check f 7 ∷ check (extentOk ws at room) 8 ∷ check l 11 ∷ check b 12 ∷ [])) (sym (name-simple ws at h))
+  where
+    go : (m f e l : Bool) → firstFault (check m 6 ∷ check f 7 ∷ check e 8 ∷ check l 11 ∷ []) ≡ firstFault (check m 6 ∷ check f 7 ∷ check e 8 ∷ check l 11 ∷ check true 12 ∷ [])
+    go false f e l = refl
+    go true false e l = refl
+    go true true false l = refl
+    go true true true false = refl
+    go true true true true = refl
 
 -- each number is above 0
 abbrev pub numbered : List Check → Bool

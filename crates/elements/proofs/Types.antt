@@ -1,14 +1,14 @@
 -- Laws of the types: what an arm of a `match` says of a type, and how long the fixed part of a known type is at least.
 use Prim.Native.Nat.{ℕ, _+_, _*_, _≤_}
-use mathlib.Core.Path.{_≡_, refl, subst⁻¹}
+use mathlib.Core.Path.{_≡_, refl, sym, ap, subst⁻¹, _∙_}
 use mathlib.Core.Logic.{⊎-elim, inl, inr}
 use mathlib.Core.List.{List, [], _∷_}
-use mathlib.Core.Bool.{Bool, true, false, cond, not, _&&_, _||_, false≢true, and-false, and-eq-true-iff}
+use mathlib.Core.Bool.{Bool, true, false, cond, not, _&&_, _||_, false≢true, or-false, and-true, and-false, and-eq-true-iff}
 use native.Mathlib.Omega.{arith}
 use borrow.Author.Tests.{ne-eqb, eqb-true}
 use types.Run.{OneOf}
 use lib.Dec.{eqb}
-use Rattle.elements.specs.Kinds.{oneOf, isHeader, isPointed, isLinked, fixedPart, underOk}
+use Rattle.elements.specs.Kinds.{oneOf, isHeader, isPointed, isLinked, isUnread, fixedPart, underOk, mayStand}
 
 -- a property of each number of a list
 abbrev pub Each : (ℕ → Type 0) → List ℕ → Type 0
@@ -99,3 +99,100 @@ no-header-by false c = refl
 
 pub no-header : (t : ℕ) → not (isHeader t) ≡ (not (eqb t 1 && true) && not (isHeader t))
 no-header t = no-header-by (eqb t 1) (oneOf (2 ∷ 7 ∷ 12 ∷ 14 ∷ 18 ∷ 19 ∷ []) t)
+
+---- the three kinds of types: headers, other known types, raw types
+
+-- a type that a list does not name is none of its types
+apart : (ks : List ℕ) (t k : ℕ) → oneOf ks t ≡ false → oneOf ks k ≡ true → eqb t k ≡ false
+apart ks t k out named = ne-eqb t k (λ e. false≢true (sym (rw e at out) ∙ named))
+
+pub not-header : (t k : ℕ) → isHeader t ≡ false → isHeader k ≡ true → eqb t k ≡ false
+not-header t k = apart (1 ∷ 2 ∷ 7 ∷ 12 ∷ 14 ∷ 18 ∷ 19 ∷ []) t k
+
+not-linked : (t k : ℕ) → isLinked t ≡ false → isLinked k ≡ true → eqb t k ≡ false
+not-linked t k = apart (2 ∷ 3 ∷ 4 ∷ 6 ∷ 7 ∷ 11 ∷ 12 ∷ 14 ∷ 17 ∷ 18 ∷ 19 ∷ 21 ∷ []) t k
+
+-- where a type that is no header may stand
+under-seven : (u t : Bool) → not (u && not t) ≡ (not u || t)
+under-seven true true = refl
+under-seven true false = refl
+under-seven false t = refl
+
+stands : (dim under t : ℕ) → isHeader t ≡ false → mayStand dim under t ≡ (not (isUnread t) && (not (eqb under 7) || eqb t 17))
+unfolding mayStand
+stands dim under t h =
+    simp (
+      not-header t 1 h refl,
+      not-header t 2 h refl,
+      not-header t 7 h refl,
+      not-header t 12 h refl,
+      not-header t 14 h refl,
+      not-header t 18 h refl,
+      not-header t 19 h refl,
+      and-false,
+      and-true,
+      under-seven (eqb under 7) (eqb t 17),
+    )
+
+-- a known type is read
+linked-read : (t : ℕ) → isLinked t ≡ true → isUnread t ≡ false
+linked-read t k = each-named (λ (t : ℕ). isUnread t ≡ false) (2 ∷ 3 ∷ 4 ∷ 6 ∷ 7 ∷ 11 ∷ 12 ∷ 14 ∷ 17 ∷ 18 ∷ 19 ∷ 21 ∷ []) t (refl, (refl, (refl, (refl, (refl, (refl, (refl, (refl, (refl, (refl, (refl, (refl, tt)))))))))))) k
+
+pub stands-plain : (dim under t : ℕ) → isHeader t ≡ false → isLinked t ≡ true → mayStand dim under t ≡ (not (eqb under 7) || eqb t 17)
+stands-plain dim under t h k = stands dim under t h ∙ ap (λ (b : Bool). not b && (not (eqb under 7) || eqb t 17)) (linked-read t k)
+
+pub stands-raw : (dim under t : ℕ) → isHeader t ≡ false → isLinked t ≡ false → mayStand dim under t ≡ (not (isUnread t) && not (eqb under 7))
+stands-raw dim under t h k =
+    stands dim under t h
+    ∙ ap (λ (b : Bool). not (isUnread t) && (not (eqb under 7) || b)) (not-linked t 17 k refl)
+    ∙ ap (λ (b : Bool). not (isUnread t) && b) (or-false (not (eqb under 7)))
+
+other : {P : Type 0} → true ≡ false → P
+other e = absurd (false≢true (sym e))
+
+-- a known type that is no header, 3 or 17 has points
+pub plain-pointed : (t : ℕ) → isLinked t ≡ true → isHeader t ≡ false → eqb t 3 ≡ false → eqb t 17 ≡ false → isPointed t ≡ true
+plain-pointed t =
+    each-named (λ (t : ℕ). isHeader t ≡ false → eqb t 3 ≡ false → eqb t 17 ≡ false → isPointed t ≡ true) (2 ∷ 3 ∷ 4 ∷ 6 ∷ 7 ∷ 11 ∷ 12 ∷ 14 ∷ 17 ∷ 18 ∷ 19 ∷ 21 ∷ []) t (
+      λ h a b. other h,
+      (
+        λ h a b. other a,
+        (λ h a b. refl, (λ h a b. refl, (λ h a b. other h, (λ h a b. refl, (λ h a b. other h, (λ h a b. other h, (λ h a b. other b, (λ h a b. other h, (λ h a b. other h, (λ h a b. refl, tt)))))))))),
+      ),
+    )
+
+pub pointed-part : (dim t n : ℕ) → isPointed t ≡ true → fixedPart dim t n ≡ cond (eqb dim 2) (19 + 4 * n) (19 + 6 * n)
+unfolding fixedPart
+pointed-part dim t n = each-named (λ (t : ℕ). fixedPart dim t n ≡ cond (eqb dim 2) (19 + 4 * n) (19 + 6 * n)) (4 ∷ 6 ∷ 11 ∷ 21 ∷ []) t (refl, (refl, (refl, (refl, tt))))
+
+-- a raw type has no points, and a fixed part of two words
+pub raw-pointless : (t : ℕ) → isLinked t ≡ false → isPointed t ≡ false
+raw-pointless t k = simp (not-linked t 4 k refl, not-linked t 6 k refl, not-linked t 11 k refl, not-linked t 21 k refl)
+
+pub raw-part : (dim t n : ℕ) → isHeader t ≡ false → isLinked t ≡ false → fixedPart dim t n ≡ 2
+unfolding fixedPart
+raw-part dim t n h k =
+    simp (
+      not-header t 1 h refl,
+      not-linked t 2 k refl,
+      not-linked t 3 k refl,
+      not-linked t 4 k refl,
+      not-linked t 6 k refl,
+      not-linked t 7 k refl,
+      not-linked t 11 k refl,
+      not-linked t 12 k refl,
+      not-linked t 14 k refl,
+      not-linked t 17 k refl,
+      not-linked t 18 k refl,
+      not-linked t 19 k refl,
+      not-linked t 21 k refl,
+    )
+
+-- a header has no points, and attributes unless it is of type 1
+pub header-pointless : (t : ℕ) → isHeader t ≡ true → isPointed t ≡ false
+header-pointless t = each-named (λ (t : ℕ). isPointed t ≡ false) (1 ∷ 2 ∷ 7 ∷ 12 ∷ 14 ∷ 18 ∷ 19 ∷ []) t (refl, (refl, (refl, (refl, (refl, (refl, (refl, tt)))))))
+
+pub header-linked : (t : ℕ) → isHeader t ≡ true → eqb t 1 ≡ false → isLinked t ≡ true
+header-linked t =
+    each-named (λ (t : ℕ). eqb t 1 ≡ false → isLinked t ≡ true) (1 ∷ 2 ∷ 7 ∷ 12 ∷ 14 ∷ 18 ∷ 19 ∷ []) t
+    (other, (λ e. refl, (λ e. refl, (λ e. refl, (λ e. refl, (λ e. refl, (λ e. refl, tt)))))))

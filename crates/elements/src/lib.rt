@@ -1,13 +1,15 @@
 // One element alone: the fields of its header, its type, and all rules that do not look at its components. The
 // definitions are in specs/: Header (fields), Kinds (types), Attributes, Rules (the order of checks).
 ghost use mathlib.Core.Path.{_≡_};
-ghost use mathlib.Core.Bool.{true, cond};
-ghost use Prim.Native.Nat.{_+_, _<_, _≤_, _^_};
+ghost use mathlib.Core.Bool.{true, false, cond, not, _&&_, _||_};
+ghost use mathlib.Core.List.{[], _∷_};
+ghost use Prim.Native.Nat.{ℕ, _+_, _<_, _≤_, _^_};
+ghost use lib.Dec.{eqb, leb};
 ghost use Rattle.words.specs.Words.{words};
-ghost use Rattle.elements.specs.Header.{typeOf, typeAt, sizeAt};
-ghost use Rattle.elements.specs.Kinds.{isHeader, isCounted, isPointed, isLinked, isRead, fixedPart, underOk, mayStand};
+ghost use Rattle.elements.specs.Header.{typeOf, typeAt, sizeAt, pointsAt, extentAt, attributesAt};
+ghost use Rattle.elements.specs.Kinds.{isHeader, isCounted, isPointed, isLinked, isUnread, isRead, fixedPart, underOk, mayStand};
 ghost use Rattle.elements.specs.Attributes.{attributesOk, linkagesOk};
-ghost use Rattle.elements.specs.Rules.{reservedOk, placeOk, fixedOk, extentOk, storedNameOk, firstFault, placeChecks, contentChecks, HeadRead, countOk};
+ghost use Rattle.elements.specs.Rules.{reservedOk, placeOk, pointsOk, fixedOk, storedNameOk, check, firstFault, contentChecks, HeadRead, countOk};
 
 // What one element is read as: refused with a number; an element that its own words end; or a header, whose
 // components stand from `inner` to `end`.
@@ -147,34 +149,79 @@ pub fn may_stand(dim: usize, under: usize, t: usize) -> bool
     false
 }
 
-// 4: bit 6 of word 0.
-fn reserved_ok(w: usize) -> bool
-    ensures { λ r. ⌜ r ≡ reservedOk w ⌝ }
+// 4 and 5: bits 6 and 7 of word 0, as one number.
+fn flags_ok(w: usize, depth: usize) -> bool
+    ensures { λ r. ⌜ r ≡ (reservedOk w && placeOk depth w) ⌝ }
 {
-    if w / 64 % 2 == 0 {
+    if w / 64 % 4 == pick(depth == 0, 0, 2) {
         return true;
     }
     type_of(w) == 9
 }
 
-// 5: C in word 0.
-fn place_ok(depth: usize, w: usize) -> bool
-    ensures { λ r. ⌜ r ≡ placeOk depth w ⌝ }
+// The number of the first fault in bits 6 and 7 of word 0 and in the depth, 0 where there is none.
+fn flag_fault(w: usize, depth: usize) -> usize
+    ensures { λ r. ⌜ r ≡ firstFault (check (reservedOk w) 4 ∷ check (placeOk depth w) 5 ∷ check (leb depth 8) 10 ∷ []) ⌝ }
 {
-    if w / 128 % 2 == pick(depth == 0, 0, 1) {
-        return true;
+    if !flags_ok(w, depth) {
+        return pick(w / 64 % 2 == 0, 5, 4);
     }
-    type_of(w) == 9
+    if 8 < depth {
+        return 10;
+    }
+    0
 }
 
-// 7: the fixed part, and N of the types that have points. Word 18 is read only where it is the element's own.
-fn fixed_ok(s: &[u8], at: usize, t: usize, size: usize, dim: usize) -> bool
-    requires { ⌜ (t ≡ typeAt (words (now s)) at) × (size ≡ sizeAt (words (now s)) at) ⌝ }
-    requires { ⌜ at + size < 2 ^ 64 ⌝ }
-    ensures { λ r. ⌜ r ≡ fixedOk dim (words (now (s .entry))) at ⌝ }
+// 8, of an element that is no header.
+fn size_ok(size: usize) -> bool
+    ensures { λ r. ⌜ r ≡ leb size 65535 ⌝ }
+{
+    size <= 65535
+}
+
+// 6, of a known type that is no header: only type 17 may stand under 7.
+fn text_ok(under: usize, t: usize) -> bool
+    ensures { λ r. ⌜ r ≡ (not (eqb under 7) || eqb t 17) ⌝ }
+{
+    if under == 7 {
+        return t == 17;
+    }
+    true
+}
+
+// The types that are refused wherever they stand.
+fn is_unread(t: usize) -> bool
+    ensures { λ r. ⌜ r ≡ isUnread t ⌝ }
+{
+    match t {
+        24 | 27 | 87 => true,
+        _ => false,
+    }
+}
+
+// The number of the first fault of a raw element, 0 where there is none.
+fn raw_fault(t: usize, size: usize, under: usize) -> usize
+    ensures { λ r. ⌜ r ≡ firstFault (check (not (eqb under 7)) 6 ∷ check (not (isUnread t)) 6 ∷ check (leb size 65535) 8 ∷ []) ⌝ }
+{
+    if under == 7 {
+        return 6;
+    }
+    if is_unread(t) {
+        return 6;
+    }
+    if !size_ok(size) {
+        return 8;
+    }
+    0
+}
+
+// 7: N of the types that have points. Word 18 is read only where it is the element's own.
+fn points_ok(s: &[u8], at: usize, t: usize, size: usize) -> bool
+    requires { ⌜ (size ≡ sizeAt (words (now s)) at) × (at + size < 2 ^ 64) ⌝ }
+    ensures { λ r. ⌜ r ≡ (not (isPointed t) || pointsOk (words (now (s .entry))) at) ⌝ }
 {
     if !is_pointed(t) {
-        return fixed_part(dim, t, 0) <= size;
+        return true;
     }
     if size < 19 {
         return false;
@@ -183,24 +230,86 @@ fn fixed_ok(s: &[u8], at: usize, t: usize, size: usize, dim: usize) -> bool
     if n < 2 {
         return false;
     }
-    if 101 < n {
-        return false;
-    }
-    fixed_part(dim, t, n as u16) <= size
+    n <= 101
 }
 
-// 8: the size, and the extent of a header.
-fn extent_ok(s: &[u8], at: usize, t: usize, size: usize, room: usize) -> bool
-    requires { ⌜ (t ≡ typeAt (words (now s)) at) × (size ≡ sizeAt (words (now s)) at) ⌝ }
-    requires { ⌜ (isHeader t ≡ true → at + 20 < 2 ^ 64) ⌝ }
-    ensures { λ r. ⌜ r ≡ extentOk (words (now (s .entry))) at room ⌝ }
+// The fixed part of a known type that is no header.
+fn plain_part(s: &[u8], at: usize, t: usize, dim: usize) -> usize
+    requires { ⌜ (isLinked t ≡ true) × (isHeader t ≡ false) ⌝ }
+    requires { ⌜ (isPointed t ≡ true → at + 18 < 2 ^ 64) ⌝ }
+    ensures { λ r. ⌜ r ≡ fixedPart dim t (pointsAt (words (now (s .entry))) at) ⌝ }
 {
-    if 65535 < size {
-        return false;
+    if t == 3 {
+        return pick(dim == 2, 26, 30);
     }
-    if !is_header(t) {
+    if t == 17 {
+        return 18;
+    }
+    let n = words::word(s, at + 18);
+    pick(dim == 2, 19 + 4 * n, 19 + 6 * n)
+}
+
+// The attribute part, where A is set: where it begins, and that linkages fill it. The fixed part is given.
+fn attributes_ok(s: &[u8], at: usize, fixed: usize, size: usize) -> bool
+    requires { ⌜ size ≡ sizeAt (words (now s)) at ⌝ }
+    requires { ⌜ (18 ≤ size) × (at + size < 2 ^ 64) ⌝ }
+    ensures { λ r. ⌜ ((dim : ℕ) → fixed ≡ fixedPart dim (typeAt (words (now (s .entry))) at) (pointsAt (words (now (s .entry))) at) → r ≡ (not (attributesAt (words (now (s .entry))) at) || attributesOk dim (words (now (s .entry))) at)) ⌝ }
+{
+    if words::word(s, at + 16) / 2048 % 2 != 1 {
         return true;
     }
+    let part = 16 + words::word(s, at + 15);
+    if part < fixed {
+        return false;
+    }
+    if size < part {
+        return false;
+    }
+    linkages::linkages_fill(s, at + part, at + size)
+}
+
+// The number of the first fault of an element of a known type that is no header, 0 where there is none.
+fn plain_fault(s: &[u8], at: usize, t: usize, size: usize, under: usize, dim: usize) -> usize
+    requires { ⌜ (t ≡ typeAt (words (now s)) at) × (size ≡ sizeAt (words (now s)) at) ⌝ }
+    requires { ⌜ (isLinked t ≡ true) × ((isHeader t ≡ false) × (at + size < 2 ^ 64)) ⌝ }
+    ensures { λ r. ⌜ r ≡ firstFault (check (not (eqb under 7) || eqb t 17) 6 ∷ check (fixedOk dim (words (now (s .entry))) at) 7 ∷ check (leb size 65535) 8 ∷ check (linkagesOk dim (words (now (s .entry))) at) 11 ∷ []) ⌝ }
+{
+    if !text_ok(under, t) {
+        return 6;
+    }
+    if !points_ok(s, at, t, size) {
+        return 7;
+    }
+    let fixed = plain_part(s, at, t, dim);
+    if size < fixed {
+        return 7;
+    }
+    if !size_ok(size) {
+        return 8;
+    }
+    if !attributes_ok(s, at, fixed, size) {
+        return 11;
+    }
+    0
+}
+
+// The number of the first fault of an element that is no header, 0 where there is none.
+fn simple_fault(s: &[u8], at: usize, t: usize, size: usize, under: usize, dim: usize) -> usize
+    requires { ⌜ (t ≡ typeAt (words (now s)) at) × (size ≡ sizeAt (words (now s)) at) ⌝ }
+    requires { ⌜ (isHeader t ≡ false) × (at + size < 2 ^ 64) ⌝ }
+    ensures { λ r. ⌜ r ≡ firstFault (check (mayStand dim under t) 6 ∷ check (fixedOk dim (words (now (s .entry))) at) 7 ∷ check (leb size 65535) 8 ∷ check (linkagesOk dim (words (now (s .entry))) at) 11 ∷ []) ⌝ }
+{
+    if is_linked(t) {
+        return plain_fault(s, at, t, size, under, dim);
+    }
+    raw_fault(t, size, under)
+}
+
+// 8, of a header: its extent. A size above 65,535 words is above its extent, or its extent is above 65,535 words.
+fn extent_ok(s: &[u8], at: usize, size: usize, room: usize) -> bool
+    requires { ⌜ at + 20 < 2 ^ 64 ⌝ }
+    ensures { λ r. ⌜ r ≡ (leb size (extentAt (words (now (s .entry))) at) && (leb (extentAt (words (now (s .entry))) at) room && leb (extentAt (words (now (s .entry))) at) 65535)) ⌝ }
+{
     let extent = 19 + words::word(s, at + 18);
     if extent < size {
         return false;
@@ -211,41 +320,21 @@ fn extent_ok(s: &[u8], at: usize, t: usize, size: usize, room: usize) -> bool
     extent <= 65535
 }
 
-// The attribute part: where it begins, and that linkages fill it.
-fn attributes_ok(s: &[u8], at: usize, t: usize, size: usize, dim: usize) -> bool
+// 11, of a header, whose fixed part is given: only type 1 has no attributes.
+fn linkages_ok(s: &[u8], at: usize, t: usize, fixed: usize, size: usize) -> bool
     requires { ⌜ (t ≡ typeAt (words (now s)) at) × (size ≡ sizeAt (words (now s)) at) ⌝ }
-    requires { ⌜ (18 ≤ size) × (at + size < 2 ^ 64) ⌝ }
-    ensures { λ r. ⌜ r ≡ attributesOk dim (words (now (s .entry))) at ⌝ }
+    requires { ⌜ (isHeader t ≡ true) × ((18 ≤ size) × (at + size < 2 ^ 64)) ⌝ }
+    ensures { λ r. ⌜ ((dim : ℕ) → fixed ≡ fixedPart dim (typeAt (words (now (s .entry))) at) (pointsAt (words (now (s .entry))) at) → r ≡ linkagesOk dim (words (now (s .entry))) at) ⌝ }
 {
-    let part = 16 + words::word(s, at + 15);
-    if part < fixed_part(dim, t, words::word(s, at + 18) as u16) {
-        return false;
-    }
-    if size < part {
-        return false;
-    }
-    linkages::linkages_fill(s, at + part, at + size)
-}
-
-// 11: the attribute part of the elements that have one.
-fn linkages_ok(s: &[u8], at: usize, t: usize, size: usize, dim: usize) -> bool
-    requires { ⌜ (t ≡ typeAt (words (now s)) at) × (size ≡ sizeAt (words (now s)) at) ⌝ }
-    requires { ⌜ (isLinked t ≡ true → 18 ≤ size) × (at + size < 2 ^ 64) ⌝ }
-    ensures { λ r. ⌜ r ≡ linkagesOk dim (words (now (s .entry))) at ⌝ }
-{
-    if !is_linked(t) {
+    if t == 1 {
         return true;
     }
-    if words::word(s, at + 16) / 2048 % 2 == 1 {
-        return attributes_ok(s, at, t, size, dim);
-    }
-    true
+    attributes_ok(s, at, fixed, size)
 }
 
 // 12: the stored name of a cell.
 fn stored_name_ok(s: &[u8], at: usize, t: usize) -> bool
-    requires { ⌜ t ≡ typeAt (words (now s)) at ⌝ }
-    requires { ⌜ (isHeader t ≡ true → at + 20 < 2 ^ 64) ⌝ }
+    requires { ⌜ (t ≡ typeAt (words (now s)) at) × (at + 20 < 2 ^ 64) ⌝ }
     ensures { λ r. ⌜ r ≡ storedNameOk (words (now (s .entry))) at ⌝ }
 {
     if t == 1 {
@@ -257,38 +346,31 @@ fn stored_name_ok(s: &[u8], at: usize, t: usize) -> bool
     true
 }
 
-// The number of the first fault in where the element stands, 0 where there is none.
-fn place_fault(w: usize, depth: usize, under: usize, dim: usize) -> usize
-    ensures { λ r. ⌜ r ≡ firstFault (placeChecks dim depth under w) ⌝ }
+// The number of the first fault of a header, 0 where there is none.
+fn header_fault(
+    s: &[u8],
+    at: usize,
+    t: usize,
+    size: usize,
+    room: usize,
+    under: usize,
+    dim: usize,
+) -> usize
+    requires { ⌜ (t ≡ typeAt (words (now s)) at) × (size ≡ sizeAt (words (now s)) at) ⌝ }
+    requires { ⌜ (isHeader t ≡ true) × (at + size < 2 ^ 64) ⌝ }
+    ensures { λ r. ⌜ r ≡ firstFault (check (mayStand dim under t) 6 ∷ contentChecks dim (words (now (s .entry))) at room) ⌝ }
 {
-    if !reserved_ok(w) {
-        return 4;
-    }
-    if !place_ok(depth, w) {
-        return 5;
-    }
-    if 8 < depth {
-        return 10;
-    }
-    if !may_stand(dim, under, type_of(w)) {
+    if !may_stand(dim, under, t) {
         return 6;
     }
-    0
-}
-
-// The number of the first fault in what the element holds, 0 where there is none.
-fn content_fault(s: &[u8], at: usize, t: usize, size: usize, room: usize, dim: usize) -> usize
-    requires { ⌜ (t ≡ typeAt (words (now s)) at) × (size ≡ sizeAt (words (now s)) at) ⌝ }
-    requires { ⌜ at + size < 2 ^ 64 ⌝ }
-    ensures { λ r. ⌜ r ≡ firstFault (contentChecks dim (words (now (s .entry))) at room) ⌝ }
-{
-    if !fixed_ok(s, at, t, size, dim) {
+    let fixed = fixed_part(dim, t, 0);
+    if size < fixed {
         return 7;
     }
-    if !extent_ok(s, at, t, size, room) {
+    if !extent_ok(s, at, size, room) {
         return 8;
     }
-    if !linkages_ok(s, at, t, size, dim) {
+    if !linkages_ok(s, at, t, fixed, size) {
         return 11;
     }
     if !stored_name_ok(s, at, t) {
@@ -314,20 +396,24 @@ pub fn head_at(s: &[u8], at: usize, bound: usize, depth: usize, under: usize, di
     if room < size {
         return Head::Bad { number: 3 };
     }
-    let misplaced = place_fault(w, depth, under, dim);
-    if misplaced != 0 {
-        return Head::Bad { number: misplaced };
+    let flagged = flag_fault(w, depth);
+    if flagged != 0 {
+        return Head::Bad { number: flagged };
     }
     let t = type_of(w);
-    let wrong = content_fault(s, at, t, size, room, dim);
-    if wrong != 0 {
-        return Head::Bad { number: wrong };
-    }
     let next = at + size;
     if is_header(t) {
+        let wrong = header_fault(s, at, t, size, room, under, dim);
+        if wrong != 0 {
+            return Head::Bad { number: wrong };
+        }
         let total = words::word(s, at + 18);
         let end = at + (19 + total);
         return Head::Complex { inner: next, end };
+    }
+    let wrong = simple_fault(s, at, t, size, under, dim);
+    if wrong != 0 {
+        return Head::Bad { number: wrong };
     }
     Head::Plain { next }
 }

@@ -17,7 +17,7 @@ use Rattle.files.specs.declared.Verdict.the-variants.{Good, Fault}
 use Rattle.files.specs.declared.Judged.{Judged}
 use Rattle.files.specs.declared.Judged.the-variants as judged
 use Rattle.edits.specs.Allowed.{fine, orElse, unless}
-use Rattle.edits.specs.Calls.{undo-call, usedWords, endsInMarker, sessionOk, fileFault, openFault}
+use Rattle.edits.specs.Calls.{usedWords, endsInMarker, sessionOk, fileFault, sessionFault}
 use Rattle.edits.proofs.Faults.{orElse-fine, unless-fine}
 use Rattle.faults.specs.declared.Opened.{Opened}
 use Rattle.faults.specs.declared.Opened.the-variants.{Ready, Refused}
@@ -113,15 +113,15 @@ module _ (dim : ℕ) (file : List ℕ) (used size jused : ℕ) where
       record { within = in′; even = omega arith; two = omega arith; small = omega arith }
 
   module _ (journal : List ℕ) (is : length journal ≡ size) where
-    pub open-refused : rest ≡ false → Refused 1 0 ≡ openedBy (openFault dim (sessionOf file used journal jused) undo-call) (length (usedWords file used) - 1)
-    unfolding openFault sessionOk
+    pub open-refused : rest ≡ false → Refused 1 0 ≡ openedBy (sessionFault dim (sessionOf file used journal jused)) (length (usedWords file used) - 1)
+    unfolding sessionFault sessionOk
     open-refused e = rw (is, e, and-false (eqb dim 2 || eqb dim 3))
 
     pub open-judged : rest ≡ true → (r : Opened) →
         r ≡ openedBy (orElse (unless (eqb dim 2 || eqb dim 3) 1) (fileFault (topOf dim (usedWords file used)) (length (usedWords file used) - 1))) (length (usedWords file used) - 1) →
-        r ≡ openedBy (openFault dim (sessionOf file used journal jused) undo-call) (length (usedWords file used) - 1)
-    unfolding openFault sessionOk
-    open-judged e r h = rw (is, e, and-true (eqb dim 2 || eqb dim 3), and-true (eqb dim 2 || eqb dim 3)) h
+        r ≡ openedBy (sessionFault dim (sessionOf file used journal jused)) (length (usedWords file used) - 1)
+    unfolding sessionFault sessionOk
+    open-judged e r h = rw (is, e, and-true (eqb dim 2 || eqb dim 3)) h
 
 ---- what an open session has
 
@@ -145,12 +145,11 @@ unfolding callOk
 part-call dim s d e l = rw (d, eq-eqb (length s % 2) 0 e, le-leb (length s) 1048576 l)
 
 pub open-accepted : (dim : ℕ) (file : List ℕ) (used : ℕ) (journal : List ℕ) (jused : ℕ) →
-    openFault dim (sessionOf file used journal jused) undo-call ≡ fine → AcceptedUsed dim (take used file) (length (usedWords file used) - 1)
-unfolding openFault sessionOk
+    sessionFault dim (sessionOf file used journal jused) ≡ fine → AcceptedUsed dim (take used file) (length (usedWords file used) - 1)
+unfolding sessionFault sessionOk
 open-accepted dim file used journal jused e =
-    let f = orElse-fine (unless (sessionOk dim (sessionOf file used journal jused) && true) 1) (fileFault (topOf dim (usedWords file used)) (length (usedWords file used) - 1)) e in
-    let t = both (sessionOk dim (sessionOf file used journal jused)) true (unless-fine (sessionOk dim (sessionOf file used journal jused) && true) 1 (f .0)) in
-    let b = both (eqb dim 2 || eqb dim 3) _ (t .0) in
+    let f = orElse-fine (unless (sessionOk dim (sessionOf file used journal jused)) 1) (fileFault (topOf dim (usedWords file used)) (length (usedWords file used) - 1)) e in
+    let b = both (eqb dim 2 || eqb dim 3) _ (unless-fine (sessionOk dim (sessionOf file used journal jused)) 1 (f .0)) in
     let p = part-true dim file used (length journal) jused (b .1) in
     let w = length-words (take used file) in
     let two = p .two in

@@ -1,5 +1,5 @@
--- When an edit is refused, found by the descent to its place in place of the list of all elements. On an accepted file
--- these are the refusals of edits' specs/Allowed (proofs/Exact). ws are the used words, marker is the last one's place.
+-- When an edit is refused, by a descent to its place, not by the list of all elements. On an accepted file these are the
+-- refusals of edits' specs/Allowed (proofs/Exact). ws are the used words, marker is the last one's place.
 use Prim.Native.Nat.{ℕ, _+_}
 use mathlib.Core.List.{List, [], _∷_}
 use mathlib.Core.Bool.{Bool, true, false, cond, _||_}

@@ -7,7 +7,7 @@ use mathlib.Core.Bool.{Bool, _&&_}
 use lib.ListN.{length}
 use lib.Dec.{eqb, leb}
 use Rattle.edits.specs.Allowed.{Fault?, fine, fault}
-use Rattle.edits.specs.Calls.{Session, undo-call, usedWords, openFault}
+use Rattle.edits.specs.Calls.{Session, usedWords, sessionFault}
 use Rattle.faults.specs.declared.Opened.{Opened}
 use Rattle.faults.specs.declared.Opened.the-variants.{Ready, Refused}
 
@@ -16,7 +16,7 @@ abbrev pub openedBy : Fault? → ℕ → Opened
 openedBy fine marker = Ready marker
 openedBy (fault n p) marker = Refused n p
 
--- 1: a buffer has an even length of at most 1,048,576 bytes, and its used length is even and within it
+-- 1 unless a buffer has an even length of at most 1,048,576 bytes, and its used length is even and within it
 abbrev pub lengthsOk : ℕ → ℕ → Bool
 lengthsOk size used = (eqb (size % 2) 0 && leb size 1048576) && (eqb (used % 2) 0 && leb used size)
 
@@ -28,4 +28,4 @@ sessionOf file used journal jused = record { file = file; used = used; journal =
 abbrev pub OpenedAs : ℕ → List ℕ → ℕ → ℕ → ℕ → Opened → Type 0
 OpenedAs dim file used size jused r =
     (journal : List ℕ) → length journal ≡ size →
-    r ≡ openedBy (openFault dim (sessionOf file used journal jused) undo-call) (length (usedWords file used) - 1)
+    r ≡ openedBy (sessionFault dim (sessionOf file used journal jused)) (length (usedWords file used) - 1)

@@ -202,7 +202,7 @@ pub fn remove_fault(used: &[u8], marker: usize, place: usize) -> usize
 }
 
 // Whether both are the top, or the same header.
-fn same_above(a: Above, b: Above) -> bool
+pub fn same_above(a: Above, b: Above) -> bool
     ensures { λ r. ⌜ r ≡ sameAbove a b ⌝ }
 {
     match a {

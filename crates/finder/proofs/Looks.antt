@@ -1,70 +1,195 @@
--- The finder's loop: at a place, after n elements, what is to be answered is what the elements from there on answer.
-use Prim.Native.Nat.{ℕ, _+_, _≤_, _<_}
-use mathlib.Core.Path.{_≡_, refl, sym, ap, _∙_}
-use mathlib.Core.Bool.{Bool, true, false}
-use mathlib.Core.List.{List, [], _∷_}
+-- The finder's loops. Elements of a part of a file answer what they answer by their places alone; and the answer for the
+-- elements up to a place, with the elements of the next extent, gives the answer up to its end.
+use Prim.Native.Nat.{ℕ, _+_, _-_, _/_, _≤_, _<_}
+use mathlib.Core.Path.{_≡_, refl, sym, ap, _∙_, subst}
+use mathlib.Core.Bool.{Bool, true, false, false≢true}
+use mathlib.Core.List.{List, [], _∷_, _++_, append-nil}
+use mathlib.Core.Option.{none}
 use native.Mathlib.Omega.{arith}
-use lib.ListN.{length}
+use lib.ListN.{length, length-append}
 use Rattle.words.specs.Words.{words}
-use Rattle.words.proofs.Laws.{length-words}
-use Rattle.elements.specs.Header.{sizeAt}
+use Rattle.elements.specs.Header.{typeAt, sizeAt}
+use Rattle.elements.specs.Kinds.{isHeader}
 use Rattle.names.specs.Names.{packed}
 use Rattle.names.specs.declared.Packed.the-variants as text
-use Rattle.files.specs.Judge.{judgeOf}
+use Rattle.files.specs.Judge.{stopOf, elementOf, callOk, judgeOf}
 use Rattle.files.specs.Spots.{Spot, spotsOf}
+use Rattle.files.specs.declared.Stop.the-variants.{More, Done, Lacking}
+use Rattle.files.specs.declared.Verdict.the-variants.{Good, Fault}
 use Rattle.files.specs.declared.Judged.the-variants as judged
+use Rattle.grammar.specs.Grammar.{Extent}
+use Rattle.grammar.proofs.Forest.{nil, node, flat, num, spots}
+use Rattle.grammar.proofs.Stands.{stands-left}
+use Rattle.grammar.proofs.Rules.{own-type, own-size}
 use Rattle.finder.specs.declared.Found.{Found}
 use Rattle.finder.specs.declared.Found.the-variants as found
-use Rattle.finder.specs.Finder.{hasName, hitIf, firstNamed, findOf}
-use Rattle.finder.proofs.Order.{InOrder, order-room, file-order, marker-in}
+use Rattle.finder.specs.Finder.{hasName, hitIf, firstNamed, searchOf, findOf}
+use Rattle.finder.specs.Look.{InOrder, OneExtent, FirstFrom}
+use Rattle.finder.proofs.Order.{order-append, order-room, tree-order, file-order}
+use Rattle.finder.proofs.Named.{name-none}
+use Rattle.grammar.proofs.Tops.{Judged, judged-none, judged-done, judged-lacking, judged-fault, judged-read, judged-on, judged-more}
 
-pub record Left (s : List ℕ) (a b : ℕ) (answer : Found) (marker at n : ℕ) : Type 0 where
-  pub rest : List Spot
-  pub order : InOrder (words s) at rest marker
-  pub same : firstNamed (words s) a b n rest ≡ answer
-  pub few : n ≤ at
-  pub in-file : marker < length s
+---- a look at the elements of a part
 
-pub left-all : (dim : ℕ) (s t : List ℕ) (e d m a b : ℕ) → judgeOf dim s ≡ judged.Accepted e d m → packed t ≡ text.Words a b → Left s a b (findOf dim s t) m 0 0
-unfolding findOf
-left-all dim s t e d m a b q p =
-    let h = marker-in dim s e d m q in
-    let l = length-words s in
-    record { rest = spotsOf dim (words s); order = file-order dim s e d m q; same = rw (q, p) refl; few = omega arith; in-file = omega arith }
+-- no element is left
+pub look-none : (ws : List ℕ) (a b n at end : ℕ) → end ≤ at → FirstFrom ws a b n at end (found.Refused 13 0 n)
+look-none ws a b n at end h [] o = refl
+look-none ws a b n at end h (x ∷ xs) o = let r = order-room ws at end (x ∷ xs) o in absurd (omega arith)
 
-module _ {s : List ℕ} {a b : ℕ} {answer : Found} {marker at n : ℕ} (l : Left s a b answer marker at n) where
-  -- no element is left
-  pub left-none : marker ≤ at → found.Refused 13 0 n ≡ answer
-  left-none h = go (l .rest) (l .order) (l .same)
-    where
-      go : (xs : List Spot) → InOrder (words s) at xs marker → firstNamed (words s) a b n xs ≡ answer → found.Refused 13 0 n ≡ answer
-      go [] o e = e
-      go (x ∷ xs) o e = let r = order-room (words s) at marker (x ∷ xs) o in absurd (omega arith)
-
-  -- an element is left, and starts there
-  left-some : (t : Bool) → at < marker → hasName (words s) at a b ≡ t →
-      (rest : List Spot) × InOrder (words s) (at + sizeAt (words s) at) rest marker × (hitIf t at n (firstNamed (words s) a b (n + 1) rest) ≡ answer)
-  left-some t h q = go (l .rest) (l .order) (l .same)
-    where
-      go : (xs : List Spot) → InOrder (words s) at xs marker → firstNamed (words s) a b n xs ≡ answer →
-          (rest : List Spot) × InOrder (words s) (at + sizeAt (words s) at) rest marker × (hitIf t at n (firstNamed (words s) a b (n + 1) rest) ≡ answer)
-      go [] o e = absurd (omega arith)
-      go (x ∷ xs) o e =
-          let there = ap (λ p. hitIf (hasName (words s) p a b) p n (firstNamed (words s) a b (n + 1) xs)) (o .0) in
-          (xs, o .1, sym (there ∙ ap (λ k. hitIf k at n (firstNamed (words s) a b (n + 1) xs)) q) ∙ e)
-
-  -- it has the name
-  pub left-hit : at < marker → hasName (words s) at a b ≡ true → found.At at (n + 1) ≡ answer
-  left-hit h q = left-some true h q .2
+module _ (ws : List ℕ) (a b n at end : ℕ) where
+  -- the element that starts there has the name
+  pub look-hit : at < end → hasName ws at a b ≡ true → FirstFrom ws a b n at end (found.At at (n + 1))
+  look-hit h q [] o = absurd (omega arith)
+  look-hit h q (x ∷ xs) o = rw (o .0, q) refl
 
   -- it has not
-  pub left-next : at < marker → hasName (words s) at a b ≡ false → Left s a b answer marker (at + sizeAt (words s) at) (n + 1)
-  left-next h q =
-      let r = left-some false h q in
-      let f = l .few in
-      record { rest = r .0; order = r .1; same = r .2; few = omega arith; in-file = l .in-file }
+  pub look-next : at < end → hasName ws at a b ≡ false → (r : Found) → FirstFrom ws a b (n + 1) (at + sizeAt ws at) end r → FirstFrom ws a b n at end r
+  look-next h q r f [] o = absurd (omega arith)
+  look-next h q r f (x ∷ xs) o = rw (o .0, q) (f xs (o .1))
 
----- what is answered with no look at the elements
+  -- it is no header, and there is no other
+  pub look-plain : isHeader (typeAt ws at) ≡ false → at + sizeAt ws at ≡ end → FirstFrom ws a b n at end (found.Refused 13 0 (n + 1))
+  look-plain h e =
+      let one : typeAt ws at ≡ 1 → ⊥ = λ t. false≢true (sym h ∙ ap isHeader t) in
+      let two : typeAt ws at ≡ 2 → ⊥ = λ t. false≢true (sym h ∙ ap isHeader t) in
+      look-next (omega arith) (sym (name-none ws at a b one two)) (found.Refused 13 0 (n + 1))
+      (look-none ws a b (n + 1) (at + sizeAt ws at) end (omega arith))
+
+---- what lists of elements answer
+
+module _ (ws : List ℕ) (a b : ℕ) where
+  -- elements that stand in the same part answer the same
+  same-part : (at end n : ℕ) (xs ys : List Spot) → InOrder ws at xs end → InOrder ws at ys end → firstNamed ws a b n xs ≡ firstNamed ws a b n ys
+  same-part at end n [] [] o p = refl
+  same-part at end n [] (y ∷ ys) o p = let r = order-room ws at end (y ∷ ys) p in absurd (omega arith)
+  same-part at end n (x ∷ xs) [] o p = let r = order-room ws at end (x ∷ xs) o in absurd (omega arith)
+  same-part at end n (x ∷ xs) (y ∷ ys) o p =
+      rw (o .0, p .0, same-part (at + sizeAt ws at) end (n + 1) xs ys (o .1) (p .1)) refl
+
+  -- a hit stays
+  hit-stays : (n : ℕ) (xs ys : List Spot) (place looked : ℕ) → found.At place looked ≡ firstNamed ws a b n xs → found.At place looked ≡ firstNamed ws a b n (xs ++ ys)
+  hit-stays n [] ys place looked e = let z : _≡_ {A = ℕ} 0 1 = cc in absurd (omega arith)
+  hit-stays n (x ∷ xs) ys place looked e = go (hasName ws (x .place) a b) e (hit-stays (n + 1) xs ys place looked)
+    where
+      go : (t : Bool) → found.At place looked ≡ hitIf t (x .place) n (firstNamed ws a b (n + 1) xs) →
+          (found.At place looked ≡ firstNamed ws a b (n + 1) xs → found.At place looked ≡ firstNamed ws a b (n + 1) (xs ++ ys)) →
+          found.At place looked ≡ hitIf t (x .place) n (firstNamed ws a b (n + 1) (xs ++ ys))
+      go true e k = e
+      go false e k = k e
+
+  -- with none among them, all were counted and the others are looked at after them
+  none-goes-on : (n : ℕ) (xs ys : List Spot) (number place count : ℕ) → found.Refused number place count ≡ firstNamed ws a b n xs →
+      (count ≡ n + length xs) × (firstNamed ws a b count ys ≡ firstNamed ws a b n (xs ++ ys))
+  none-goes-on n [] ys number place count e = let q : count ≡ n = cc in (omega arith, ap (λ m. firstNamed ws a b m ys) q)
+  none-goes-on n (x ∷ xs) ys number place count e = go (hasName ws (x .place) a b) e (none-goes-on (n + 1) xs ys number place count)
+    where
+      go : (t : Bool) → found.Refused number place count ≡ hitIf t (x .place) n (firstNamed ws a b (n + 1) xs) →
+          (found.Refused number place count ≡ firstNamed ws a b (n + 1) xs →
+          (count ≡ n + 1 + length xs) × (firstNamed ws a b count ys ≡ firstNamed ws a b (n + 1) (xs ++ ys))) →
+          (count ≡ n + length (x ∷ xs)) × (firstNamed ws a b count ys ≡ hitIf t (x .place) n (firstNamed ws a b (n + 1) (xs ++ ys)))
+      go true e k = let z : _≡_ {A = ℕ} 0 1 = cc in absurd (omega arith)
+      go false e k = let r = k e in let c = r .0 in (omega arith, r .1)
+
+---- the loop over the elements at the top
+
+-- the elements before `here` are judged, and their answer is r
+pub record Searched (dim : ℕ) (s : List ℕ) (a b here : ℕ) (r : Found) : Type 0 where
+  pub judged : Judged dim s here
+  pub past : List Spot
+  pub order : InOrder (words s) 0 past here
+  pub same : r ≡ firstNamed (words s) a b 0 past
+
+pub searched-none : {dim : ℕ} {s : List ℕ} {a b : ℕ} {r : Found} → r ≡ found.Refused 13 0 0 → Searched dim s a b 0 r
+searched-none e = record { judged = judged-none; past = []; order = refl; same = e }
+
+-- a refused file
+pub search-refused : (dim : ℕ) (s : List ℕ) (a b n p : ℕ) → judgeOf dim s ≡ judged.Refused n p → found.Refused n p 0 ≡ searchOf dim s a b
+unfolding searchOf
+search-refused dim s a b n p q = rw q refl
+
+module _ {dim : ℕ} {s : List ℕ} {a b here : ℕ} {r : Found} (l : Searched dim s a b here r) where
+  module _ (call : callOk dim s ≡ true) where
+    pub searched-done : stopOf 0 (words s) here (length s / 2) ≡ Done → r ≡ searchOf dim s a b
+    unfolding searchOf
+    searched-done h =
+        let q = judged-done (l .judged) call h in
+        rw q (l .same ∙ same-part (words s) a b 0 here 0 (l .past) (spotsOf dim (words s)) (l .order) (file-order dim s _ _ here q))
+
+    pub searched-lacking : stopOf 0 (words s) here (length s / 2) ≡ Lacking → found.Refused 2 here 0 ≡ searchOf dim s a b
+    searched-lacking h = search-refused dim s a b 2 here (judged-lacking (l .judged) call h)
+
+    pub searched-fault : (n p : ℕ) → stopOf 0 (words s) here (length s / 2) ≡ More → Fault n p ≡ elementOf dim 0 0 (words s) here (length s / 2) →
+        found.Refused n p 0 ≡ searchOf dim s a b
+    searched-fault n p h e = search-refused dim s a b n p (judged-fault (l .judged) h n p call e)
+
+  -- how many were looked at, where none has the name
+  count-few : {number place count : ℕ} → r ≡ found.Refused number place count → count ≤ here
+  count-few e =
+      let c = none-goes-on (words s) a b 0 (l .past) [] _ _ _ (sym e ∙ l .same) .0 in
+      let o = order-room (words s) 0 here (l .past) (l .order) in
+      omega arith
+
+  module _ {next e d k : ℕ} (more : stopOf 0 (words s) here (length s / 2) ≡ More) (good : Good next e d k ≡ elementOf dim 0 0 (words s) here (length s / 2)) where
+    -- fewer words are left to judge
+    pub searched-less : length s / 2 - next < length s / 2 - here
+    searched-less = let w = judged-read (l .judged) more good .within in let g = judged-on (l .judged) more good in omega arith
+
+    -- the elements of the extent
+    inside : List Spot
+    inside = let x = judged-read (l .judged) more good in spots 0 none here (node (x .own) (x .components) nil)
+
+    inside-order : InOrder (words s) here inside next
+    unfolding inside
+    inside-order =
+        let x = judged-read (l .judged) more good in
+        let z = x .last in
+        let f = append-nil (flat (x .components)) in
+        tree-order dim (words s) 0 0 none here next (node (x .own) (x .components) nil) (x .rules, x .wf, tt) (rw f (x .stands))
+        (rw f (ap (λ m. here + m) (length-append (x .own) (flat (x .components))) ∙ z))
+
+    both-order : InOrder (words s) 0 (l .past ++ inside) next
+    both-order = order-append (words s) 0 here next (l .past) inside (l .order) inside-order
+
+    -- one that is no header ends with its own words
+    plain-end : isHeader (typeAt (words s) here) ≡ false → here + sizeAt (words s) here ≡ next
+    plain-end h =
+        let x = judged-read (l .judged) more good in
+        let at = stands-left (x .own) (flat (x .components)) (x .stands) in
+        let q = own-size (x .rules) at in
+        let z = x .last in
+        let e : Extent false (x .own) (length (flat (x .components))) (num (x .components)) =
+        subst (λ t. Extent t (x .own) (length (flat (x .components))) (num (x .components))) (sym (ap isHeader (own-type (x .rules) at)) ∙ h) (x .rules .extent) in
+        let i = e .0 in
+        omega arith
+
+    pub one-extent : {number place count : ℕ} → r ≡ found.Refused number place count → OneExtent s count here next
+    one-extent q =
+        let c = count-few q in
+        let w = judged-read (l .judged) more good .within in
+        let g = judged-on (l .judged) more good in
+        record { may = (c, omega arith); plain = plain-end }
+
+    pub searched-hit : {place looked : ℕ} → r ≡ found.At place looked → Searched dim s a b next r
+    searched-hit q = record {
+      judged = judged-more (l .judged) more good;
+      past = l .past ++ inside;
+      order = both-order;
+      same = q ∙ hit-stays (words s) a b 0 (l .past) inside _ _ (sym q ∙ l .same);
+    }
+
+    pub searched-more : {number place count : ℕ} → r ≡ found.Refused number place count → (v : Found) → FirstFrom (words s) a b count here next v → Searched dim s a b next v
+    searched-more q v f = record {
+      judged = judged-more (l .judged) more good;
+      past = l .past ++ inside;
+      order = both-order;
+      same = f inside inside-order ∙ none-goes-on (words s) a b 0 (l .past) inside _ _ _ (sym q ∙ l .same) .1;
+    }
+
+---- by the text
+
+pub find-search : (dim : ℕ) (s t : List ℕ) (a b : ℕ) → packed t ≡ text.Words a b → searchOf dim s a b ≡ findOf dim s t
+unfolding findOf searchOf
+find-search dim s t a b p = rw p refl
 
 pub file-refused : (dim : ℕ) (s t : List ℕ) (n p : ℕ) → judgeOf dim s ≡ judged.Refused n p → found.Refused n p 0 ≡ findOf dim s t
 unfolding findOf

@@ -24,9 +24,9 @@ use Rattle.files.specs.Judge.{judgeOf}
 use Rattle.files.specs.Spots.{Spot, spotsOf}
 use Rattle.files.specs.declared.Judged.{Judged}
 use Rattle.files.specs.declared.Judged.the-variants as judged
-use Rattle.finder.specs.declared.Found.{Found}
 use Rattle.finder.specs.declared.Found.the-variants as found
 use Rattle.finder.specs.Finder.{hasName, hitIf, firstNamed, findBy, findOf}
+use Rattle.finder.specs.Answers.{NoneNamed, FirstAt, Finds, Stored}
 
 ---- an element that has the name, by its type
 
@@ -48,27 +48,6 @@ module _ (ws : List ℕ) (at a b : ℕ) where
   name-none p q = rw (ne-eqb (typeAt ws at) 1 p, ne-eqb (typeAt ws at) 2 q) refl
 
 ---- the first of a list that has the name
-
--- none of a list has the name
-abbrev pub NoneNamed : List ℕ → ℕ → ℕ → List Spot → Type 0
-NoneNamed ws first second [] = Unit {0}
-NoneNamed ws first second (x ∷ xs) = (hasName ws (x .place) first second ≡ false) × NoneNamed ws first second xs
-
--- of a list, the element at a place has the name, and none before it has; `looked` is its ordinal plus one
-pub record FirstAt (ws : List ℕ) (first second : ℕ) (xs : List Spot) (place looked : ℕ) : Type 0 where
-  pub before : List Spot
-  pub one : Spot
-  pub after : List Spot
-  pub whole : xs ≡ before ++ (one ∷ after)
-  pub at : one .place ≡ place
-  pub counted : looked ≡ length before + 1
-  pub named : hasName ws place first second ≡ true
-  pub others : NoneNamed ws first second before
-
--- what an answer says of a list
-abbrev pub Finds : List ℕ → ℕ → ℕ → List Spot → Found → Type 0
-Finds ws first second xs (found.At place looked) = FirstAt ws first second xs place looked
-Finds ws first second xs (found.Refused number place count) = (number ≡ 13) × (place ≡ 0) × (count ≡ length xs) × NoneNamed ws first second xs
 
 none-more : (ws : List ℕ) (a b : ℕ) (xs : List Spot) (x : Spot) → NoneNamed ws a b xs → hasName ws (x .place) a b ≡ false → NoneNamed ws a b (xs ++ (x ∷ []))
 none-more ws a b [] x n h = (h, tt)
@@ -126,12 +105,6 @@ found-accepted dim s t place looked q = go (judgeOf dim s) refl (packed t) refl 
         }
 
 ---- its stored name
-
--- something holds of the two words that store the name of a type 1 or 2
-abbrev pub Stored : List ℕ → ℕ → (ℕ → ℕ → Type 0) → Type 0
-Stored ws at P =
-    ((typeAt ws at ≡ 1) × P (wordAt ws (at + 16)) (wordAt ws (at + 17)))
-    ⊎ ((typeAt ws at ≡ 2) × P (wordAt ws (at + 19)) (wordAt ws (at + 20)))
 
 -- two words are those of a name
 abbrev pub Both : ℕ → ℕ → ℕ → ℕ → Type 0

@@ -14,18 +14,14 @@ use Rattle.elements.specs.Header.{sizeAt}
 use Rattle.files.specs.Judge.{judgeOf}
 use Rattle.files.specs.Spots.{Spot, spotsOf}
 use Rattle.files.specs.declared.Judged.the-variants.{Accepted}
+use Rattle.finder.specs.Look.{InOrder}
 use Rattle.grammar.proofs.Forest.{Forest, nil, node, flat, Wf, spots, weight, length-node, own-stands, components-stand, rest-stand}
 use Rattle.grammar.proofs.Stands.{Stands}
 use Rattle.grammar.proofs.Rules.{own-size}
 use Rattle.grammar.proofs.Whole.{FileTree, file-tree}
 use Rattle.grammar.proofs.Exact.{accepted-is}
 
--- elements one after another, the first at `at`, the own words of the last ending at `end`
-abbrev pub InOrder : List ℕ → ℕ → List Spot → ℕ → Type 0
-InOrder ws at [] end = at ≡ end
-InOrder ws at (x ∷ xs) end = (x .place ≡ at) × InOrder ws (at + sizeAt ws at) xs end
-
-order-append : (ws : List ℕ) (at mid end : ℕ) (xs ys : List Spot) → InOrder ws at xs mid → InOrder ws mid ys end → InOrder ws at (xs ++ ys) end
+pub order-append : (ws : List ℕ) (at mid end : ℕ) (xs ys : List Spot) → InOrder ws at xs mid → InOrder ws mid ys end → InOrder ws at (xs ++ ys) end
 order-append ws at mid end [] ys p q = rw p q
 order-append ws at mid end (x ∷ xs) ys p q = (p .0, order-append ws (at + sizeAt ws at) mid end xs ys (p .1) q)
 
@@ -35,7 +31,7 @@ order-room ws at end [] p = omega arith
 order-room ws at end (x ∷ xs) p = let h = order-room ws (at + sizeAt ws at) end xs (p .1) in omega arith
 
 -- the elements of a tree follow one another, from where its words stand to their end
-tree-order : (dim : ℕ) (ws : List ℕ) (depth under : ℕ) (header : Option ℕ) (at end : ℕ) (f : Forest) → Wf dim depth under f → Stands (flat f) at ws →
+pub tree-order : (dim : ℕ) (ws : List ℕ) (depth under : ℕ) (header : Option ℕ) (at end : ℕ) (f : Forest) → Wf dim depth under f → Stands (flat f) at ws →
     at + length (flat f) ≡ end → InOrder ws at (spots depth header at f) end
 tree-order dim ws depth under header at end nil w s e = omega arith
 tree-order dim ws depth under header at end (node own k r) w s e =
@@ -62,10 +58,3 @@ file-order dim s e d m q =
     let t = accepted-tree dim s e d m q in
     let l = t .end in
     subst (λ xs. InOrder (words s) 0 xs m) (t .read) (tree-order dim (words s) 0 0 none 0 m (t .tree) (t .wf) (t .stands) (omega arith))
-
--- the marker stands in the file
-pub marker-in : (dim : ℕ) (s : List ℕ) (e d m : ℕ) → judgeOf dim s ≡ Accepted e d m → m < length (words s)
-marker-in dim s e d m q =
-    let t = accepted-tree dim s e d m q in
-    let l = t .end in
-    omega (arith, t .ends .0)

@@ -1,2 +1,4 @@
 pub mod Finder
+pub mod Look
 pub mod Walk
+pub mod Answers

@@ -1,5 +1,5 @@
 // The elements of an accepted file in file order: the finder, and the walk that gives the next element with its depth.
-// Definitions: specs/Finder, specs/Walk.
+// Definitions: specs/Finder, specs/Walk; of one look specs/Look.
 ghost use mathlib.Core.Path.{_≡_};
 ghost use Prim.Native.Nat.{_+_, _<_};
 ghost use mathlib.Core.Bool.{_&&_};
@@ -7,7 +7,8 @@ ghost use lib.ListN.{length};
 ghost use lib.Dec.{eqb};
 ghost use Rattle.words.specs.Words.{words, wordAt};
 ghost use Rattle.elements.specs.Header.{extentAt};
-ghost use Rattle.finder.specs.Finder.{hasName, findOf};
+ghost use Rattle.finder.specs.Finder.{hasName, searchOf, findOf};
+ghost use Rattle.finder.specs.Look.{MayLook, OneExtent, FirstFrom};
 ghost use Rattle.finder.specs.Walk.{closedTo, opens, nextOf, walkStart};
 
 // The first cell with a name: its place and how many elements were looked at, itself counted; or the refusal, 13 with
@@ -68,40 +69,117 @@ fn refused(number: usize, place: usize) -> Found
     }
 }
 
-// The first cell in file order with the name of a text. The file is judged once. An element's own words are followed by
-// the next element in file order, be it a component, a sibling or what follows an extent, so the search goes on by size.
+// The first element from a place to another that has a name, after `before` others; else 13 with the count of all. An
+// element's own words are followed by the next element in file order, be it a component, a sibling or what follows an
+// extent, so the search goes on by size.
+fn look(file: &[u8], from: usize, to: usize, before: usize, first: usize, second: usize) -> Found
+    requires { ⌜ MayLook (now file) before from to ⌝ }
+    ensures { λ r. ⌜ FirstFrom (words (now (file .entry))) first second before from to r ⌝ }
+{
+    let mut at = from;
+    let mut n = before;
+    while at < to {
+        if has_name(file, at, first, second) {
+            return Found::At {
+                place: at,
+                looked: n + 1,
+            };
+        }
+        at += elements::size_at(file, at);
+        n += 1;
+    }
+    Found::Refused {
+        number: 13,
+        place: 0,
+        count: n,
+    }
+}
+
+// The same for the extent of one element at the top. Only headers have names, so another element is counted alone.
+fn look_through(
+    file: &[u8],
+    from: usize,
+    to: usize,
+    before: usize,
+    first: usize,
+    second: usize,
+) -> Found
+    requires { ⌜ OneExtent (now file) before from to ⌝ }
+    ensures { λ r. ⌜ FirstFrom (words (now (file .entry))) first second before from to r ⌝ }
+{
+    if elements::is_header(elements::type_at(file, from)) {
+        return look(file, from, to, before, first, second);
+    }
+    Found::Refused {
+        number: 13,
+        place: 0,
+        count: before + 1,
+    }
+}
+
+// The first cell in file order with the name of two words. The elements at the top are judged one after another, and each
+// good one is looked through with its extent.
+fn search(file: &[u8], dim: usize, first: usize, second: usize) -> Found
+    ensures { λ r. ⌜ r ≡ searchOf dim (now (file .entry)) first second ⌝ }
+{
+    if !files::call_ok(file, dim) {
+        return refused(1, 0);
+    }
+    let bound = file.len() / 2;
+    let mut here = 0;
+    let mut answer = refused(13, 0);
+    loop {
+        match files::stop_at(file, here, bound, 0) {
+            files::Stop::Done => return answer,
+            files::Stop::Lacking => return refused(2, here),
+            files::Stop::More => match files::element(file, here, bound, 0, 0, dim) {
+                files::Verdict::Fault { number, place } => return refused(number, place),
+                files::Verdict::Good {
+                    next,
+                    elements: _,
+                    deepest: _,
+                    direct: _,
+                } => match answer {
+                    Found::At {
+                        place: _,
+                        looked: _,
+                    } => {
+                        here = next;
+                    }
+                    Found::Refused {
+                        number: _,
+                        place: _,
+                        count,
+                    } => {
+                        answer = look_through(file, here, next, count, first, second);
+                        here = next;
+                    }
+                },
+            },
+        }
+    }
+}
+
+// The first cell in file order with the name of a text: the refusals of the file come before that of the text.
 pub fn find(file: &[u8], dim: usize, text: &[u8]) -> Found
     ensures { λ r. ⌜ r ≡ findOf dim (now (file .entry)) (now (text .entry)) ⌝ }
 {
-    let marker = match files::judge(file, dim) {
-        files::Judged::Refused { number, place } => return refused(number, place),
-        files::Judged::Accepted {
-            elements: _,
-            deepest: _,
-            marker,
-        } => marker,
-    };
     match names::pack(text) {
-        names::Packed::Refused { number, place } => refused(number, place),
-        names::Packed::Words { first, second } => {
-            let mut at = 0;
-            let mut n = 0;
-            while at < marker {
-                if has_name(file, at, first, second) {
-                    return Found::At {
-                        place: at,
-                        looked: n + 1,
-                    };
-                }
-                at += elements::size_at(file, at);
-                n += 1;
-            }
-            Found::Refused {
-                number: 13,
-                place: 0,
-                count: n,
-            }
-        }
+        names::Packed::Words { first, second } => search(file, dim, first, second),
+        names::Packed::Refused {
+            number,
+            place: fault,
+        } => match files::judge(file, dim) {
+            files::Judged::Refused {
+                number: of_file,
+                place,
+            } => refused(of_file, place),
+            files::Judged::Accepted {
+                elements: _,
+                deepest: _,
+                marker: _,
+            } => refused(number, fault),
+        },
     }
 }
 

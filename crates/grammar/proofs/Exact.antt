@@ -14,14 +14,8 @@ use Rattle.files.specs.declared.Verdict.{Verdict}
 use Rattle.files.specs.declared.Verdict.the-variants.{Good, Fault}
 use Rattle.files.specs.declared.Judged.the-variants.{Accepted, Refused}
 use Rattle.grammar.specs.Grammar.{File}
+use Rattle.grammar.specs.Reading.{Reading}
 use Rattle.grammar.proofs.Whole.{file-top, file-spots, top-file}
-
--- what an accepted file is: a file of the grammar, whose elements in file order are counted, with its marker's place
-pub record Reading (dim : ℕ) (s : List ℕ) (e d k : ℕ) : Type 0 where
-  pub call : callOk dim s ≡ true
-  pub file : File dim (words s) (spotsOf dim (words s)) k
-  pub elements : e ≡ length (spotsOf dim (words s))
-  pub deep : d ≡ deepest (spotsOf dim (words s))
 
 -- an accepted file is of the grammar, and the numbers are those of its elements
 pub accepted-is : (dim : ℕ) (s : List ℕ) (e d k : ℕ) → judgeOf dim s ≡ Accepted e d k → Reading dim s e d k
@@ -54,12 +48,16 @@ refused-is-none dim s n p q c xs k f =
     let z : _≡_ {A = ℕ} 0 1 = cc in
     omega arith
 
+-- the list of a file's elements is spotsOf
+pub elements-are : (dim : ℕ) (ws : List ℕ) (xs : List Spot) (k : ℕ) → File dim ws xs k → xs ≡ spotsOf dim ws
+elements-are dim ws xs k f = sym (file-spots f)
+
 -- words are a file of the grammar in one way at most: one list of elements, one marker's place
 pub one-reading : (dim : ℕ) (ws : List ℕ) (xs ys : List Spot) (k j : ℕ) → File dim ws xs k → File dim ws ys j → (xs ≡ ys) × (k ≡ j)
 one-reading dim ws xs ys k j f g =
     let a = file-top f .1 in
     let b = file-top g .1 in
-    (sym (file-spots f) ∙ file-spots g, cc)
+    (elements-are dim ws xs k f ∙ file-spots g, cc)
 
 -- a file is decided by its words up to its marker's
 pub file-before : {dim : ℕ} {ws vs : List ℕ} {xs : List Spot} {k : ℕ} → File dim ws xs k → take (k + 1) vs ≡ take (k + 1) ws → File dim vs xs k

@@ -9,3 +9,5 @@ pub mod Sound
 pub mod Complete
 pub mod Whole
 pub mod Exact
+pub mod Numbers
+pub mod Tops

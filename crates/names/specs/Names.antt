@@ -79,7 +79,7 @@ wordAt t i = wordOf (codeAt t i) (codeAt t (i + 1)) (codeAt t (i + 2))
 unfoldable pub packed : List ℕ → Packed
 packed t = cond (goodText t) (Words (wordAt t 0) (wordAt t 3)) (Refused 12 0)
 
--- a code before others; a space before none is at the end, and is dropped
+-- a code put before others; a space with none after it is at the end, and is dropped
 abbrev pub before : ℕ → List ℕ → List ℕ
 before c [] = cond (eqb c 0) [] (c ∷ [])
 before c (d ∷ rest) = c ∷ d ∷ rest

@@ -26,7 +26,7 @@ use Rattle.reading.specs.declared.Above.the-variants.{Top, Under}
 use Rattle.reading.specs.declared.Spotted.{Spotted}
 use Rattle.reading.specs.declared.Spotted.the-variants as spotted
 use Rattle.reading.specs.Places.{aboveOf, foundBy}
-use Rattle.reading.specs.Descent.{extentWords, locateFrom, descentTo}
+use Rattle.reading.specs.Descent.{extentWords, locateFrom, IsLocated, descentTo}
 
 ---- the extent
 
@@ -81,10 +81,7 @@ module _ (n : ℕ) (ws : List ℕ) (here depth : ℕ) (above : Above) (p : ℕ) 
   unfolding locateFrom
   locate-past h = rw (le-ltb here p (omega arith), ne-eqb here p (λ e. omega arith))
 
----- the loop: what is found from an element on is what is found from the top
-
-abbrev pub IsLocated : List ℕ → ℕ → ℕ → Above → ℕ → Spotted → Type 0
-IsLocated ws here depth above p r = (n : ℕ) → p - here < n → r ≡ locateFrom n ws here depth above p
+---- the loop: what is found from an element on is what is found from where the descent began
 
 module _ (ws : List ℕ) (here depth : ℕ) (above : Above) (p : ℕ) where
   pub step-past : p < here → IsLocated ws here depth above p (spotted.Refused 13 0)
@@ -121,7 +118,7 @@ descent-is ws p r i = i (suc p) (omega arith)
 ---- in the words of a tree
 
 -- the extent of an element of the grammar
-extent-weight : (dim depth under : ℕ) (ws : List ℕ) (at : ℕ) (own : List ℕ) (inside n : ℕ) → Own dim depth under own inside n → Stands own at ws →
+pub extent-weight : (dim depth under : ℕ) (ws : List ℕ) (at : ℕ) (own : List ℕ) (inside n : ℕ) → Own dim depth under own inside n → Stands own at ws →
     extentWords ws at ≡ length own + inside
 extent-weight dim depth under ws at own inside n o s = go (isHeader (typeAt own 0)) refl (o .extent)
   where

@@ -12,20 +12,10 @@ use Rattle.words.specs.Words.{words}
 use Rattle.files.specs.Judge.{judgeOf}
 use Rattle.files.specs.Spots.{Spot, spotsOf, firstIf, spotIn}
 use Rattle.files.specs.declared.Judged.the-variants.{Accepted}
-use Rattle.reading.specs.declared.View.{View}
-use Rattle.reading.specs.declared.View.the-variants.{Seen, Refused}
 use Rattle.reading.specs.Places.{foundBy}
 use Rattle.reading.specs.Views.{viewBy, viewOf}
+use Rattle.reading.specs.Starts.{Starts, Accepts}
 use Rattle.reading.proofs.Places.{spotted-found}
-
--- an element of a list starts at a place
-abbrev pub Starts : List Spot → ℕ → Type 0
-Starts xs p = (x : Spot) × List·Memᴰ x xs × (x .place ≡ p)
-
--- a view that is not refused
-abbrev pub Accepts : View → Type 0
-Accepts (Seen x) = Unit {0}
-Accepts (Refused n p) = ⊥
 
 none-some : {x : Spot} → _≡_ {A = Option Spot} none (some x) → ⊥
 none-some e = let z : _≡_ {A = ℕ} 0 1 = cc in omega arith

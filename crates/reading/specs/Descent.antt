@@ -1,6 +1,7 @@
 -- The descent to a place in words that were judged: it goes over the elements whose extents end by the place, and into
 -- the header whose extent holds it. Of an element it looks at words 0, 1 and, of a header, 18 alone.
-use Prim.Native.Nat.{ℕ, zero, suc, _+_}
+use Prim.Native.Nat.{ℕ, zero, suc, _+_, _-_, _<_}
+use mathlib.Core.Path.{_≡_}
 use mathlib.Core.List.{List}
 use mathlib.Core.Bool.{cond, _&&_}
 use lib.ListN.{length}
@@ -27,10 +28,18 @@ locateFrom (suc n) ws here depth above p =
     (cond (isHeader (typeAt ws here)) (locateFrom n ws (here + sizeAt ws here) (depth + 1) (Under here) p) (spotted.Refused 13 0)))
     (cond (eqb here p) (spotted.At (here + extentWords ws here) depth above) (spotted.Refused 13 0))
 
--- the same from the top
+-- r is what is found from the element at `here` on, whatever the number of locateFrom, where it is enough
+abbrev pub IsLocated : List ℕ → ℕ → ℕ → Above → ℕ → Spotted → Type 0
+IsLocated ws here depth above p r = (n : ℕ) → p - here < n → r ≡ locateFrom n ws here depth above p
+
+-- the element that starts at the place p, from the top
 unfoldable pub descentTo : List ℕ → ℕ → Spotted
 descentTo ws p = locateFrom (suc p) ws 0 0 Top p
 
 -- the same for a place before the marker and within the words
 unfoldable pub locateOf : List ℕ → ℕ → ℕ → Spotted
 locateOf ws p marker = cond (ltb p marker && ltb p (length ws)) (descentTo ws p) (spotted.Refused 13 0)
+
+-- where a descent to p may begin, of two elements at the top: at the later one, `here`, where that is not after p
+abbrev pub lastBy : ℕ → ℕ → ℕ → ℕ
+lastBy top here p = cond (leb here p) here top

@@ -4,8 +4,9 @@ ghost use mathlib.Core.Path.{_≡_};
 ghost use Prim.Native.Nat.{_/_, _<_};
 ghost use lib.ListN.{length};
 ghost use Rattle.words.specs.Words.{words};
+ghost use Rattle.reading.specs.declared.Above.the-variants.{Top};
 ghost use Rattle.reading.specs.Places.{spottedAt, extentAnswer, extentBytes};
-ghost use Rattle.reading.specs.Descent.{extentWords, descentTo, locateOf};
+ghost use Rattle.reading.specs.Descent.{extentWords, IsLocated, lastBy, locateOf};
 
 pub mod attributes;
 pub mod points;
@@ -130,13 +131,13 @@ fn extent_words(file: &[u8], at: usize) -> usize
     elements::size_at(file, at)
 }
 
-// The element that starts at a place of a judged file: over the elements whose extents end by the place, and into the
-// header whose extent holds it.
-fn descend(file: &[u8], place: usize) -> Spotted
+// The element that starts at a place of a judged file, from the element at `top` on: over the elements whose extents end
+// by the place, and into the header whose extent holds it.
+fn descend(file: &[u8], top: usize, place: usize) -> Spotted
     requires { ⌜ place < length (now file) / 2 ⌝ }
-    ensures { λ r. ⌜ r ≡ descentTo (words (now (file .entry))) place ⌝ }
+    ensures { λ r. ⌜ IsLocated (words (now (file .entry))) top 0 Top place r ⌝ }
 {
-    let mut here = 0;
+    let mut here = top;
     let mut depth = 0;
     let mut above = Above::Top;
     while here < place {
@@ -171,7 +172,7 @@ pub fn locate(file: &[u8], place: usize, marker: usize) -> Spotted
 {
     if place < marker {
         if place < file.len() / 2 {
-            return descend(file, place);
+            return descend(file, 0, place);
         }
     }
     Spotted::Refused {
@@ -180,23 +181,66 @@ pub fn locate(file: &[u8], place: usize, marker: usize) -> Spotted
     }
 }
 
-// The element that starts at a place of a file: 1, the file's own refusals, then 13.
+// Where the descent to a place may begin, of two elements at the top: at the later one, `here`, where that is not after
+// the place.
+fn last_by(top: usize, here: usize, place: usize) -> usize
+    ensures { λ r. ⌜ r ≡ lastBy top here place ⌝ }
+{
+    if here <= place { here } else { top }
+}
+
+// The element that starts at a place of a file: 1, the file's own refusals, then 13. The elements at the top are judged
+// one after another; the last that starts by the place is where the descent begins.
 pub fn spotted_at(file: &[u8], dim: usize, place: usize) -> Spotted
     ensures { λ r. ⌜ r ≡ spottedAt dim (now (file .entry)) place ⌝ }
 {
-    match files::judge(file, dim) {
-        files::Judged::Refused {
-            number,
-            place: fault,
-        } => Spotted::Refused {
-            number,
-            place: fault,
-        },
-        files::Judged::Accepted {
-            elements: _,
-            deepest: _,
-            marker,
-        } => locate(file, place, marker),
+    if !files::call_ok(file, dim) {
+        return Spotted::Refused {
+            number: 1,
+            place: 0,
+        };
+    }
+    let bound = file.len() / 2;
+    let mut here = 0;
+    let mut top = 0;
+    loop {
+        match files::stop_at(file, here, bound, 0) {
+            files::Stop::Done => {
+                if place < here {
+                    return descend(file, top, place);
+                }
+                return Spotted::Refused {
+                    number: 13,
+                    place: 0,
+                };
+            }
+            files::Stop::Lacking => {
+                return Spotted::Refused {
+                    number: 2,
+                    place: here,
+                };
+            }
+            files::Stop::More => match files::element(file, here, bound, 0, 0, dim) {
+                files::Verdict::Fault {
+                    number,
+                    place: fault,
+                } => {
+                    return Spotted::Refused {
+                        number,
+                        place: fault,
+                    };
+                }
+                files::Verdict::Good {
+                    next,
+                    elements: _,
+                    deepest: _,
+                    direct: _,
+                } => {
+                    top = last_by(top, here, place);
+                    here = next;
+                }
+            },
+        }
     }
 }
 

@@ -17,11 +17,12 @@ use Rattle.files.specs.Spots.{spotsOf}
 use Rattle.reading.specs.declared.Above.{Above}
 use Rattle.reading.specs.declared.Spotted.the-variants.{At, Refused as Nowhere}
 use Rattle.reading.specs.Descent.{locateOf}
+use Rattle.edits.specs.declared.Edited.{Edited}
 use Rattle.edits.specs.declared.Edited.the-variants.{Made, Refused}
 use Rattle.edits.specs.Edits.{Edit, mark, rename, insert, remove, namePlace}
 use Rattle.edits.specs.Allowed.{Fault?, fine, fault, renameFault, editFault}
 use Rattle.edits.specs.Records.{flag, recordOf}
-use Rattle.edits.specs.Calls.{Session, Call, mark-call, rename-call, insert-call, remove-call, usedWords, edited, callOn, nameOfText, textOk, bufferOk}
+use Rattle.edits.specs.Calls.{Session, Call, mark-call, rename-call, insert-call, remove-call, usedWords, sessionFault, bufferOk}
 use Rattle.edits.proofs.Accepted.{Carried, Sound, SmallHeader, Small}
 use Rattle.edits.proofs.Bounds.{below-take}
 use Rattle.edits.proofs.Sound.{sound}
@@ -34,8 +35,8 @@ use Rattle.faults.proofs.Opening.{AcceptedUsed}
 use Rattle.faults.proofs.Exact.{standing, mark-is, rename-is, remove-is, insert-is}
 use Rattle.changes.specs.Changes.{flagPut, namePut, cellName, pieceIn, extentOut}
 use Rattle.changes.proofs.Made as made
-use Rattle.sessions.specs.Sessions.{Stepped, RenamedAs, Open, numberOf}
-use Rattle.sessions.proofs.Steps.{wordsBy, recordBy, edit-refused, edit-room, edit-journal, edit-done}
+use Rattle.sessions.specs.Sessions.{Leaves, Stepped, cellRenamed, Open, numberOf}
+use Rattle.sessions.proofs.Steps.{wordsBy, recordBy, edit-step, edit-refused, edit-room, edit-journal, edit-done}
 use Rattle.sessions.proofs.Opened.{file-lengths, journal-lengths, open-file, accepted-used, used-within, jused-within}
 use Rattle.sessions.proofs.Pushed.{Laid, flag-laid, renamed-laid, inserted-laid, removed-laid, record-long, record-pushed}
 
@@ -47,11 +48,12 @@ numbered-none : (n : ℕ) → n ≡ 0 → numbered n ≡ fine
 numbered-none n h = rw h refl
 
 -- what a text asks by what it packs to
-pub text-named : (text : List ℕ) (a b p : ℕ) → packed text ≡ name.Words a b → (nameOfText (packed text) p ≡ rename p a b) × (textOk (packed text) ≡ true)
-text-named text a b p e = (rw e refl, rw e refl)
+module _ (dim : ℕ) (s : Session) (p : ℕ) (text : List ℕ) {r : Edited} {file journal : List ℕ} (ready : sessionFault dim s ≡ fine) where
+  pub text-named : (a b : ℕ) → packed text ≡ name.Words a b → Leaves (cellRenamed dim s p true a b) r file journal → Stepped dim s (rename-call p text) r file journal
+  text-named a b e = edit-step dim s _ _ _ refl ready (rw e refl)
 
-pub text-unnamed : (text : List ℕ) (n q p : ℕ) → packed text ≡ name.Refused n q → (nameOfText (packed text) p ≡ rename p 0 0) × (textOk (packed text) ≡ false)
-text-unnamed text n q p e = (rw e refl, rw e refl)
+  pub text-unnamed : (n q : ℕ) → packed text ≡ name.Refused n q → Leaves (cellRenamed dim s p false 0 0) r file journal → Stepped dim s (rename-call p text) r file journal
+  text-unnamed n q e = edit-step dim s _ _ _ refl ready (rw e refl)
 
 -- what an insert was answered, as a refusal or none
 pub refusal-of : (f : Fault?) (n q : ℕ) → answerOf f ≡ answer.At n q → f ≡ fault n q
@@ -108,7 +110,7 @@ module _ (dim : ℕ) (file : List ℕ) (used : ℕ) (journal : List ℕ) (jused 
 
     pub mark-refused : (n ≡ 0 → ⊥) → Stepped dim s (mark-call p deleted) (Refused n 0) file journal
     mark-refused h =
-        edit-refused dim s (mark-call p deleted) refl (o .ready) (mark p deleted) (editFault dim ws (mark p deleted)) refl n 0 (sym mark-own ∙ numbered-fault n h)
+        edit-step dim s _ _ _ refl (o .ready) refl (edit-refused dim s (mark p deleted) (editFault dim ws (mark p deleted)) n 0 (sym mark-own ∙ numbered-fault n h))
 
     module _ (none : n ≡ 0) where
       mark-fine : editFault dim ws (mark p deleted) ≡ fine
@@ -125,7 +127,7 @@ module _ (dim : ℕ) (file : List ℕ) (used : ℕ) (journal : List ℕ) (jused 
       mark-full h =
           let l = mark-long in
           let j = (jused-within o) in
-          edit-journal dim s (mark-call p deleted) refl (o .ready) (mark p deleted) (editFault dim ws (mark p deleted)) refl mark-fine mark-fits (omega arith)
+          edit-step dim s _ _ _ refl (o .ready) refl (edit-journal dim s (mark p deleted) (editFault dim ws (mark p deleted)) mark-fine mark-fits (omega arith))
 
       pub mark-done : 12 ≤ length journal - jused → (part journal′ : List ℕ) → part ≡ flagPut deleted p (take used file) →
           journal′ ≡ recordPushed journal jused 1 4294967295 p [] → Stepped dim s (mark-call p deleted) (Made used (jused + 12)) (part ++ drop used file) journal′
@@ -133,10 +135,10 @@ module _ (dim : ℕ) (file : List ℕ) (used : ℕ) (journal : List ℕ) (jused 
       mark-done h part journal′ f j =
           let l = mark-long in
           let w = (jused-within o) in
-          edit-done dim s (mark-call p deleted) refl (o .ready) (mark p deleted) (editFault dim ws (mark p deleted)) refl mark-fine mark-fits (omega arith)
+          edit-step dim s _ _ _ refl (o .ready) refl (edit-done dim s (mark p deleted) (editFault dim ws (mark p deleted)) mark-fine mark-fits (omega arith)
           used (jused + 12) (part ++ drop used file) journal′ (sym (made.mark-length dim file used m below used-even (used-within o) open-used p deleted)) (omega arith)
           (ap (λ x. x ++ drop used file) f ∙ made.mark-made dim file used m below used-even (used-within o) open-used p deleted)
-          (j ∙ record-pushed (flag p) 1 4294967295 p [] refl (flag-laid p) journal jused jused-even (omega arith))
+          (j ∙ record-pushed (flag p) 1 4294967295 p [] refl (flag-laid p) journal jused jused-even (omega arith)))
 
   ---- rename
 
@@ -144,14 +146,8 @@ module _ (dim : ℕ) (file : List ℕ) (used : ℕ) (journal : List ℕ) (jused 
     rename-own : numbered n ≡ renameFault (spotsOf dim ws) ws p named
     rename-own = ap numbered is ∙ rename-is dim (take used file) m open-used used-below p named
 
-    -- what a text asks that asks for these words
-    rename-asked : (text : List ℕ) → nameOfText (packed text) p ≡ rename p a b → textOk (packed text) ≡ named →
-        callOn dim s ws (rename-call p text) ≡ edited dim s (rename p a b) (renameFault (spotsOf dim ws) ws p named)
-    rename-asked text e f = rw (e, f) refl
-
-    pub rename-refused : (n ≡ 0 → ⊥) → RenamedAs dim s p named a b (Refused n 0) file journal
-    rename-refused h text e f =
-        edit-refused dim s (rename-call p text) refl (o .ready) (rename p a b) (renameFault (spotsOf dim ws) ws p named) (rename-asked text e f) n 0 (sym rename-own ∙ numbered-fault n h)
+    pub rename-refused : (n ≡ 0 → ⊥) → Leaves (cellRenamed dim s p named a b) (Refused n 0) file journal
+    rename-refused h = edit-refused dim s (rename p a b) (renameFault (spotsOf dim ws) ws p named) n 0 (sym rename-own ∙ numbered-fault n h)
 
     module _ (none : n ≡ 0) where
       rename-fine : renameFault (spotsOf dim ws) ws p named ≡ fine
@@ -183,19 +179,19 @@ module _ (dim : ℕ) (file : List ℕ) (used : ℕ) (journal : List ℕ) (jused 
           let k = old-four in
           omega arith
 
-      pub rename-full : length journal - jused < 16 → RenamedAs dim s p named a b (Refused 16 0) file journal
-      rename-full h text e f =
+      pub rename-full : length journal - jused < 16 → Leaves (cellRenamed dim s p named a b) (Refused 16 0) file journal
+      rename-full h =
           let l = rename-record in
           let j = (jused-within o) in
-          edit-journal dim s (rename-call p text) refl (o .ready) (rename p a b) (renameFault (spotsOf dim ws) ws p named) (rename-asked text e f) rename-fine rename-fits (omega arith)
+          edit-journal dim s (rename p a b) (renameFault (spotsOf dim ws) ws p named) rename-fine rename-fits (omega arith)
 
       pub rename-done : 16 ≤ length journal - jused → a < 65536 → b < 65536 → (part old journal′ : List ℕ) → part ≡ namePut p a b (take used file) → old ≡ cellName ws p →
-          journal′ ≡ recordPushed journal jused 2 4294967295 p old → RenamedAs dim s p named a b (Made used (jused + 16)) (part ++ drop used file) journal′
-      rename-done h x y part old journal′ f q j text e g =
+          journal′ ≡ recordPushed journal jused 2 4294967295 p old → Leaves (cellRenamed dim s p named a b) (Made used (jused + 16)) (part ++ drop used file) journal′
+      rename-done h x y part old journal′ f q j =
           let l = rename-record in
           let k = old-four in
           let w = (jused-within o) in
-          edit-done dim s (rename-call p text) refl (o .ready) (rename p a b) (renameFault (spotsOf dim ws) ws p named) (rename-asked text e g) rename-fine rename-fits (omega arith)
+          edit-done dim s (rename p a b) (renameFault (spotsOf dim ws) ws p named) rename-fine rename-fits (omega arith)
           used (jused + 16) (part ++ drop used file) journal′ (sym rename-long′) (omega arith)
           (ap (λ x. x ++ drop used file) f ∙ made.rename-made dim file used m below used-even (used-within o) open-used p a b x y)
           (j ∙ ap (recordPushed journal jused 2 4294967295 p) q ∙ record-pushed (recordOf dim ws (rename p a b)) 2 4294967295 p (cellName ws p) old-even old-laid journal jused jused-even (omega arith))
@@ -214,7 +210,7 @@ module _ (dim : ℕ) (file : List ℕ) (used : ℕ) (journal : List ℕ) (jused 
     insert-own = insert-is dim (take used file) m open-used used-below h p (words piece)
 
     pub insert-refused : (n q : ℕ) → insertRefusal dim (take used file) m h p (words piece) ≡ fault n q → Stepped dim s call (Refused n q) file journal
-    insert-refused n q e = edit-refused dim s call lent (o .ready) put (editFault dim ws put) refl n q (sym insert-own ∙ e)
+    insert-refused n q e = edit-step dim s _ _ _ lent (o .ready) refl (edit-refused dim s put (editFault dim ws put) n q (sym insert-own ∙ e))
 
     module _ (none : insertRefusal dim (take used file) m h p (words piece) ≡ fine) where
       insert-fine : editFault dim ws put ≡ fine
@@ -237,7 +233,7 @@ module _ (dim : ℕ) (file : List ℕ) (used : ℕ) (journal : List ℕ) (jused 
       insert-room l =
           let n = insert-long in
           let w = (used-within o) in
-          edit-room dim s call lent (o .ready) put (editFault dim ws put) refl insert-fine (omega arith)
+          edit-step dim s _ _ _ lent (o .ready) refl (edit-room dim s put (editFault dim ws put) insert-fine (omega arith))
 
       module _ (fits : length piece ≤ length file - used) where
         insert-fits : 2 * length (wordsBy dim s put) ≤ length file
@@ -247,7 +243,7 @@ module _ (dim : ℕ) (file : List ℕ) (used : ℕ) (journal : List ℕ) (jused 
         insert-full l =
             let n = insert-record in
             let w = (jused-within o) in
-            edit-journal dim s call lent (o .ready) put (editFault dim ws put) refl insert-fine insert-fits (omega arith)
+            edit-step dim s _ _ _ lent (o .ready) refl (edit-journal dim s put (editFault dim ws put) insert-fine insert-fits (omega arith))
 
         pub insert-done : 12 ≤ length journal - jused → (header : ℕ) (file′ journal′ : List ℕ) → file′ ≡ pieceIn file used h p piece →
             header ≡ numberOf h → journal′ ≡ recordPushed journal jused 3 header p [] → Stepped dim s call (Made (used + length piece) (jused + 12)) file′ journal′
@@ -256,10 +252,10 @@ module _ (dim : ℕ) (file : List ℕ) (used : ℕ) (journal : List ℕ) (jused 
             let n = insert-record in
             let w = (jused-within o) in
             let u = (used-within o) in
-            edit-done dim s call lent (o .ready) put (editFault dim ws put) refl insert-fine insert-fits (omega arith)
+            edit-step dim s _ _ _ lent (o .ready) refl (edit-done dim s put (editFault dim ws put) insert-fine insert-fits (omega arith)
             (used + length piece) (jused + 12) file′ journal′ (sym insert-long) (omega arith)
             (f ∙ made.insert-made dim file used m below used-even (used-within o) open-used h p piece piece-even insert-fine (omega arith))
-            (j ∙ ap (λ n. recordPushed journal jused 3 n p []) q ∙ record-pushed (recordOf dim ws put) 3 (numberOf h) p [] refl insert-laid journal jused jused-even (omega arith))
+            (j ∙ ap (λ n. recordPushed journal jused 3 n p []) q ∙ record-pushed (recordOf dim ws put) 3 (numberOf h) p [] refl insert-laid journal jused jused-even (omega arith)))
 
   ---- remove
 
@@ -271,7 +267,7 @@ module _ (dim : ℕ) (file : List ℕ) (used : ℕ) (journal : List ℕ) (jused 
     pub remove-absent : (n q : ℕ) → locateOf ws p m ≡ Nowhere n q → Stepped dim s (remove-call p) (Refused 13 0) file journal
     unfolding removeNumber
     remove-absent n q e =
-        edit-refused dim s (remove-call p) refl (o .ready) (remove p) (editFault dim ws (remove p)) refl 13 0 (sym remove-own ∙ rw e refl)
+        edit-step dim s _ _ _ refl (o .ready) refl (edit-refused dim s (remove p) (editFault dim ws (remove p)) 13 0 (sym remove-own ∙ rw e refl))
 
     module _ (end depth : ℕ) (above : Above) (located : locateOf ws p m ≡ At end depth above) where
       remove-fine : editFault dim ws (remove p) ≡ fine
@@ -322,7 +318,7 @@ module _ (dim : ℕ) (file : List ℕ) (used : ℕ) (journal : List ℕ) (jused 
       remove-full l =
           let n = remove-record in
           let w = (jused-within o) in
-          edit-journal dim s (remove-call p) refl (o .ready) (remove p) (editFault dim ws (remove p)) refl remove-fine remove-fits (omega arith)
+          edit-step dim s _ _ _ refl (o .ready) refl (edit-journal dim s (remove p) (editFault dim ws (remove p)) remove-fine remove-fits (omega arith))
 
       pub remove-done : 2 * (end - p) + 12 ≤ length journal - jused → (header : ℕ) (file′ journal′ : List ℕ) → file′ ≡ extentOut file used above p (end - p) →
           header ≡ numberOf above → journal′ ≡ recordPushed journal jused 4 header p payload →
@@ -331,7 +327,7 @@ module _ (dim : ℕ) (file : List ℕ) (used : ℕ) (journal : List ℕ) (jused 
           let n = remove-record in
           let k = payload-long in
           let w = (jused-within o) in
-          edit-done dim s (remove-call p) refl (o .ready) (remove p) (editFault dim ws (remove p)) refl remove-fine remove-fits (omega arith)
+          edit-step dim s _ _ _ refl (o .ready) refl (edit-done dim s (remove p) (editFault dim ws (remove p)) remove-fine remove-fits (omega arith)
           (used - 2 * (end - p)) (jused + 2 * (end - p) + 12) file′ journal′ (sym remove-long) (omega arith)
           (f ∙ made.remove-made dim file used m below used-even (used-within o) open-used p end depth above located)
-          (j ∙ ap (λ n. recordPushed journal jused 4 n p payload) q ∙ record-pushed (recordOf dim ws (remove p)) 4 (numberOf above) p payload payload-even remove-laid journal jused jused-even (omega arith))
+          (j ∙ ap (λ n. recordPushed journal jused 4 n p payload) q ∙ record-pushed (recordOf dim ws (remove p)) 4 (numberOf above) p payload payload-even remove-laid journal jused jused-even (omega arith)))

@@ -1,13 +1,13 @@
 -- What an open session has: its lengths are right, and its used file is accepted.
 use Prim.Native.Nat.{ℕ, _-_, _≤_}
 use mathlib.Core.Path.{_≡_, refl, sym, _∙_, subst}
-use mathlib.Core.Bool.{true, _&&_, _||_, and-eq-true-iff}
+use mathlib.Core.Bool.{true, _||_, and-eq-true-iff}
 use mathlib.Core.List.{List}
 use native.Mathlib.Omega.{arith}
 use lib.ListN.{length, take}
 use lib.Dec.{eqb}
 use Rattle.edits.specs.Allowed.{Fault?, fine, fault, unless}
-use Rattle.edits.specs.Calls.{undo-call, usedWords, endsInMarker, sessionOk, fileFault, openFault}
+use Rattle.edits.specs.Calls.{usedWords, endsInMarker, sessionOk, fileFault, sessionFault}
 use Rattle.edits.proofs.Faults.{orElse-fine, unless-fine}
 use Rattle.files.specs.Judge.{topOf}
 use Rattle.faults.specs.declared.Opened.{Opened}
@@ -18,32 +18,31 @@ use Rattle.sessions.specs.Sessions.{Open, OpenFile}
 
 module _ (dim : ℕ) (file : List ℕ) (used : ℕ) (journal : List ℕ) (jused : ℕ) where
   abbrev fault-of : Fault?
-  fault-of = openFault dim (sessionOf file used journal jused) undo-call
+  fault-of = sessionFault dim (sessionOf file used journal jused)
 
   -- what opening answered
   module _ (r : Opened) (is : OpenedAs dim file used (length journal) jused r) where
     pub opened-ready : (m : ℕ) → r ≡ Ready m → Open dim file used journal jused m
     opened-ready m h = go fault-of refl (sym h ∙ is journal refl)
       where
-        go : (f : Fault?) → openFault dim (sessionOf file used journal jused) undo-call ≡ f → Ready m ≡ openedBy f (length (usedWords file used) - 1) → Open dim file used journal jused m
+        go : (f : Fault?) → sessionFault dim (sessionOf file used journal jused) ≡ f → Ready m ≡ openedBy f (length (usedWords file used) - 1) → Open dim file used journal jused m
         go fine e q = record { ready = e; marker-is = (let z : m ≡ length (usedWords file used) - 1 = cc in z) }
         go (fault n p) e q = let z : _≡_ {A = ℕ} 0 1 = cc in absurd (omega arith)
 
     pub opened-refused : (n p : ℕ) → r ≡ Refused n p → fault-of ≡ fault n p
     opened-refused n p h = go fault-of refl (sym h ∙ is journal refl)
       where
-        go : (f : Fault?) → openFault dim (sessionOf file used journal jused) undo-call ≡ f → Refused n p ≡ openedBy f (length (usedWords file used) - 1) →
-            openFault dim (sessionOf file used journal jused) undo-call ≡ fault n p
+        go : (f : Fault?) → sessionFault dim (sessionOf file used journal jused) ≡ f → Refused n p ≡ openedBy f (length (usedWords file used) - 1) →
+            sessionFault dim (sessionOf file used journal jused) ≡ fault n p
         go fine e q = let z : _≡_ {A = ℕ} 0 1 = cc in absurd (omega arith)
         go (fault n′ p′) e q = e ∙ (let z : fault n′ p′ ≡ fault n p = cc in z)
 
-  module _ (ready : openFault dim (sessionOf file used journal jused) undo-call ≡ fine) where
+  module _ (ready : sessionFault dim (sessionOf file used journal jused) ≡ fine) where
     lengths : (lengthsOk (length file) used ≡ true) × (lengthsOk (length journal) jused ≡ true)
-    unfolding openFault sessionOk
+    unfolding sessionFault sessionOk
     lengths =
-        let f = orElse-fine (unless (sessionOk dim (sessionOf file used journal jused) && true) 1) (fileFault (topOf dim (usedWords file used)) (length (usedWords file used) - 1)) ready in
-        let t = and-eq-true-iff (sessionOk dim (sessionOf file used journal jused)) true .0 (unless-fine (sessionOk dim (sessionOf file used journal jused) && true) 1 (f .0)) in
-        let b = and-eq-true-iff (eqb dim 2 || eqb dim 3) _ .0 (t .0) in
+        let f = orElse-fine (unless (sessionOk dim (sessionOf file used journal jused)) 1) (fileFault (topOf dim (usedWords file used)) (length (usedWords file used) - 1)) ready in
+        let b = and-eq-true-iff (eqb dim 2 || eqb dim 3) _ .0 (unless-fine (sessionOk dim (sessionOf file used journal jused)) 1 (f .0)) in
         let c = and-eq-true-iff (lengthsOk (length file) used) _ .0 (b .1) in
         let d = and-eq-true-iff (lengthsOk (length journal) jused) (endsInMarker (usedWords file used)) .0 (c .1) in
         (c .0, d .0)

@@ -2,7 +2,7 @@
 use Prim.Native.Nat.{ℕ, _+_, _-_, _*_, _/_, _%_, _≤_, _<_}
 use mathlib.Core.Path.{_≡_, refl, sym, ap, _∙_, subst}
 use mathlib.Core.Bool.{Bool, true, false, false≢true}
-use mathlib.Core.List.{List, _++_}
+use mathlib.Core.List.{List, [], _++_}
 use mathlib.Core.Option.{some}
 use native.Mathlib.Omega.{arith}
 use lib.ListN.{length, take, drop, length-take, length-drop}
@@ -25,7 +25,7 @@ use Rattle.buffers.specs.declared.Last.the-variants as last
 use Rattle.buffers.specs.Journals.{Within, LastRead}
 use Rattle.buffers.proofs.Laws.{before-length, part-words}
 use Rattle.faults.specs.Opening.{sessionOf}
-use Rattle.faults.specs.Faults.{headerOf, reversesAt}
+use Rattle.faults.specs.Faults.{headerOf, sameAbove, standsUnder, reversesAt}
 use Rattle.faults.proofs.Opening.{AcceptedUsed}
 use Rattle.faults.proofs.Exact.{reversible-is}
 use Rattle.edits.proofs.Bounds.{below-take}
@@ -91,28 +91,28 @@ module _ (dim : ℕ) (file : List ℕ) (used m : ℕ) (o : OpenFile dim file use
 
   ---- what was put in is taken out
 
-  module _ (h p : ℕ) (x : List ℕ) (above₀ : Above) (is : above₀ ≡ aboveAt h) where
-    in-is : reversesAt dim (take used file) m 3 above₀ p x ≡ reversible dim ws (inserted (placeOf h) p)
-    in-is =
-        ap (λ v. reversesAt dim (take used file) m 3 v p x) is
-        ∙ reversible-is dim (take used file) m used-here used-below 3 (aboveAt h) p x ∙ ap (λ q. reversible dim ws (inserted q p)) (header-above h)
+  module _ (h p : ℕ) where
+    in-is : standsUnder (locateOf ws p m) (aboveAt h) ≡ reversible dim ws (inserted (placeOf h) p)
+    unfolding reversesAt
+    in-is = reversible-is dim (take used file) m used-here used-below 3 (aboveAt h) p [] ∙ ap (λ q. reversible dim ws (inserted q p)) (header-above h)
 
-    pub in-refused : reversesAt dim (take used file) m 3 above₀ p x ≡ false → Reversed dim file used (inserted (placeOf h) p) before (Refused 19 0) file
-    in-refused e = back-refused dim file used (inserted (placeOf h) p) before (sym in-is ∙ e)
+    pub in-absent : (n q : ℕ) → locateOf ws p m ≡ Nowhere n q → Reversed dim file used (inserted (placeOf h) p) before (Refused 19 0) file
+    in-absent n q l = back-refused dim file used (inserted (placeOf h) p) before (sym in-is ∙ rw l refl)
 
-    module _ (e : reversesAt dim (take used file) m 3 above₀ p x ≡ true) where
-      -- an element is there
-      pub in-there : (n q : ℕ) → locateOf ws p m ≡ Nowhere n q → ⊥
-      unfolding reversesAt
-      in-there n q l = false≢true (rw l at e)
+    module _ (end depth : ℕ) (above above₀ : Above) (l : locateOf ws p m ≡ At end depth above) (is : above₀ ≡ aboveAt h) (same : Bool) (by : same ≡ sameAbove above above₀) where
+      in-same : same ≡ reversible dim ws (inserted (placeOf h) p)
+      in-same = by ∙ ap (sameAbove above) is ∙ sym (ap (λ v. standsUnder v (aboveAt h)) l) ∙ in-is
 
-      pub in-done : (end depth : ℕ) (above : Above) → locateOf ws p m ≡ At end depth above → (file′ : List ℕ) → file′ ≡ extentOut file used above p (end - p) →
+      pub in-refused : same ≡ false → Reversed dim file used (inserted (placeOf h) p) before (Refused 19 0) file
+      in-refused e = back-refused dim file used (inserted (placeOf h) p) before (sym in-same ∙ e)
+
+      pub in-done : same ≡ true → (file′ : List ℕ) → file′ ≡ extentOut file used above p (end - p) →
           Reversed dim file used (inserted (placeOf h) p) before (Made (used - 2 * (end - p)) before) file′
       unfolding reversal
-      in-done end depth above l file′ f =
+      in-done e file′ f =
           let n = made.remove-length dim file used m below (o .even) (o .within) used-here p end depth above l in
           let w = o .within in
-          back-done dim file used (inserted (placeOf h) p) before (sym in-is ∙ e) (omega arith) (used - 2 * (end - p)) file′ (sym n)
+          back-done dim file used (inserted (placeOf h) p) before (sym in-same ∙ e) (omega arith) (used - 2 * (end - p)) file′ (sym n)
           (f ∙ made.remove-made dim file used m below (o .even) (o .within) used-here p end depth above l)
 
   -- where the extent of the element that is there ends

@@ -1,7 +1,7 @@
 -- The ways out of a step: refused at opening; of an edit its own refusals, 15, 16, or made; of an undo 17, 19, 15, or made.
 use Prim.Native.Nat.{ℕ, _+_, _*_, _≤_, _<_}
-use mathlib.Core.Path.{_≡_, refl, sym, ap, _∙_}
-use mathlib.Core.Bool.{true, false, and-false}
+use mathlib.Core.Path.{_≡_, refl, sym, _∙_, subst}
+use mathlib.Core.Bool.{true, false}
 use mathlib.Core.List.{List}
 use mathlib.Core.Option.{none, some}
 use lib.ListN.{length}
@@ -11,39 +11,42 @@ use Rattle.edits.specs.declared.Edited.the-variants.{Made, Refused}
 use Rattle.edits.specs.Edits.{Edit, apply}
 use Rattle.edits.specs.Allowed.{Fault?, fine, fault}
 use Rattle.edits.specs.Records.{Rec, recordOf, recordWords, lastRecord, reversal, reversible}
-use Rattle.edits.specs.Calls.{Session, Call, undo-call, pieceOk, usedWords, sessionOk, openFault, stored, pushed, Result, refused, editMade, editWithin, edited, resultBy, undoMade, undoBy, undone, callOn, step}
-use Rattle.sessions.specs.Sessions.{Stepped, Reversed, answerBy, fileBy, reversalFault}
+use Rattle.edits.specs.Calls.{Session, Call, undo-call, pieceOk, usedWords, sessionFault, openFault, stored, pushed, Result, refused, editMade, editWithin, edited, resultBy, undoMade, undoBy, undone, callOn, step}
+use Rattle.sessions.specs.Sessions.{Leaves, Stepped, Reversed, answerBy, fileBy, reversalFault}
 
--- what a call answers and leaves, by the result of its step
-stepped : (dim : ℕ) (s : Session) (c : Call) (q : Result) → step dim s c ≡ q → Stepped dim s c (q .answer) (q .after .file) (q .after .journal)
-stepped dim s c q e = record { answer = ap (λ z. z .answer) (sym e); file-is = ap (λ z. z .after .file) (sym e); journal-is = ap (λ z. z .after .journal) (sym e) }
+-- what a result says, by another that is the same
+by-result : {p q : Result} {r : Edited} {file journal : List ℕ} → p ≡ q → Leaves q r file journal → Leaves p r file journal
+by-result {r = r} {file = file} {journal = journal} e = subst (λ z. Leaves z r file journal) (sym e)
+
+left : {p : Result} (q : Result) → p ≡ q → Leaves p (q .answer) (q .after .file) (q .after .journal)
+left q e = by-result e (record { answer = refl; file-is = refl; journal-is = refl })
 
 -- the same answer by another name
-pub answered : {dim : ℕ} {s : Session} {c : Call} {file journal : List ℕ} {r q : Edited} → r ≡ q → Stepped dim s c q file journal → Stepped dim s c r file journal
+pub answered : {p : Result} {file journal : List ℕ} {r q : Edited} → r ≡ q → Leaves p q file journal → Leaves p r file journal
 answered e t = rw e t
 
 ---- opening
 
 module _ (dim : ℕ) (s : Session) (c : Call) where
-  -- a call whose piece, if it has one, may be lent is refused at opening as an undo is
-  open-same : pieceOk c ≡ true → openFault dim s c ≡ openFault dim s undo-call
+  -- a call whose piece, if it has one, may be lent is refused at opening as the session is
+  open-same : pieceOk c ≡ true → openFault dim s c ≡ sessionFault dim s
   unfolding openFault
   open-same e = rw e refl
 
   -- a piece that may not be lent
   open-piece : pieceOk c ≡ false → openFault dim s c ≡ fault 1 0
   unfolding openFault
-  open-piece e = rw (e, and-false (sessionOk dim s)) refl
+  open-piece e = rw e refl
 
-  pub closed : (n p : ℕ) → pieceOk c ≡ true → openFault dim s undo-call ≡ fault n p → Stepped dim s c (Refused n p) (s .file) (s .journal)
+  pub closed : (n p : ℕ) → pieceOk c ≡ true → sessionFault dim s ≡ fault n p → Stepped dim s c (Refused n p) (s .file) (s .journal)
   unfolding step
-  closed n p ok e = stepped dim s c (refused s n p) (rw (open-same ok, e) refl)
+  closed n p ok e = left (refused s n p) (rw (open-same ok, e) refl)
 
   pub not-lent : pieceOk c ≡ false → Stepped dim s c (Refused 1 0) (s .file) (s .journal)
   unfolding step
-  not-lent e = stepped dim s c (refused s 1 0) (rw (open-piece e) refl)
+  not-lent e = left (refused s 1 0) (rw (open-piece e) refl)
 
-  opened : pieceOk c ≡ true → openFault dim s undo-call ≡ fine → step dim s c ≡ callOn dim s (usedWords (s .file) (s .used)) c
+  opened : pieceOk c ≡ true → sessionFault dim s ≡ fine → step dim s c ≡ callOn dim s (usedWords (s .file) (s .used)) c
   unfolding step
   opened ok e = rw (open-same ok, e) refl
 
@@ -56,40 +59,41 @@ wordsBy dim s e = apply dim (usedWords (s .file) (s .used)) e
 abbrev pub recordBy : ℕ → Session → Edit → List ℕ
 recordBy dim s e = recordWords (recordOf dim (usedWords (s .file) (s .used)) e)
 
-module _ (dim : ℕ) (s : Session) (c : Call) (ok : pieceOk c ≡ true) (ready : openFault dim s undo-call ≡ fine) (e : Edit) (own : Fault?)
-    (is : callOn dim s (usedWords (s .file) (s .used)) c ≡ edited dim s e own) where
+-- a call that asks for an edit
+pub edit-step : (dim : ℕ) (s : Session) (c : Call) (e : Edit) (own : Fault?) {r : Edited} {file journal : List ℕ} → pieceOk c ≡ true → sessionFault dim s ≡ fine →
+    callOn dim s (usedWords (s .file) (s .used)) c ≡ edited dim s e own → Leaves (edited dim s e own) r file journal → Stepped dim s c r file journal
+edit-step dim s c e own ok ready is t = by-result (opened dim s c ok ready ∙ is) t
+
+module _ (dim : ℕ) (s : Session) (e : Edit) (own : Fault?) where
   -- its own refusals
-  pub edit-refused : (n p : ℕ) → own ≡ fault n p → Stepped dim s c (Refused n p) (s .file) (s .journal)
+  pub edit-refused : (n p : ℕ) → own ≡ fault n p → Leaves (edited dim s e own) (Refused n p) (s .file) (s .journal)
   unfolding edited
-  edit-refused n p h = stepped dim s c (refused s n p) (opened dim s c ok ready ∙ is ∙ rw h refl)
+  edit-refused n p h = left (refused s n p) (rw h refl)
 
   module _ (fine′ : own ≡ fine) where
-    pub edit-room : length (s .file) < 2 * length (wordsBy dim s e) → Stepped dim s c (Refused 15 0) (s .file) (s .journal)
+    pub edit-room : length (s .file) < 2 * length (wordsBy dim s e) → Leaves (edited dim s e own) (Refused 15 0) (s .file) (s .journal)
     unfolding edited editWithin
-    edit-room h =
-        stepped dim s c (refused s 15 0) (opened dim s c ok ready ∙ is ∙ rw (fine′, lt-leb (2 * length (wordsBy dim s e)) (length (s .file)) h) refl)
+    edit-room h = left (refused s 15 0) (rw (fine′, lt-leb (2 * length (wordsBy dim s e)) (length (s .file)) h) refl)
 
     module _ (fits : 2 * length (wordsBy dim s e) ≤ length (s .file)) where
-      pub edit-journal : length (s .journal) < s .jused + 2 * length (recordBy dim s e) → Stepped dim s c (Refused 16 0) (s .file) (s .journal)
+      pub edit-journal : length (s .journal) < s .jused + 2 * length (recordBy dim s e) → Leaves (edited dim s e own) (Refused 16 0) (s .file) (s .journal)
       unfolding edited editWithin
       edit-journal h =
-          stepped dim s c (refused s 16 0)
-          (opened dim s c ok ready ∙ is
-          ∙ rw (fine′, le-leb (2 * length (wordsBy dim s e)) (length (s .file)) fits, lt-leb (s .jused + 2 * length (recordBy dim s e)) (length (s .journal)) h) refl)
+          left (refused s 16 0)
+          (rw (fine′, le-leb (2 * length (wordsBy dim s e)) (length (s .file)) fits, lt-leb (s .jused + 2 * length (recordBy dim s e)) (length (s .journal)) h) refl)
 
-      edit-made : s .jused + 2 * length (recordBy dim s e) ≤ length (s .journal) → step dim s c ≡ editMade s (wordsBy dim s e) (recordBy dim s e)
+      edit-made : s .jused + 2 * length (recordBy dim s e) ≤ length (s .journal) → edited dim s e own ≡ editMade s (wordsBy dim s e) (recordBy dim s e)
       unfolding edited editWithin
       edit-made h =
-          opened dim s c ok ready ∙ is
-          ∙ rw (fine′, le-leb (2 * length (wordsBy dim s e)) (length (s .file)) fits, le-leb (s .jused + 2 * length (recordBy dim s e)) (length (s .journal)) h) refl
+          rw (fine′, le-leb (2 * length (wordsBy dim s e)) (length (s .file)) fits, le-leb (s .jused + 2 * length (recordBy dim s e)) (length (s .journal)) h) refl
 
       -- made: the buffers and the lengths are those stored and pushed
       pub edit-done : s .jused + 2 * length (recordBy dim s e) ≤ length (s .journal) → (used jused : ℕ) (file journal : List ℕ) →
           used ≡ 2 * length (wordsBy dim s e) → jused ≡ s .jused + 2 * length (recordBy dim s e) →
           file ≡ stored (s .file) (s .used) (wordsBy dim s e) → journal ≡ pushed (s .journal) (s .jused) (recordBy dim s e) →
-          Stepped dim s c (Made used jused) file journal
+          Leaves (edited dim s e own) (Made used jused) file journal
       unfolding editMade
-      edit-done h used jused file journal u j f g = rw (u, j, f, g) (stepped dim s c (editMade s (wordsBy dim s e) (recordBy dim s e)) (edit-made h))
+      edit-done h used jused file journal u j f g = rw (u, j, f, g) (left (editMade s (wordsBy dim s e) (recordBy dim s e)) (edit-made h))
 
 ---- undo
 
@@ -110,10 +114,10 @@ module _ (s : Session) (ws : List ℕ) (before : ℕ) where
   journal-of fine = refl
   journal-of (fault n p) = refl
 
-module _ (dim : ℕ) (s : Session) (ready : openFault dim s undo-call ≡ fine) where
+module _ (dim : ℕ) (s : Session) (ready : sessionFault dim s ≡ fine) where
   pub undo-nothing : s .jused ≡ 0 → Stepped dim s undo-call (Refused 17 0) (s .file) (s .journal)
   unfolding undone
-  undo-nothing e = stepped dim s undo-call (refused s 17 0) (opened dim s undo-call refl ready ∙ rw e refl)
+  undo-nothing e = left (refused s 17 0) (opened dim s undo-call refl ready ∙ rw e refl)
 
   module _ (some-used : s .jused ≡ 0 → ⊥) where
     undo-some : step dim s undo-call ≡ undoBy dim s (usedWords (s .file) (s .used)) (lastRecord (usedWords (s .journal) (s .jused)))
@@ -121,7 +125,7 @@ module _ (dim : ℕ) (s : Session) (ready : openFault dim s undo-call ≡ fine) 
     undo-some = opened dim s undo-call refl ready ∙ rw (ne-eqb (s .jused) 0 some-used) refl
 
     pub undo-bad : lastRecord (usedWords (s .journal) (s .jused)) ≡ none → Stepped dim s undo-call (Refused 19 0) (s .file) (s .journal)
-    undo-bad e = stepped dim s undo-call (refused s 19 0) (undo-some ∙ rw e refl)
+    undo-bad e = left (refused s 19 0) (undo-some ∙ rw e refl)
 
     -- the last record's reversal, by what it answers and leaves
     pub undo-reversed : (rec : Rec) (js : List ℕ) (before : ℕ) (r : Edited) (after : List ℕ) → lastRecord (usedWords (s .journal) (s .jused)) ≡ some (rec, js) →
@@ -131,11 +135,11 @@ module _ (dim : ℕ) (s : Session) (ready : openFault dim s undo-call ≡ fine) 
         let ws = usedWords (s .file) (s .used) in
         let q = undoMade s (apply dim ws (reversal ws rec)) (2 * length js) in
         let step-is : step dim s undo-call ≡ resultBy (reversalFault dim (s .file) (s .used) rec) s q = undo-some ∙ rw e refl in
-        record {
-          answer = v .answer ∙ rw (← l) (answer-of s (apply dim ws (reversal ws rec)) (2 * length js) (reversalFault dim (s .file) (s .used) rec)) ∙ ap (λ z. z .answer) (sym step-is);
-          file-is = v .file-is ∙ file-of s (apply dim ws (reversal ws rec)) (2 * length js) (reversalFault dim (s .file) (s .used) rec) ∙ ap (λ z. z .after .file) (sym step-is);
-          journal-is = journal-of s (apply dim ws (reversal ws rec)) (2 * length js) (reversalFault dim (s .file) (s .used) rec) ∙ ap (λ z. z .after .journal) (sym step-is);
-        }
+        by-result step-is (record {
+          answer = v .answer ∙ rw (← l) (answer-of s (apply dim ws (reversal ws rec)) (2 * length js) (reversalFault dim (s .file) (s .used) rec));
+          file-is = v .file-is ∙ file-of s (apply dim ws (reversal ws rec)) (2 * length js) (reversalFault dim (s .file) (s .used) rec);
+          journal-is = journal-of s (apply dim ws (reversal ws rec)) (2 * length js) (reversalFault dim (s .file) (s .used) rec);
+        })
 
 ---- one record's reversal
 

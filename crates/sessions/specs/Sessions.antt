@@ -1,13 +1,14 @@
 -- What the five calls of a session owe (document 01, "Editing"): each is one step of edits' definition of a session, of
--- which demand 3 is proved. The rest are the private parts' own: an open session, and one record's reversal.
+-- which demand 3 is proved. What follows serves the contracts of private functions: an open session, an edit made in it,
+-- and one record's reversal.
 use Prim.Native.Nat.{ℕ, _+_, _-_, _*_, _%_, _≤_}
 use mathlib.Core.Path.{_≡_}
 use mathlib.Core.List.{List}
 use lib.ListN.{length, take}
 use lib.Dec.{eqb, leb}
 use mathlib.Core.Bool.{Bool, cond}
-use Rattle.names.specs.Names.{packed}
 use Rattle.files.specs.Judge.{judgeOf}
+use Rattle.files.specs.Spots.{spotsOf}
 use Rattle.files.specs.declared.Judged.the-variants as judged
 use Rattle.reading.specs.declared.Above.{Above}
 use Rattle.reading.specs.declared.Above.the-variants.{Top, Under}
@@ -16,26 +17,29 @@ use Rattle.reading.specs.Descent.{locateOf}
 use Rattle.edits.specs.declared.Edited.{Edited}
 use Rattle.edits.specs.declared.Edited.the-variants.{Made, Refused}
 use Rattle.edits.specs.Edits.{rename, apply}
-use Rattle.edits.specs.Allowed.{Fault?, fine, fault, orElse, unless}
+use Rattle.edits.specs.Allowed.{Fault?, fine, fault, orElse, unless, renameFault}
 use Rattle.edits.specs.Records.{Rec, reversal, reversible}
-use Rattle.edits.specs.Calls.{Session, Call, rename-call, undo-call, usedWords, openFault, stored, nameOfText, textOk, step}
+use Rattle.edits.specs.Calls.{Session, Call, usedWords, sessionFault, stored, Result, edited, step}
 use Rattle.faults.specs.Opening.{sessionOf}
 
--- what a call answers and leaves in the two buffers is what the step says
-pub record Stepped (dim : ℕ) (s : Session) (c : Call) (r : Edited) (file journal : List ℕ) : Type 0 where
-  pub answer : r ≡ step dim s c .answer
-  pub file-is : file ≡ step dim s c .after .file
-  pub journal-is : journal ≡ step dim s c .after .journal
+-- what is answered and left in the two buffers is what a result says
+pub record Leaves (q : Result) (r : Edited) (file journal : List ℕ) : Type 0 where
+  pub answer : r ≡ q .answer
+  pub file-is : file ≡ q .after .file
+  pub journal-is : journal ≡ q .after .journal
 
--- the same of a rename by any text that asks for these two words, or is no name
-abbrev pub RenamedAs : ℕ → Session → ℕ → Bool → ℕ → ℕ → Edited → List ℕ → List ℕ → Type 0
-RenamedAs dim s p named a b r file journal =
-    (text : List ℕ) → nameOfText (packed text) p ≡ rename p a b → textOk (packed text) ≡ named →
-    Stepped dim s (rename-call p text) r file journal
+-- of a call: what its step says
+abbrev pub Stepped : ℕ → Session → Call → Edited → List ℕ → List ℕ → Type 0
+Stepped dim s c r file journal = Leaves (step dim s c) r file journal
+
+-- of a rename by two words in an open session, `named` false where a text is no name
+abbrev pub cellRenamed : ℕ → Session → ℕ → Bool → ℕ → ℕ → Result
+cellRenamed dim s p named a b =
+    edited dim s (rename p a b) (renameFault (spotsOf dim (usedWords (s .file) (s .used))) (usedWords (s .file) (s .used)) p named)
 
 -- a session that opens, with the place of its file's marker
 pub record Open (dim : ℕ) (file : List ℕ) (used : ℕ) (journal : List ℕ) (jused marker : ℕ) : Type 0 where
-  pub ready : openFault dim (sessionOf file used journal jused) undo-call ≡ fine
+  pub ready : sessionFault dim (sessionOf file used journal jused) ≡ fine
   pub marker-is : marker ≡ length (usedWords file used) - 1
 
 -- its file alone

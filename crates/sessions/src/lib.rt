@@ -11,7 +11,7 @@ ghost use Rattle.edits.specs.Calls.{mark-call, rename-call, insert-call, remove
 ghost use Rattle.faults.specs.Opening.{sessionOf};
 ghost use Rattle.faults.specs.Faults.{headerOf};
 ghost use Rattle.edits.specs.declared.Edited.the-variants.{Refused};
-ghost use Rattle.sessions.specs.Sessions.{Stepped, RenamedAs, Open, OpenFile, Stands, Reversed, numberOf, aboveAt};
+ghost use Rattle.sessions.specs.Sessions.{Leaves, Stepped, cellRenamed, Open, OpenFile, Stands, Reversed, numberOf, aboveAt};
 use buffers::Last;
 use buffers::TOP;
 use edits::Edited;
@@ -115,7 +115,7 @@ fn rename_opened(
     second: u16,
 ) -> Edited
     requires { ⌜ Open dim (now file) used (now journal) jused marker ⌝ }
-    ensures { λ r. ⌜ RenamedAs dim (sessionOf (now (file .entry)) used (now (journal .entry)) jused) place named first second r (now (file .exit)) (now (journal .exit)) ⌝ }
+    ensures { λ r. ⌜ Leaves (cellRenamed dim (sessionOf (now (file .entry)) used (now (journal .entry)) jused) place named first second) r (now (file .exit)) (now (journal .exit)) ⌝ }
 {
     let number = faults::rename_fault(&file[..used], marker, place, named);
     if number != 0 {
@@ -427,18 +427,6 @@ fn undo_inserted(
     requires { ⌜ OpenFile dim (now file) used marker ⌝ }
     ensures { λ r. ⌜ Reversed dim (now (file .entry)) used (inserted (placeOf header) place) before r (now (file .exit)) ⌝ }
 {
-    let none = [0; 2];
-    if !faults::reversible(
-        &file[..used],
-        dim,
-        marker,
-        3,
-        header_at(header),
-        place,
-        &none,
-    ) {
-        return refused(19);
-    }
     match reading::locate(&file[..used], place, marker) {
         Spotted::Refused {
             number: _,
@@ -449,6 +437,9 @@ fn undo_inserted(
             depth: _,
             above,
         } => {
+            if !faults::same_above(above, header_at(header)) {
+                return refused(19);
+            }
             let n = end - place;
             changes::remove_extent(file, used, above, place, n);
             Edited::Made {

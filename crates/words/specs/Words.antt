@@ -51,7 +51,8 @@ putBy false s i w = s
 unfoldable pub putWord : List ℕ → ℕ → ℕ → List ℕ
 putWord s i w = putBy (ltb i (length s / 2)) s i w
 
--- the bytes with the long v at places i and i + 1, high word first
+-- the bytes with the long v at places i and i + 1, high word first; each of the two words is stored where it stands, so
+-- where only the first is inside, that one is stored
 unfoldable pub putLong : List ℕ → ℕ → ℕ → List ℕ
 putLong s i v = putWord (putWord s i (v / 65536)) (i + 1) (v % 65536)
 

@@ -38,17 +38,17 @@ fieldsOk f = leb (f .level) 63 && (eachAtMost 4294967295 (rangeOf f) && (wordsOk
 unfoldable pub pointsFit : ℕ → ℕ → ℕ → Bool
 pointsFit dim kind n = cond (eqb kind 3) (eqb n (2 * dim)) (eqb (n % dim) 0)
 
--- 1: the dimension, the type, the fields, the number of coordinates and of the tail's bytes
+-- 1 unless the dimension, the type, the fields, the number of coordinates and of the tail's bytes are right
 unfoldable pub callOk : ℕ → Fields → ℕ → ℕ → Bool
 callOk dim f points tail =
     oneOf (2 ∷ 3 ∷ []) dim
     && (isWritten (f .kind) && (fieldsOk f && (pointsFit dim (f .kind) points && eqb (tail % 2) 0)))
 
--- 7: N is from 2 to 101
+-- 7 unless N is from 2 to 101
 unfoldable pub countOk : ℕ → ℕ → Bool
 countOk kind n = not (isPointed kind) || (leb 2 n && leb n 101)
 
--- the checks, with a buffer of so many bytes: 8 is the size, 11 the attribute part, 15 the room
+-- the checks, with a buffer of so many bytes: 8 is of the size, 11 of the attribute part, 15 of the room
 abbrev pub writeChecks : ℕ → Fields → List ℤ → List ℕ → ℕ → List Check
 writeChecks dim f points tail room =
     check (callOk dim f (length points) (length tail)) 1

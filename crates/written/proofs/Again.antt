@@ -1,14 +1,13 @@
 -- Accepted elements of a written kind rewrite to the same bytes (document 01, demand 2).
-use Prim.Native.Nat.{ℕ, _+_, _*_, _≤_}
+use Prim.Native.Nat.{ℕ, _+_, _*_}
 use mathlib.Core.Path.{_≡_, refl, sym, ap, _∙_}
 use mathlib.Core.List.{List}
 use native.Mathlib.Omega.{arith}
-use lib.ListN.{length, take, drop, length-drop}
-use lib.Seq.{length-take-le, take-at}
+use lib.ListN.{length, take, drop}
+use lib.Seq.{take-at}
 use lib.IntN.{ℤ}
-use Rattle.words.specs.Words.{words, bytes, Below}
-use Rattle.words.proofs.Laws.{length-words, length-bytes, bytes-words, words-take, words-drop}
-use Rattle.edits.proofs.Bounds.{below-take, below-drop}
+use Rattle.words.specs.Words.{words, bytes}
+use Rattle.words.proofs.Laws.{length-bytes}
 use Rattle.writer.specs.Words.{elementWords}
 use Rattle.writer.specs.Writing.{writeFault}
 use Rattle.writer.specs.declared.Fields.{Fields}
@@ -16,17 +15,8 @@ use Rattle.writer.specs.declared.Written.the-variants as written
 use Rattle.writer.proofs.Element.{length-element}
 use Rattle.writer.proofs.Writable.{writable-none}
 use Rattle.written.specs.RoundTrip.{Given, Rewrites}
+use Rattle.written.proofs.Extents.{part-bytes}
 use Rattle.written.proofs.Rewrite.{size-seen, ends-by, call, size-again, stands-again, writable-again}
-
--- the bytes of a part of the words are that part of the bytes
-part-bytes : (s : List ℕ) (at n : ℕ) → Below 256 s → at + n ≤ length (words s) → bytes (take n (drop at (words s))) ≡ take (2 * n) (drop (2 * at) s)
-part-bytes s at n b h =
-    let part = take (2 * n) (drop (2 * at) s) in
-    let w = length-words s in
-    let d = length-drop (2 * at) s in
-    let l = length-take-le (2 * n) (drop (2 * at) s) (omega arith) in
-    ap bytes (ap (take n) (sym (words-drop at s)) ∙ sym (words-take n (drop (2 * at) s)))
-    ∙ bytes-words part n l (below-take 256 (2 * n) (drop (2 * at) s) (omega arith) (below-drop 256 (2 * at) s b))
 
 module _ {dim : ℕ} {s : List ℕ} {at : ℕ} {f : Fields} {points : List ℤ} {tail : List ℕ} (g : Given dim s at f points tail) where
   length-again : length (elementWords dim f points tail) ≡ g .element .size

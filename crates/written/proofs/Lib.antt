@@ -5,6 +5,7 @@ pub mod Local
 pub mod Back
 pub mod InFile
 pub mod Spans
+pub mod Extents
 pub mod Seen
 pub mod Fields
 pub mod Coordinates

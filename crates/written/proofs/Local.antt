@@ -5,16 +5,17 @@ use mathlib.Core.Path.{_≡_, refl, sym, ap, _∙_, subst}
 use mathlib.Core.Bool.{Bool, true, false, cond, false≢true}
 use mathlib.Core.List.{List, _++_, map}
 use native.Mathlib.Omega.{arith}
-use lib.ListN.{length}
+use lib.ListN.{length, take, drop}
+use lib.Seq.{drop-at}
 use lib.IntN.{ℤ}
 use lib.Dec.{eqb}
 use borrow.Author.Tests.{le-leb, lt-ltb, le-ltb, eqb-true}
-use Rattle.words.specs.Words.{words, wordAt, longAt, unsigned}
-use Rattle.words.proofs.Laws.{length-words}
+use Rattle.words.specs.Words.{words, bytes, Below, wordAt, longAt, unsigned}
+use Rattle.words.proofs.Laws.{length-words, length-bytes, bytes-words}
 use Rattle.linkages.specs.Linkages.{linkageIn}
 use Rattle.linkages.proofs.Local.{walk-local}
-use Rattle.elements.specs.Header.{levelOf, cOf, typeOf, typeAt, deletedOf, sizeAt, pointsAt, attributePartAt}
-use Rattle.elements.specs.Kinds.{isPointed, isLinked, fixedPart}
+use Rattle.elements.specs.Header.{levelOf, cOf, typeOf, typeAt, deletedOf, sizeAt, attributePartAt}
+use Rattle.elements.specs.Kinds.{isHeader, isPointed, isLinked}
 use Rattle.grammar.proofs.Stands.{Stands, stands-word, stands-first, stands-left, stands-right}
 use Rattle.reading.specs.declared.Above.{Above}
 use Rattle.reading.specs.declared.Spotted.the-variants as spotted
@@ -29,11 +30,12 @@ use Rattle.writer.specs.Words.{longs, bit, firstWord, symbology, headerWords, c
 use Rattle.writer.specs.Writing.{pointsFit}
 use Rattle.writer.specs.declared.Fields.{Fields}
 use Rattle.writer.proofs.Bounds.{by-dims, by-kinds, count-whole}
-use Rattle.writer.proofs.Element.{front, front-tail, length-header, length-front, length-element, size-least, size-at, kind-at, fixed-at, tail-early, tail-late}
+use Rattle.writer.proofs.Stores.{bytes-append}
+use Rattle.writer.proofs.Element.{front, front-tail, length-header, length-front, length-element, size-least, size-at, kind-at, tail-early, tail-late}
 use Rattle.writer.proofs.Writable.{Writable}
-use Rattle.written.specs.Parts.{Shows, GivesPoints, tailAt, linkageMoved, tailPlace, tailLinkage}
+use Rattle.written.specs.Parts.{Shows, GivesPoints, linkageMoved, tailPlace, tailLinkage}
 use Rattle.written.specs.RoundTrip.{Longs}
-use Rattle.written.proofs.Own.{first-read, symbology-read}
+use Rattle.written.proofs.Own.{plain-kind, first-read, symbology-read}
 use Rattle.written.proofs.Numbers.{numbersFrom, numbers-stand, points-numbers}
 use Rattle.written.proofs.Walks.{in-from, moved-by}
 
@@ -75,6 +77,9 @@ module _ {dim : ℕ} {f : Fields} {ps : List ℤ} {tail : List ℕ} {room : ℕ}
 
   type-there : typeAt ws at ≡ f .kind
   type-there = let l = long in ap typeOf (stands-first stands (omega arith)) ∙ kind-at dim f ps tail (w .call)
+
+  pub plain-there : isHeader (typeAt ws at) ≡ false
+  plain-there = ap isHeader type-there ∙ plain-kind (f .kind) (w .call .kind)
 
   size-there : sizeAt ws at ≡ sizeOf dim f ps tail
   size-there = ap (λ n. n + 2) (word-there 1 (omega arith)) ∙ size-at dim f ps tail (w .call)
@@ -119,23 +124,25 @@ module _ {dim : ℕ} {f : Fields} {ps : List ℤ} {tail : List ℕ} {room : ℕ}
 
   ---- the tail
 
-  fixed-there : fixedPart dim (typeAt ws at) (pointsAt ws at) ≡ fixedPart dim (f .kind) (pointCount dim ps)
-  fixed-there =
-      let l = long in
-      ap (λ t. fixedPart dim (typeOf t) (pointsAt ws at)) (stands-first stands (omega arith))
-      ∙ ap (fixedPart dim (typeAt (elementWords dim f ps tail) 0)) (word-there 18 (omega arith))
-      ∙ fixed-at dim f ps tail (w .call)
-
   tail-stands : Stands (words tail) (at + tailPlace dim f ps) ws
   tail-stands =
       rw (← length-front dim f ps tail (w .call))
       (stands-right (front dim f ps tail) (words tail) (rw (front-tail dim f ps tail) at stands))
 
-  pub tail-there : tailAt dim ws at ≡ words tail
-  unfolding tailAt sizeOf
-  tail-there =
-      let n : sizeOf dim f ps tail - tailPlace dim f ps ≡ length (words tail) = let l = length-words tail in omega arith in
-      rw (fixed-there, size-there, n) (tail-stands .is)
+  -- the own words are the element's, and their bytes after the fixed part are the tail
+  own-there : take (sizeAt ws at) (drop at ws) ≡ elementWords dim f ps tail
+  own-there = ap (λ n. take n (drop at ws)) (size-there ∙ sym (length-element dim f ps tail (w .call))) ∙ stands .is
+
+  pub tail-there : Below 256 tail → drop (2 * tailPlace dim f ps) (bytes (take (sizeAt ws at) (drop at ws))) ≡ tail
+  tail-there b =
+      let before = front dim f ps tail in
+      let n = length-front dim f ps tail (w .call) in
+      let l = length-bytes before in
+      let even = w .call .even in
+      ap (λ x. drop (2 * tailPlace dim f ps) (bytes x)) (own-there ∙ front-tail dim f ps tail)
+      ∙ ap (drop (2 * tailPlace dim f ps)) (bytes-append before (words tail))
+      ∙ drop-at (bytes before) (bytes (words tail)) (2 * tailPlace dim f ps) (omega arith)
+      ∙ bytes-words tail (length tail / 2) (omega arith) b
 
   ---- the points
 

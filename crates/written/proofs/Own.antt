@@ -2,7 +2,7 @@
 -- words, and that they are the own words of an element of the grammar where C is as the depth asks.
 use Prim.Native.Nat.{ℕ, _+_, _-_, _/_, _%_, _≤_, _<_}
 use mathlib.Core.Path.{_≡_, refl, sym, _∙_}
-use mathlib.Core.Bool.{Bool, true, false, cond, not, _&&_, _||_, and-false}
+use mathlib.Core.Bool.{Bool, true, false, cond, not, _&&_, _||_}
 use mathlib.Core.List.{List, [], _∷_, _++_, map}
 use native.Mathlib.Omega.{arith}
 use lib.ListN.{length}
@@ -98,12 +98,7 @@ below-header f size b k h =
 
 ---- what the types that are written are not: headers, cells
 
--- where they stand: anywhere but under a text node
-may-stand : (dim under kind : ℕ) → isWritten kind ≡ true → eqb under 7 ≡ false → mayStand dim under kind ≡ true
-unfolding mayStand
-may-stand dim under kind k u = by-kinds (λ t. mayStand dim under t ≡ true) kind k (simp (and-false, u)) (simp (and-false, u)) (simp (and-false, u)) (simp (and-false, u))
-
-plain-kind : (kind : ℕ) → isWritten kind ≡ true → isHeader kind ≡ false
+pub plain-kind : (kind : ℕ) → isWritten kind ≡ true → isHeader kind ≡ false
 plain-kind kind k = by-kinds (λ t. isHeader t ≡ false) kind k refl refl refl refl
 
 module _ {dim : ℕ} {f : Fields} {ps : List ℤ} {tail : List ℕ} {room : ℕ} (w : Writable dim f ps tail room) where
@@ -169,7 +164,7 @@ module _ {dim : ℕ} {f : Fields} {ps : List ℤ} {tail : List ℕ} {room : ℕ}
       rw (kind-at dim f ps tail (w .call))
       (by-kinds (λ t. (not (isCounted t) || eqb (countAt (elementWords dim f ps tail) 0) 0) ≡ true) (f .kind) (w .call .kind) refl refl refl refl)
 
-  pub written-own : (depth under : ℕ) → depth ≤ 8 → bit (f .c) ≡ cond (eqb depth 0) 0 1 → eqb under 7 ≡ false → Own dim depth under (elementWords dim f ps tail) 0 0
+  pub written-own : (depth under : ℕ) → depth ≤ 8 → bit (f .c) ≡ cond (eqb depth 0) 0 1 → mayStand dim under (f .kind) ≡ true → Own dim depth under (elementWords dim f ps tail) 0 0
   written-own depth under d c u =
       let kind = kind-at dim f ps tail (w .call) in
       let long = length-element dim f ps tail (w .call) in
@@ -178,7 +173,7 @@ module _ {dim : ℕ} {f : Fields} {ps : List ℤ} {tail : List ℕ} {room : ℕ}
         reserved = rw first-is reserved-ok;
         place = rw first-is (place-ok depth c);
         deep = d;
-        kind = rw kind (may-stand dim under (f .kind) (w .call .kind) u);
+        kind = rw kind u;
         fixed = fixed-ok;
         small = rw long (w .size);
         extent = rw (kind, plain-kind (f .kind) (w .call .kind)) (refl, refl);

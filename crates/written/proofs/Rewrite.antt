@@ -6,23 +6,24 @@ use mathlib.Core.Bool.{Bool, true, cond, not, _&&_, _||_}
 use mathlib.Core.List.{List, [], _∷_, _++_, map}
 use native.Mathlib.Nat.{mul-comm}
 use native.Mathlib.Omega.{arith}
-use lib.ListN.{length, take, drop, length-map, length-drop}
+use lib.ListN.{length, take, drop, length-map, length-drop, take-append-drop}
 use lib.Seq.{length-take-le}
 use lib.IntN.{ℤ}
 use lib.Dec.{eqb, leb}
 use borrow.Author.Tests.{leb-true, eq-eqb}
-use Rattle.words.specs.Words.{words, Below, wordAt, unsigned}
-use Rattle.words.proofs.Laws.{length-words, words-below}
+use Rattle.words.specs.Words.{words, bytes, Below, wordAt, unsigned}
+use Rattle.words.proofs.Laws.{length-bytes, words-bytes, words-drop, words-below}
 use Rattle.elements.specs.Header.{typeAt, sizeAt, pointsAt}
-use Rattle.elements.specs.Kinds.{oneOf, isPointed, isLinked, fixedPart}
+use Rattle.elements.specs.Kinds.{oneOf, isHeader, isPointed, isLinked, fixedPart}
 use Rattle.elements.specs.Rules.{pointsOk, fixedOk}
 use Rattle.elements.proofs.Laws.{Checked, fixed-least, linked-size}
-use Rattle.grammar.proofs.Stands.{Stands, stands-nil, stands-part, stands-join}
+use Rattle.grammar.proofs.Stands.{Stands, stands-nil, stands-part, stands-join, stands-right}
 use Rattle.grammar.proofs.Local.{fixed-local, linkages-local}
 use Rattle.grammar.proofs.Rules.{extent-is}
 use Rattle.grammar.proofs.Exact.{accepted-is}
 use Rattle.reading.specs.declared.Element.{Element}
 use Rattle.reading.specs.Views.{elementView, beforePoints}
+use Rattle.edits.proofs.Bounds.{below-take, below-drop}
 use Rattle.writer.specs.Words.{longs, headerWords, countWords, pointCount, sizeOf, elementWords}
 use Rattle.writer.specs.Writing.{isWritten, pointsFit, countOk}
 use Rattle.writer.specs.declared.Fields.{Fields}
@@ -30,8 +31,10 @@ use Rattle.writer.proofs.Bounds.{both, bounds-ok, Called, by-dims, by-kinds, fi
 use Rattle.writer.proofs.Stores.{length-longs}
 use Rattle.writer.proofs.Element.{length-header, length-element, size-least, size-at}
 use Rattle.writer.proofs.Writable.{Writable}
-use Rattle.written.specs.Parts.{Shows, tailAt}
+use Rattle.written.specs.Parts.{Shows}
 use Rattle.written.specs.RoundTrip.{Given}
+use Rattle.written.proofs.Own.{plain-kind}
+use Rattle.written.proofs.Extents.{extent-own}
 use Rattle.written.proofs.Spans.{stands-cons, stands-at, longs-stand}
 use Rattle.written.proofs.Seen.{call-dims, SeenAt, seen-at}
 use Rattle.written.proofs.Fields.{Shown, shown, reserved-zero, header-stands, shown-bounds}
@@ -135,9 +138,6 @@ module _ {dim : ℕ} {s : List ℕ} {at : ℕ} {f : Fields} {points : List ℤ} 
       (given-length dim s at (view .found) dims points (g .gives-points)
       ∙ ap (λ t. dim * countBy t (pointsAt (words s) at)) kind-is)
 
-  pub call : Called dim f (length points) (length tail)
-  call = record { dims = dims; kind = written-kind; fields = bounds-ok f (shown-bounds (words s) small at f fields); fit = fits; even = g .tail-even }
-
   -- its fixed part and its tail
   fixed-same : fixedPart dim (typeAt (words s) at) (pointsAt (words s) at) ≡ fixedPart dim (f .kind) (pointCount dim points)
   fixed-same =
@@ -150,27 +150,54 @@ module _ {dim : ℕ} {s : List ℕ} {at : ℕ} {f : Fields} {points : List ℤ} 
   fixed-words : fixedPart dim (f .kind) (pointCount dim points) ≡ 18 + (length (countWords (f .kind) (pointCount dim points)) + 2 * length points)
   fixed-words = fixed-is dim (f .kind) (length points) dims written-kind fits
 
-  tail-is : words tail
-      ≡ take (sizeAt (words s) at - fixedPart dim (f .kind) (pointCount dim points)) (drop (at + fixedPart dim (f .kind) (pointCount dim points)) (words s))
-  unfolding tailAt
-  tail-is = g .gives-tail ∙ ap (λ n. take (sizeAt (words s) at - n) (drop (at + n) (words s))) fixed-same
+  -- its own words
+  abbrev part : List ℕ
+  part = take (sizeAt (words s) at) (drop at (words s))
+
+  part-long : length part ≡ sizeAt (words s) at
+  part-long =
+      let e = ends-by in
+      let d = length-drop at (words s) in
+      length-take-le (sizeAt (words s) at) (drop at (words s)) (omega arith)
+
+  tail-part : tail ≡ drop (2 * fixedPart dim (f .kind) (pointCount dim points)) (bytes part)
+  tail-part =
+      sym (g .gives-tail)
+      ∙ ap (drop (2 * fixedPart dim (f .kind) (pointCount dim points)))
+      (extent-own dim s at (g .elements) (g .deepest) (g .marker) (view .end) (view .depth) (view .above) (g .file-bytes) (g .judged) (view .found) (ap isHeader kind-is ∙ plain-kind (f .kind) written-kind))
+
+  tail-is : words tail ≡ drop (fixedPart dim (f .kind) (pointCount dim points)) part
+  tail-is =
+      let n = fixedPart dim (f .kind) (pointCount dim points) in
+      ap words tail-part ∙ words-drop n (bytes part)
+      ∙ ap (drop n) (words-bytes part (below-take 65536 (sizeAt (words s) at) (drop at (words s)) (omega arith) (below-drop 65536 at (words s) small)))
+
+  tail-long : length tail ≡ 2 * (sizeAt (words s) at - fixedPart dim (f .kind) (pointCount dim points))
+  tail-long =
+      let n = fixedPart dim (f .kind) (pointCount dim points) in
+      let a = length-bytes part in
+      let b = part-long in
+      ap length tail-part ∙ length-drop (2 * n) (bytes part) ∙ omega arith
+
+  pub call : Called dim f (length points) (length tail)
+  call = record { dims = dims; kind = written-kind; fields = bounds-ok f (shown-bounds (words s) small at f fields); fit = fits; even = (let l = tail-long in omega arith) }
 
   tail-stands : Stands (words tail) (at + fixedPart dim (f .kind) (pointCount dim points)) (words s)
   tail-stands =
       let n = fixedPart dim (f .kind) (pointCount dim points) in
       let h = fixed-within in
       let e = ends-by in
-      subst (λ l. Stands l (at + n) (words s)) (sym tail-is) (stands-part (sizeAt (words s) at - n) (at + n) (words s) (omega arith))
+      let b = part-long in
+      subst (λ l. Stands l (at + n) (words s)) (sym tail-is)
+      (subst (λ k. Stands (drop n part) (at + k) (words s)) (length-take-le n part (omega arith))
+      (stands-right (take n part) (drop n part) (rw (take-append-drop n part) (stands-part (sizeAt (words s) at) at (words s) (omega arith)))))
 
   pub size-again : sizeOf dim f points tail ≡ sizeAt (words s) at
   unfolding sizeOf
   size-again =
       let n = fixedPart dim (f .kind) (pointCount dim points) in
       let h = fixed-within in
-      let e = ends-by in
-      let d = length-drop (at + n) (words s) in
-      let l = ap length tail-is ∙ length-take-le (sizeAt (words s) at - n) (drop (at + n) (words s)) (omega arith) in
-      let w = length-words tail in
+      let l = tail-long in
       omega arith
 
   ---- its words

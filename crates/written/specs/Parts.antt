@@ -1,17 +1,16 @@
 -- The parts of an element of a written kind, as the reading calls give them and as the writer takes them: header fields,
 -- points, tail and linkages. s are a file's bytes, at is the element's place.
-use Prim.Native.Nat.{ℕ, zero, suc, _+_, _-_, _/_, _%_}
+use Prim.Native.Nat.{ℕ, zero, suc, _+_, _-_, _*_, _/_, _%_}
 use mathlib.Core.Path.{_≡_}
 use mathlib.Core.Bool.{cond}
 use mathlib.Core.List.{List, [], _∷_, _++_}
-use lib.ListN.{length, take, drop}
+use lib.ListN.{length, drop}
 use lib.Dec.{eqb}
 use lib.IntN.{ℤ}
 use Rattle.words.specs.Words.{words}
 use Rattle.linkages.specs.Linkages.{linkageIn}
 use Rattle.linkages.specs.declared.Linkage.{Linkage}
 use Rattle.linkages.specs.declared.Linkage.the-variants as linked
-use Rattle.elements.specs.Header.{typeAt, sizeAt, pointsAt}
 use Rattle.elements.specs.Kinds.{fixedPart}
 use Rattle.reading.specs.declared.Range.the-variants as range
 use Rattle.reading.specs.declared.Display.the-variants as display
@@ -20,6 +19,7 @@ use Rattle.reading.specs.declared.Point.{Point}
 use Rattle.reading.specs.declared.Point.the-variants as point
 use Rattle.reading.specs.declared.Attribute.{Attribute}
 use Rattle.reading.specs.declared.Attribute.the-variants as attribute
+use Rattle.reading.specs.Places.{extentBytes}
 use Rattle.reading.specs.Views.{pointOf}
 use Rattle.writer.specs.Words.{pointCount}
 use Rattle.writer.specs.declared.Fields.{Fields}
@@ -49,11 +49,6 @@ pub record GivesPoints (dim : ℕ) (s : List ℕ) (at : ℕ) (points : List ℤ)
   pub all : pointsFrom (pointCount dim points) 0 dim s at ≡ points
   pub no-more : pointOf dim s at (pointCount dim points) ≡ point.Refused 13 0
 
--- the tail: all words after the fixed part
-unfoldable pub tailAt : ℕ → List ℕ → ℕ → List ℕ
-tailAt dim ws at =
-    take (sizeAt ws at - fixedPart dim (typeAt ws at) (pointsAt ws at)) (drop (at + fixedPart dim (typeAt ws at) (pointsAt ws at)) ws)
-
 -- a linkage of a tail that begins at a place of the file
 abbrev pub linkageMoved : ℕ → Linkage → Attribute
 linkageMoved from (linked.At user place size id) = attribute.At user (from + place) size id
@@ -62,6 +57,10 @@ linkageMoved from linked.Nothing = attribute.Refused 13 0
 -- where the tail begins, counted from the element's start
 abbrev pub tailPlace : ℕ → Fields → List ℤ → ℕ
 tailPlace dim f points = fixedPart dim (f .kind) (pointCount dim points)
+
+-- the tail that reading gives: of the bytes of the extent, which of a written type is the element, all after the fixed part
+abbrev pub tailRead : ℕ → List ℕ → ℕ → Fields → List ℤ → List ℕ
+tailRead dim s at f points = drop (2 * tailPlace dim f points) (extentBytes dim s at)
 
 -- linkage k of a tail handed in with its fields: with A set those from word 16 + index on, else none
 unfoldable pub tailLinkage : ℕ → Fields → List ℤ → List ℕ → ℕ → ℕ → Attribute

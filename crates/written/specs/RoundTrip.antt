@@ -1,6 +1,6 @@
--- The two round trips (document 01, demand 2): what is written reads back the same, and accepted elements of a written
+-- The two round trips (demand 2): what is written reads back the same, and accepted elements of a written
 -- kind rewrite to the same bytes.
-use Prim.Native.Nat.{ℕ, _+_, _*_, _%_, _≤_, _<_}
+use Prim.Native.Nat.{ℕ, _+_, _*_, _≤_, _<_}
 use mathlib.Core.Path.{_≡_}
 use mathlib.Core.Bool.{Bool, true, false}
 use mathlib.Core.List.{List, [], _∷_}
@@ -9,6 +9,7 @@ use lib.ListN.{length, take, drop}
 use lib.IntN.{ℤ}
 use lib.Signed.{mag}
 use Rattle.words.specs.Words.{words, bytes, Below}
+use Rattle.elements.specs.Kinds.{mayStand}
 use Rattle.files.specs.Judge.{judgeOf}
 use Rattle.files.specs.Spots.{spotsOf}
 use Rattle.files.specs.declared.Judged.the-variants.{Accepted}
@@ -17,13 +18,13 @@ use Rattle.reading.specs.declared.View.the-variants.{Seen}
 use Rattle.reading.specs.Places.{aboveOf}
 use Rattle.reading.specs.Views.{viewOf, linkageOf}
 use Rattle.edits.specs.Edits.{insert, apply, downTo}
-use Rattle.edits.specs.Allowed.{fine, isCell, gapOk, roomFault, depthUnder}
-use Rattle.writer.specs.Words.{sizeOf, elementWords}
+use Rattle.edits.specs.Allowed.{fine, gapOk, roomFault, depthUnder, typeUnder}
+use Rattle.writer.specs.Words.{sizeOf}
 use Rattle.writer.specs.Writing.{isWritten, writeFault, Writes}
 use Rattle.writer.specs.declared.Fields.{Fields}
 use Rattle.writer.specs.declared.Written.{Written}
 use Rattle.writer.specs.declared.Written.the-variants as written
-use Rattle.written.specs.Parts.{Shows, GivesPoints, tailAt, tailLinkage}
+use Rattle.written.specs.Parts.{Shows, GivesPoints, tailRead, tailLinkage}
 
 -- a file of bytes that judging accepts, its marker the last word
 pub record AcceptedFile (dim : ℕ) (s : List ℕ) : Type 0 where
@@ -52,16 +53,12 @@ abbrev pub under : Option ℕ → Bool
 under none = false
 under (some h) = true
 
-abbrev pub CellAbove : List ℕ → Option ℕ → Type 0
-CellAbove ws none = Unit {0}
-CellAbove ws (some h) = isCell ws h ≡ true
-
--- where the element is put: at the top of an accepted file, or under a cell, at a place where a direct component starts or
--- the list ends, not too deep, and with room in the headers around it and in the file
-pub record Place (dim : ℕ) (s : List ℕ) (h : Option ℕ) (p : ℕ) (c : Bool) (size : ℕ) : Type 0 where
+-- where the element is put: at the top of an accepted file, or under a header that its type may stand under, at a place
+-- where a direct component starts or the list ends, not too deep, and with room in the headers around it and in the file
+pub record Place (dim : ℕ) (s : List ℕ) (h : Option ℕ) (p : ℕ) (c : Bool) (kind size : ℕ) : Type 0 where
   pub file : AcceptedFile dim s
   pub gap : gapOk (spotsOf dim (words s)) (words s) h p ≡ true
-  pub cell : CellAbove (words s) h
+  pub stands : mayStand dim (typeUnder (words s) h) kind ≡ true
   pub as-c-says : c ≡ under h
   pub deep : depthUnder (spotsOf dim (words s)) h ≤ 8
   pub room : roomFault size (words s) (downTo (spotsOf dim (words s)) h) ≡ fine
@@ -77,13 +74,16 @@ pub record ReadBack (dim : ℕ) (s : List ℕ) (h : Option ℕ) (p : ℕ) (f : F
   pub above : element .above ≡ aboveOf h
   pub gives-points : GivesPoints dim s p points
   pub gives-linkages : (k : ℕ) → linkageOf dim s p k ≡ tailLinkage dim f points tail p k
-  pub gives-tail : tailAt dim (words s) p ≡ words tail
+  pub gives-tail : tailRead dim s p f points ≡ tail
 
+-- written into a buffer that has room, the element is made, and what the buffer then begins with is put into a file
 abbrev pub ReadsBack : Type 0
 ReadsBack =
-    (dim : ℕ) (s : List ℕ) (h : Option ℕ) (p : ℕ) (f : Fields) (points : List ℤ) (tail : List ℕ) →
-    Handed dim f points tail → Place dim s h p (f .c) (sizeOf dim f points tail) →
-    ReadBack dim (bytes (apply dim (words s) (insert h p (elementWords dim f points tail)))) h p f points tail
+    (dim : ℕ) (s : List ℕ) (h : Option ℕ) (p : ℕ) (f : Fields) (points : List ℤ) (tail out : List ℕ) (r : Written) (last : List ℕ) →
+    Handed dim f points tail → Place dim s h p (f .c) (f .kind) (sizeOf dim f points tail) →
+    2 * sizeOf dim f points tail ≤ length out → Writes dim f points tail out r last →
+    (r ≡ written.Made (sizeOf dim f points tail))
+    × ReadBack dim (bytes (apply dim (words s) (insert h p (words (take (2 * sizeOf dim f points tail) last))))) h p f points tail
 
 ---- accepted elements rewrite to the same bytes
 
@@ -99,9 +99,7 @@ pub record Given (dim : ℕ) (s : List ℕ) (at : ℕ) (f : Fields) (points : Li
   pub written-kind : isWritten (element .kind) ≡ true
   pub shows : Shows element f
   pub gives-points : GivesPoints dim s at points
-  pub gives-tail : words tail ≡ tailAt dim (words s) at
-  pub tail-bytes : Below 256 tail
-  pub tail-even : length tail % 2 ≡ 0
+  pub gives-tail : tailRead dim s at f points ≡ tail
 
 -- writing them into a buffer that has room answers the element's size, and the buffer begins with the element's bytes
 pub record Rewritten (s : List ℕ) (at size : ℕ) (r : Written) (last : List ℕ) : Type 0 where

@@ -3,6 +3,7 @@
 use crate::guard::Side;
 use crate::library;
 use crate::runs::Runs;
+use crate::sessions;
 use reader::generate::places::scan;
 use reader::generate::writes::{long_line, Write};
 use reader::generate::{changes, large, valid, Random, Valid};
@@ -110,6 +111,7 @@ pub fn small_stack() {
             runs.find(&v.file, v.dim, b"NONE");
             runs.write(&long_line(65_535));
             runs.unpack(63_999, 63_999);
+            sessions::large_session(&mut runs, &v.file, v.dim);
         };
         std::thread::Builder::new().stack_size(256 * 1024).spawn(run).unwrap().join().expect("256 KiB are enough");
     }

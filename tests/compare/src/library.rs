@@ -3,7 +3,7 @@
 //! with a mark, so that a number that is not written, or written where none is due, is seen.
 
 use crate::guard::{Guard, Side};
-use reader::{FindRefusal, Found, Judged, Linkage, LinkageKind, Refusal};
+use reader::{Call, FindRefusal, Found, Judged, Linkage, LinkageKind, Refusal, State};
 use std::cell::Cell;
 
 extern "C" {
@@ -29,7 +29,80 @@ extern "C" {
         out: *mut usize,
         n: usize,
     ) -> usize;
+    #[allow(clippy::too_many_arguments)]
+    fn dgn_mark(
+        file: *mut u8,
+        file_len: usize,
+        used: usize,
+        journal: *mut u8,
+        journal_len: usize,
+        jused: usize,
+        dim: usize,
+        place: usize,
+        deleted: usize,
+        out: *mut usize,
+        n: usize,
+    ) -> usize;
+    #[allow(clippy::too_many_arguments)]
+    fn dgn_rename(
+        file: *mut u8,
+        file_len: usize,
+        used: usize,
+        journal: *mut u8,
+        journal_len: usize,
+        jused: usize,
+        dim: usize,
+        place: usize,
+        text: *const u8,
+        text_len: usize,
+        out: *mut usize,
+        n: usize,
+    ) -> usize;
+    #[allow(clippy::too_many_arguments)]
+    fn dgn_insert(
+        file: *mut u8,
+        file_len: usize,
+        used: usize,
+        journal: *mut u8,
+        journal_len: usize,
+        jused: usize,
+        dim: usize,
+        header: usize,
+        place: usize,
+        piece: *const u8,
+        piece_len: usize,
+        out: *mut usize,
+        n: usize,
+    ) -> usize;
+    #[allow(clippy::too_many_arguments)]
+    fn dgn_remove(
+        file: *mut u8,
+        file_len: usize,
+        used: usize,
+        journal: *mut u8,
+        journal_len: usize,
+        jused: usize,
+        dim: usize,
+        place: usize,
+        out: *mut usize,
+        n: usize,
+    ) -> usize;
+    #[allow(clippy::too_many_arguments)]
+    fn dgn_undo(
+        file: *mut u8,
+        file_len: usize,
+        used: usize,
+        journal: *const u8,
+        journal_len: usize,
+        jused: usize,
+        dim: usize,
+        out: *mut usize,
+        n: usize,
+    ) -> usize;
 }
+
+/// The top, as a header's place: `DGN_TOP` of include/dgn.h.
+pub const TOP: u64 = u64::MAX;
 
 /// The longest file that is handed over, one word above the limit.
 pub const LONGEST: usize = 1_048_578;
@@ -45,6 +118,7 @@ struct Lending {
     points: Guard,
     tail: Guard,
     buffer: Guard,
+    journal: Guard,
     out: Guard,
     side: Cell<Side>,
     read_only: Cell<bool>,
@@ -58,6 +132,7 @@ thread_local! {
         points: Guard::new(4 * MOST_COORDINATES),
         tail: Guard::new(LONGEST),
         buffer: Guard::new(LONGEST),
+        journal: Guard::new(LONGEST),
         out: Guard::new(4096),
         side: const { Cell::new(Side::Behind) },
         read_only: const { Cell::new(false) },
@@ -210,6 +285,117 @@ pub fn write(fields: &[usize], points: &[i32], tail: &[u8], dim: u64, buffer: &m
         given
     });
     result(given, |p| p).map(|o| o[0] as u64)
+}
+
+/// A session as it is lent.
+struct Session {
+    file: *mut u8,
+    len: usize,
+    used: usize,
+    journal: *mut u8,
+    journal_len: usize,
+    jused: usize,
+    dim: usize,
+}
+
+/// Lends the buffers of a session as copies, which are copied back, and an answer slice of N numbers. A refusal leaves the
+/// buffers as they were.
+fn in_session<const N: usize>(
+    l: &Lending,
+    state: &mut State,
+    call: impl FnOnce(Session, *mut usize, usize) -> usize,
+) -> (usize, [usize; N]) {
+    let (len, journal_len) = (state.file.len(), state.journal.len());
+    let file = l.buffer.lend(&state.file, l.side.get());
+    let journal = l.journal.lend(&state.journal, l.side.get());
+    let (used, jused, dim) = (state.used as usize, state.jused as usize, state.dim as usize);
+    let given = answer(l, |o, m| call(Session { file, len, used, journal, journal_len, jused, dim }, o, m));
+    let (file, journal) =
+        unsafe { (std::slice::from_raw_parts(file, len), std::slice::from_raw_parts(journal, journal_len)) };
+    assert!(given.0 == 0 || file == state.file && journal == state.journal, "a refusal changes no byte");
+    state.file.copy_from_slice(file);
+    state.journal.copy_from_slice(journal);
+    given
+}
+
+/// A mark by a number, which should be 0 or 1.
+fn marked<const N: usize>(l: &Lending, state: &mut State, place: u64, deleted: usize) -> (usize, [usize; N]) {
+    in_session(l, state, |s, o, m| unsafe {
+        dgn_mark(s.file, s.len, s.used, s.journal, s.journal_len, s.jused, s.dim, place as usize, deleted, o, m)
+    })
+}
+
+fn renamed<const N: usize>(l: &Lending, state: &mut State, place: u64, text: &[u8]) -> (usize, [usize; N]) {
+    let (p, n) = (place as usize, text.len());
+    lent(l, &l.text, text, |t| {
+        in_session(l, state, |s, o, m| unsafe {
+            dgn_rename(s.file, s.len, s.used, s.journal, s.journal_len, s.jused, s.dim, p, t, n, o, m)
+        })
+    })
+}
+
+fn inserted<const N: usize>(
+    l: &Lending,
+    state: &mut State,
+    header: Option<u64>,
+    place: u64,
+    piece: &[u8],
+) -> (usize, [usize; N]) {
+    let (h, p, n) = (header.unwrap_or(TOP) as usize, place as usize, piece.len());
+    lent(l, &l.tail, piece, |x| {
+        in_session(l, state, |s, o, m| unsafe {
+            dgn_insert(s.file, s.len, s.used, s.journal, s.journal_len, s.jused, s.dim, h, p, x, n, o, m)
+        })
+    })
+}
+
+fn removed<const N: usize>(l: &Lending, state: &mut State, place: u64) -> (usize, [usize; N]) {
+    in_session(l, state, |s, o, m| unsafe {
+        dgn_remove(s.file, s.len, s.used, s.journal, s.journal_len, s.jused, s.dim, place as usize, o, m)
+    })
+}
+
+/// An undo, which may not write the journal.
+fn undone<const N: usize>(l: &Lending, state: &mut State) -> (usize, [usize; N]) {
+    in_session(l, state, |s, o, m| {
+        l.journal.read_only();
+        let number =
+            unsafe { dgn_undo(s.file, s.len, s.used, s.journal, s.journal_len, s.jused, s.dim, o, m) };
+        l.journal.writable();
+        number
+    })
+}
+
+fn edited<const N: usize>(l: &Lending, state: &mut State, call: &Call) -> (usize, [usize; N]) {
+    match call {
+        Call::Mark { place, deleted } => marked(l, state, *place, usize::from(*deleted)),
+        Call::Rename { place, text } => renamed(l, state, *place, text),
+        Call::Insert { header, place, piece } => inserted(l, state, *header, *place, piece),
+        Call::Remove { place } => removed(l, state, *place),
+        Call::Undo => undone(l, state),
+    }
+}
+
+/// One call of a session, which takes over the new used lengths.
+pub fn call(state: &mut State, call: &Call) -> Result<(), Refusal> {
+    let given = LENDING.with(|l| edited::<2>(l, state, call));
+    result(given, |p| p).map(|o| {
+        state.used = o[0] as u64;
+        state.jused = o[1] as u64;
+    })
+}
+
+/// The same with answer slices that are too short: 1, and nothing is written.
+pub fn short_call(state: &mut State, call: &Call) {
+    LENDING.with(|l| {
+        assert_eq!(edited::<1>(l, state, call), (1, [usize::MARK]));
+        assert_eq!(edited::<0>(l, state, call), (1, []));
+    });
+}
+
+/// A mark by a number that is neither 0 nor 1.
+pub fn mark_by(state: &mut State, place: u64, deleted: usize) -> Result<[usize; 2], Refusal> {
+    result(LENDING.with(|l| marked(l, state, place, deleted)), |p| p)
 }
 
 /// Every call with an answer slice of M numbers, one too few: 1, and nothing is written.

@@ -2,6 +2,7 @@
 //! `compare` is the gate's run; `compare FILES SEED` a run of any length.
 
 mod damage;
+mod edited;
 mod files;
 mod guard;
 mod library;
@@ -9,6 +10,7 @@ mod program;
 mod real;
 mod runs;
 mod seen;
+mod sessions;
 mod writes;
 
 use reader::generate::Random;
@@ -60,6 +62,33 @@ fn main() {
         runs.seen.check_accepted();
     }
     pass(format!("{wanted} generated files: equal"));
+
+    // sessions
+    let before = runs.calls;
+    real::sessions(&mut random, &mut runs);
+    pass("sessions on real files, every edit at every place: equal".to_string());
+    sessions::records(&mut runs);
+    pass("journal records of every kind: equal".to_string());
+    sessions::room(&mut runs);
+    pass("exact room in both buffers of a session: equal".to_string());
+    sessions::calls_made_wrongly(&mut runs);
+    pass("calls of a session made wrongly, between pages that may not be touched: equal".to_string());
+    sessions::own(&mut random, &mut runs, 10);
+    pass("the file's own refusals in a session: equal".to_string());
+    sessions::pieces(&mut random, &mut runs, 200);
+    pass("pieces with a fault of each number, and with words left over: equal".to_string());
+    sessions::growth(&mut runs);
+    pass("headers that would grow too large: equal".to_string());
+    sessions::largest(&mut runs);
+    pass("sessions on the largest files: equal".to_string());
+    sessions::places(&mut random, &mut runs, 100);
+    pass("every edit at every place of small files, undone: equal".to_string());
+    sessions::random(&mut random, &mut runs, wanted);
+    if wanted >= 100_000 {
+        runs.edits.check();
+    }
+    pass(format!("{} calls of sessions, undone to their start: equal", runs.calls - before));
+    println!("sessions: {}", runs.edits.line());
     println!("{} files, {} calls, seed {seed}", runs.files, runs.calls);
     println!("{passed} passed, 0 failed");
 }

@@ -1,6 +1,7 @@
 //! The real files of tests/real, each with the answer of its table, by both; and the same files changed and cut.
 
 use crate::runs::Runs;
+use crate::sessions;
 use reader::generate::{changes, Random};
 
 /// Each line of the table: file, dimension, and the answer as `accepted E D M` or `refused N P`.
@@ -36,6 +37,16 @@ pub fn run(runs: &mut Runs) {
         }
         for text in [&b"00417"[..], b"417", b"", b"ZZZZZZ", b"A.B$9", b"NONE", b"SUB", b"EMPTY", b"bad"] {
             runs.find(&file, dim, text);
+        }
+    }
+}
+
+/// Every edit at every place of those that are accepted, each undone.
+pub fn sessions(random: &mut Random, runs: &mut Runs) {
+    for (_, dim, answer, file) in table() {
+        if answer.starts_with("accepted") {
+            let marker: usize = answer.rsplit(' ').next().and_then(|m| m.parse().ok()).expect("the marker's place");
+            sessions::everywhere(random, runs, sessions::ample(&file[..2 * marker + 2], dim));
         }
     }
 }

@@ -1,6 +1,7 @@
 //! Both readers on the same inputs: every answer of the library must be the second reader's, every number, place and
 //! byte of it.
 
+use crate::edited::Edited;
 use crate::guard::Side;
 use crate::library;
 use crate::seen::Seen;
@@ -14,6 +15,7 @@ pub struct Runs {
     pub files: u64,
     pub calls: u64,
     pub seen: Seen,
+    pub edits: Edited,
 }
 
 /// The numbers of a view, in the order of include/dgn.h.

@@ -1,7 +1,7 @@
--- The tests are those of the definition.
+-- The tests are those of the definition, with the fixed part that was given.
 use mathlib.Core.Path.{sym}
 use native.Mathlib.Omega.{arith}
-use borrow.Author.Tests.{le-leb, lt-leb}
+use borrow.Author.Tests.{le-leb, lt-leb, eq-eqb, ne-eqb}
 use Rattle.elements.specs.Attributes.{attributesOk}
 use Rattle.elements.proofs.attributes_ok.Statement.{statement}
 use Rattle.elements.proofs.attributes_ok.Tie as tie
@@ -12,8 +12,8 @@ add-word c = omega arith
 word-requires : tie.Need-word-requires
 word-requires c κs = tt
 
-add-part : tie.Need-add-part
-add-part c = omega arith
+returns : tie.Need-returns
+returns c = λ dim e. simp (sym ((c .before .word .ensures .is)), ne-eqb _ _ ((c .if1 .taken)))
 
 add-word-2 : tie.Need-add-word-2
 add-word-2 c = omega arith
@@ -21,19 +21,16 @@ add-word-2 c = omega arith
 word-requires-2 : tie.Need-word-requires-2
 word-requires-2 c κs = tt
 
-cast-fixed-part : tie.Need-cast-fixed-part
-cast-fixed-part c = omega arith
-
-fixed-part-requires : tie.Need-fixed-part-requires
-fixed-part-requires c κs = tt
-
-returns : tie.Need-returns
-unfolding attributesOk
-returns c = simp (sym (c .before .before .before .before .before .pre .0 .0), sym (c .before .before .before .word .ensures .is), sym (c .before .before .word2 .ensures .is), sym (c .before .fixed-part .ensures), lt-leb _ _ (c .if1 .taken))
+add-part : tie.Need-add-part
+add-part c = omega arith
 
 returns-2 : tie.Need-returns-2
 unfolding attributesOk
-returns-2 c = simp (sym (c .before .before .before .before .before .before .pre .0 .0), sym (c .before .before .before .before .before .before .pre .0 .1), sym (c .before .before .before .before .word .ensures .is), sym (c .before .before .before .word2 .ensures .is), sym (c .before .before .fixed-part .ensures), le-leb _ _ (c .before .if1 .left), lt-leb _ _ (c .if2 .taken))
+returns-2 c = λ dim e. simp (sym ((c .before .before .before .word .ensures .is)), eq-eqb _ _ ((c .before .before .if1 .left)), sym ((c .before .word2 .ensures .is)), sym e, lt-leb _ _ ((c .if2 .taken)))
+
+returns-3 : tie.Need-returns-3
+unfolding attributesOk
+returns-3 c = λ dim e. simp (sym ((c .before .before .before .before .before .before .pre .0)), sym ((c .before .before .before .before .word .ensures .is)), eq-eqb _ _ ((c .before .before .before .if1 .left)), sym ((c .before .before .word2 .ensures .is)), sym e, le-leb _ _ ((c .before .if2 .left)), lt-leb _ _ ((c .if3 .taken)))
 
 add-linkages-fill : tie.Need-add-linkages-fill
 add-linkages-fill c = omega arith
@@ -44,9 +41,9 @@ add-linkages-fill-2 c = omega arith
 linkages-fill-requires : tie.Need-linkages-fill-requires
 linkages-fill-requires c κs = tt
 
-returns-3 : tie.Need-returns-3
+returns-4 : tie.Need-returns-4
 unfolding attributesOk
-returns-3 c = simp (sym (c .before .before .before .before .before .before .before .pre .0 .0), sym (c .before .before .before .before .before .before .before .pre .0 .1), sym (c .before .before .before .before .before .word .ensures .is), sym (c .before .before .before .before .word2 .ensures .is), sym (c .before .before .before .fixed-part .ensures), le-leb _ _ (c .before .before .if1 .left), le-leb _ _ (c .before .if2 .left)) (c .linkages-fill .ensures)
+returns-4 c = λ dim e. simp (sym ((c .before .before .before .before .before .before .before .pre .0)), sym ((c .before .before .before .before .before .word .ensures .is)), eq-eqb _ _ ((c .before .before .before .before .if1 .left)), sym ((c .before .before .before .word2 .ensures .is)), sym e, le-leb _ _ ((c .before .before .if2 .left)), le-leb _ _ ((c .before .if3 .left))) ((c .linkages-fill .ensures))
 
 pub attributes-ok-spec : {M : Type 1} → statement M
 attributes-ok-spec =
@@ -54,14 +51,13 @@ attributes-ok-spec =
     (tie.spec
     add-word
     word-requires
-    add-part
+    returns
     add-word-2
     word-requires-2
-    cast-fixed-part
-    fixed-part-requires
-    returns
+    add-part
     returns-2
+    returns-3
     add-linkages-fill
     add-linkages-fill-2
     linkages-fill-requires
-    returns-3)
+    returns-4)

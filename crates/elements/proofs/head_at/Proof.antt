@@ -1,18 +1,19 @@
 -- Check by check: what the tests before a return say of the checks decides the fault there, and no fault gives the bounds of
 -- every sum and, with the type, the answer.
-use Prim.Native.Nat.{ℕ, _-_}
-use mathlib.Core.Bool.{Bool}
-use mathlib.Core.List.{List, _++_}
-use mathlib.Core.Path.{_≡_, refl, sym, _∙_}
+use Prim.Native.Nat.{ℕ, _-_, _+_}
+use mathlib.Core.Bool.{Bool, true}
+use mathlib.Core.List.{List, [], _∷_, _++_}
+use mathlib.Core.Path.{_≡_, refl, sym, ap, _∙_}
 use native.Mathlib.Omega.{arith}
-use borrow.Author.Needs.{needs}
+use lib.Dec.{leb}
 use borrow.Author.Tests.{le-leb, lt-leb}
 use Rattle.words.specs.Words.{words, wordAt}
-use Rattle.elements.specs.Header.{typeAt}
-use Rattle.elements.specs.Kinds.{isHeader}
-use Rattle.elements.specs.Rules.{Check, firstFault, placeChecks, contentChecks, checks, faultOf, HeadRead}
+use Rattle.elements.specs.Header.{typeAt, sizeAt}
+use Rattle.elements.specs.Kinds.{isHeader, mayStand}
+use Rattle.elements.specs.Attributes.{linkagesOk}
+use Rattle.elements.specs.Rules.{reservedOk, placeOk, fixedOk, Check, check, firstFault, contentChecks, checks, faultOf, HeadRead}
 use Rattle.elements.specs.declared.Head.the-variants.{Bad}
-use Rattle.elements.proofs.Laws.{pass, stop, tail, first, fault-here, fault-later, element-within, header-within, read-bad, read-plain, read-complex}
+use Rattle.elements.proofs.Laws.{pass, stop, tail, first, fault-here, fault-later, simple-same, element-within, header-within, read-bad, read-plain, read-complex}
 use Rattle.elements.proofs.head_at.Statement.{statement}
 use Rattle.elements.proofs.head_at.Tie as tie
 
@@ -20,11 +21,17 @@ use Rattle.elements.proofs.head_at.Tie as tie
 abbrev all : tie.Start → List Check
 all a = checks (a .args .dim) (a .args .depth) (a .args .under) (words (a .args .s .now)) (a .args .at) (a .args .bound)
 
-abbrev place : tie.Start → List Check
-place a = placeChecks (a .args .dim) (a .args .depth) (a .args .under) (wordAt (words (a .args .s .now)) (a .args .at))
+abbrev flags : tie.Start → List Check
+flags a =
+    check (reservedOk (wordAt (words (a .args .s .now)) (a .args .at))) 4
+    ∷ check (placeOk (a .args .depth) (wordAt (words (a .args .s .now)) (a .args .at))) 5
+    ∷ check (leb (a .args .depth) 8) 10
+    ∷ []
 
-abbrev content : tie.Start → List Check
-content a = contentChecks (a .args .dim) (words (a .args .s .now)) (a .args .at) (a .args .bound - a .args .at)
+abbrev rest : tie.Start → List Check
+rest a =
+    check (mayStand (a .args .dim) (a .args .under) (typeAt (words (a .args .s .now)) (a .args .at))) 6
+    ∷ contentChecks (a .args .dim) (words (a .args .s .now)) (a .args .at) (a .args .bound - a .args .at)
 
 abbrev number : tie.Start → ℕ
 number a = faultOf (a .args .dim) (a .args .depth) (a .args .under) (words (a .args .s .now)) (a .args .at) (a .args .bound)
@@ -32,19 +39,19 @@ number a = faultOf (a .args .dim) (a .args .depth) (a .args .under) (words (a .a
 abbrev header : tie.Start → Bool
 header a = isHeader (typeAt (words (a .args .s .now)) (a .args .at))
 
--- the entry of the call, from after the third test and from after the fifth
+-- the entry of the call, from after the third test and from after the type
 abbrev from-3 : tie.Else3 → tie.Start
 from-3 c = c .before .before .before .before .before .before
 
-abbrev from-5 : tie.Else5 → tie.Start
-from-5 c = from-3 (c .before .before .before .before .before)
+abbrev from-type : tie.After-type-of → tie.Start
+from-type c = from-3 (c .before .before .before)
 
 -- a refusal with a number
 refuse : (a : tie.Start) (n : ℕ) → n ≡ number a → (n ≡ 0 → ⊥) → HeadRead (a .args .dim) (a .args .depth) (a .args .under) (a .args .s .now) (a .args .at) (a .args .bound) (Bad n)
 refuse a = read-bad (a .args .dim) (a .args .depth) (a .args .under) (a .args .s .now) (a .args .at) (a .args .bound)
 
 -- where the two checks 3 passed, those after them decide
-decide : (c : tie.Else3) {n : ℕ} → n ≡ firstFault (place (from-3 c) ++ content (from-3 c)) → n ≡ number (from-3 c)
+decide : (c : tie.Else3) {n : ℕ} → n ≡ firstFault (flags (from-3 c) ++ rest (from-3 c)) → n ≡ number (from-3 c)
 unfolding faultOf
 decide c e =
     first (all (from-3 c))
@@ -52,24 +59,43 @@ decide c e =
     (pass (simp (sym (c .before .word2 .ensures .is), le-leb _ _ (c .if3 .left)))
     (tail _ e)))
 
--- what place_fault answers, and that it is 0
-placed : (c : tie.After-place-fault) → c .place-fault .result ≡ firstFault (place (from-3 (c .before)))
-placed c = rw (c .before .before .before .word .ensures .is) at (c .place-fault .ensures)
+-- what flag_fault answers; where that is 0, the checks after it decide
+flagged : (c : tie.After-flag-fault) → c .flag-fault .result ≡ firstFault (flags (from-3 (c .before)))
+flagged c = rw (c .before .before .before .word .ensures .is) at (c .flag-fault .ensures)
 
-well-placed : (c : tie.Else4) → 0 ≡ firstFault (place (from-3 (c .before .before)))
-well-placed c = sym (c .if4 .left) ∙ placed (c .before)
+settle : (c : tie.After-type-of) {n : ℕ} → n ≡ firstFault (rest (from-type c)) → n ≡ number (from-type c)
+settle c e =
+    decide (c .before .before .before)
+    (fault-later (flags (from-type c)) (rest (from-type c)) _ refl (sym (c .before .if4 .left) ∙ flagged (c .before .before)) e)
 
--- no fault
-none : (c : tie.Else5) → number (from-5 c) ≡ 0
-none c =
-    sym
-    (decide (c .before .before .before .before .before)
-    (fault-later (place (from-5 c)) (content (from-5 c)) _ refl (well-placed (c .before .before .before))
-    (sym (c .if5 .left) ∙ c .before .content-fault .ensures)))
+-- the type and the size that were read
+typed : (c : tie.After-type-of) → c .type-of .result ≡ typeAt (words (from-type c .args .s .now)) (from-type c .args .at)
+typed c = rw (c .before .before .before .before .before .word .ensures .is) at (c .type-of .ensures)
+
+sized : (c : tie.After-type-of) → c .before .before .before .before .word2 .result + 2 ≡ sizeAt (words (from-type c .args .s .now)) (from-type c .args .at)
+sized c = ap (λ (n : ℕ). n + 2) (c .before .before .before .before .word2 .ensures .is)
 
 -- what is_header answers, of the element
-kind : (c : tie.After-is-header) → c .is-header .result ≡ header (from-5 (c .before))
-kind c = rw (c .before .before .before .type-of .ensures, c .before .before .before .before .before .before .before .before .word .ensures .is) at (c .is-header .ensures)
+kind : (c : tie.After-is-header) → c .is-header .result ≡ header (from-type (c .before))
+kind c = rw (typed (c .before)) at (c .is-header .ensures)
+
+-- what header_fault and simple_fault answer
+headed : (c : tie.After-header-fault) → c .header-fault .result ≡ firstFault (rest (from-type (c .before .before .before)))
+headed c = rw (typed (c .before .before .before)) at (c .header-fault .ensures)
+
+simple : (c : tie.After-simple-fault) → c .simple-fault .result ≡ firstFault (rest (from-type (c .before .before .before)))
+simple c =
+    let a = from-type (c .before .before .before) in
+    let ws = words (a .args .s .now) in
+    rw (typed (c .before .before .before), sized (c .before .before .before)) at (c .simple-fault .ensures)
+    ∙ simple-same ws (a .args .at) (a .args .bound - a .args .at) (mayStand (a .args .dim) (a .args .under) (typeAt ws (a .args .at))) (fixedOk (a .args .dim) ws (a .args .at)) (linkagesOk (a .args .dim) ws (a .args .at)) (sym (kind (c .before .before)) ∙ c .before .if5 .left)
+
+-- a header without a fault
+none : (c : tie.Else6) → number (from-type (c .before .before .before .before)) ≡ 0
+none c = sym (settle (c .before .before .before .before) (sym (c .if6 .left) ∙ headed (c .before)))
+
+is-complex : (c : tie.Else6) → header (from-type (c .before .before .before .before)) ≡ true
+is-complex c = sym (kind (c .before .before .before)) ∙ c .before .before .if5 .taken
 
 returns : tie.Need-returns
 unfolding faultOf
@@ -111,29 +137,18 @@ returns-3 c =
     (pass (le-leb _ _ (c .before .before .before .if2 .left)) (stop (simp (sym (c .before .word2 .ensures .is), lt-leb _ _ (c .if3 .taken))))))
     (λ e. omega arith)
 
-place-fault-requires : tie.Need-place-fault-requires
-place-fault-requires c κs = tt
+flag-fault-requires : tie.Need-flag-fault-requires
+flag-fault-requires c κs = tt
 
 returns-4 : tie.Need-returns-4
 returns-4 c =
     let a = from-3 (c .before .before) in
     refuse a _
-    (decide (c .before .before) (fault-here (place a) (content a) _ (placed (c .before)) (c .if4 .taken)))
+    (decide (c .before .before) (fault-here (flags a) (rest a) _ (flagged (c .before)) (c .if4 .taken)))
     (c .if4 .taken)
 
 type-of-requires : tie.Need-type-of-requires
 type-of-requires c κs = tt
-
-content-fault-requires : tie.Need-content-fault-requires
-content-fault-requires c κs = search needs
-
-returns-5 : tie.Need-returns-5
-returns-5 c =
-    let a = from-3 (c .before .before .before .before .before) in
-    refuse a _
-    (decide (c .before .before .before .before .before)
-    (fault-later (place a) (content a) _ refl (well-placed (c .before .before .before)) (c .before .content-fault .ensures)))
-    (c .if5 .taken)
 
 add-next : tie.Need-add-next
 add-next c = omega arith
@@ -141,13 +156,22 @@ add-next c = omega arith
 is-header-requires : tie.Need-is-header-requires
 is-header-requires c κs = tt
 
+header-fault-requires : tie.Need-header-fault-requires
+header-fault-requires c κs = ((typed (c .before .before), sized (c .before .before)), (sym (c .before .is-header .ensures) ∙ c .if5 .taken, omega arith))
+
+returns-5 : tie.Need-returns-5
+returns-5 c =
+    refuse (from-type (c .before .before .before .before)) _
+    (settle (c .before .before .before .before) (headed (c .before)))
+    (c .if6 .taken)
+
 add-word-2 : tie.Need-add-word-2
 add-word-2 c =
-    let a = from-5 (c .before .before) in
+    let a = from-type (c .before .before .before .before) in
     omega (
       arith,
-      element-within (a .args .dim) (a .args .depth) (a .args .under) (words (a .args .s .now)) (a .args .at) (a .args .bound) (none (c .before .before)),
-      header-within (a .args .dim) (a .args .depth) (a .args .under) (words (a .args .s .now)) (a .args .at) (a .args .bound) (none (c .before .before)) (sym (kind (c .before)) ∙ c .if6 .taken),
+      element-within (a .args .dim) (a .args .depth) (a .args .under) (words (a .args .s .now)) (a .args .at) (a .args .bound) (none c),
+      header-within (a .args .dim) (a .args .depth) (a .args .under) (words (a .args .s .now)) (a .args .at) (a .args .bound) (none c) (is-complex c),
     )
 
 word-requires-3 : tie.Need-word-requires-3
@@ -158,23 +182,33 @@ add-end c = omega arith
 
 add-end-2 : tie.Need-add-end-2
 add-end-2 c =
-    let a = from-5 (c .before .before .before) in
+    let a = from-type (c .before .before .before .before .before) in
     omega (
       arith,
       c .word3 .ensures .is,
-      header-within (a .args .dim) (a .args .depth) (a .args .under) (words (a .args .s .now)) (a .args .at) (a .args .bound) (none (c .before .before .before)) (sym (kind (c .before .before)) ∙ c .before .if6 .taken),
+      header-within (a .args .dim) (a .args .depth) (a .args .under) (words (a .args .s .now)) (a .args .at) (a .args .bound) (none (c .before)) (is-complex (c .before)),
     )
 
 returns-6 : tie.Need-returns-6
 returns-6 c =
-    let a = from-5 (c .before .before .before) in
-    rw (c .before .before .before .before .before .before .before .before .before .word2 .ensures .is, c .word3 .ensures .is)
-    (read-complex (a .args .dim) (a .args .depth) (a .args .under) (a .args .s .now) (a .args .at) (a .args .bound) (none (c .before .before .before)) (sym (kind (c .before .before)) ∙ c .before .if6 .taken))
+    let a = from-type (c .before .before .before .before .before) in
+    rw ((c .before .before .before .before .before .before .before .before .before .word2 .ensures .is), c .word3 .ensures .is)
+    (read-complex (a .args .dim) (a .args .depth) (a .args .under) (a .args .s .now) (a .args .at) (a .args .bound) (none (c .before)) (is-complex (c .before)))
+
+simple-fault-requires : tie.Need-simple-fault-requires
+simple-fault-requires c κs = ((typed (c .before .before), sized (c .before .before)), (sym (c .before .is-header .ensures) ∙ c .if5 .left, omega arith))
 
 returns-7 : tie.Need-returns-7
 returns-7 c =
-    let a = from-5 (c .before .before) in
-    rw (c .before .before .before .before .before .before .before .before .word2 .ensures .is) (read-plain (a .args .dim) (a .args .depth) (a .args .under) (a .args .s .now) (a .args .at) (a .args .bound) (none (c .before .before)) (sym (kind (c .before)) ∙ c .if6 .left))
+    refuse (from-type (c .before .before .before .before)) _
+    (settle (c .before .before .before .before) (simple (c .before)))
+    (c .if7 .taken)
+
+returns-8 : tie.Need-returns-8
+returns-8 c =
+    let a = from-type (c .before .before .before .before) in
+    rw ((c .before .before .before .before .before .before .before .before .word2 .ensures .is))
+    (read-plain (a .args .dim) (a .args .depth) (a .args .under) (a .args .s .now) (a .args .at) (a .args .bound) (sym (settle (c .before .before .before .before) (sym (c .if7 .left) ∙ simple (c .before)))) (sym (kind (c .before .before .before)) ∙ c .before .before .if5 .left))
 
 pub head-at-spec : {M : Type 1} → statement M
 head-at-spec =
@@ -188,16 +222,18 @@ head-at-spec =
     word-requires-2
     add-size
     returns-3
-    place-fault-requires
+    flag-fault-requires
     returns-4
     type-of-requires
-    content-fault-requires
-    returns-5
     add-next
     is-header-requires
+    header-fault-requires
+    returns-5
     add-word-2
     word-requires-3
     add-end
     add-end-2
     returns-6
-    returns-7)
+    simple-fault-requires
+    returns-7
+    returns-8)

@@ -1,44 +1,20 @@
--- The tests are those of the definition.
-use mathlib.Core.Path.{sym}
-use native.Mathlib.Omega.{arith}
-use borrow.Author.Tests.{eq-eqb, ne-eqb}
-use Rattle.elements.specs.Attributes.{linkagesOk}
-use Rattle.elements.proofs.Laws.{refused, accepted}
+-- Type 1 has no attributes, every other header may have them.
+use mathlib.Core.Path.{sym, _∙_}
+use borrow.Author.Tests.{ne-eqb}
+use Rattle.words.specs.Words.{words}
+use Rattle.elements.proofs.Types.{header-linked}
+use Rattle.elements.proofs.Laws.{linkages-linked, linkages-none}
 use Rattle.elements.proofs.linkages_ok.Statement.{statement}
 use Rattle.elements.proofs.linkages_ok.Tie as tie
 
-is-linked-requires : tie.Need-is-linked-requires
-is-linked-requires c κs = tt
-
 returns : tie.Need-returns
-unfolding linkagesOk
-returns c = simp (sym (c .before .before .before .pre .0 .0), refused (c .before .is-linked .ensures) (c .if1 .taken))
-
-add-word : tie.Need-add-word
-add-word c = let h = (c .before .before .before .pre .1 .0) (accepted (c .before .is-linked .ensures) (c .if1 .left)) in omega arith
-
-word-requires : tie.Need-word-requires
-word-requires c κs = tt
+returns c = λ dim e. sym (linkages-none dim (words ((c .before .before .args .s .now))) ((c .before .before .args .at)) (simp (sym ((c .before .before .pre .0 .0)), (c .if1 .taken))))
 
 attributes-ok-requires : tie.Need-attributes-ok-requires
-attributes-ok-requires c κs = (c .before .before .before .before .before .pre .0, ((c .before .before .before .before .before .pre .1 .0) (accepted (c .before .before .before .is-linked .ensures) (c .before .before .if1 .left)), c .before .before .before .before .before .pre .1 .1))
+attributes-ok-requires c κs = ((c .before .before .pre .0 .1), (c .before .before .pre .1 .1))
 
 returns-2 : tie.Need-returns-2
-unfolding linkagesOk
-returns-2 c = simp (sym (c .before .before .before .before .before .before .pre .0 .0), accepted (c .before .before .before .before .is-linked .ensures) (c .before .before .before .if1 .left), sym (c .before .before .word .ensures .is), eq-eqb _ _ (c .before .if2 .taken)) (c .attributes-ok .ensures)
-
-returns-3 : tie.Need-returns-3
-unfolding linkagesOk
-returns-3 c = simp (sym (c .before .before .before .before .before .pre .0 .0), accepted (c .before .before .before .is-linked .ensures) (c .before .before .if1 .left), sym (c .before .word .ensures .is), ne-eqb _ _ (c .if2 .left))
+returns-2 c = λ dim e. (c .attributes-ok .ensures) dim e ∙ sym (linkages-linked dim (words ((c .before .before .before .args .s .now))) ((c .before .before .before .args .at)) (rw ((c .before .before .before .pre .0 .0)) at (header-linked ((c .before .before .before .args .t)) ((c .before .before .before .pre .1 .0)) (ne-eqb _ _ ((c .before .if1 .left))))))
 
 pub linkages-ok-spec : {M : Type 1} → statement M
-linkages-ok-spec =
-    tie.close
-    (tie.spec
-    is-linked-requires
-    returns
-    add-word
-    word-requires
-    attributes-ok-requires
-    returns-2
-    returns-3)
+linkages-ok-spec = tie.close (tie.spec returns attributes-ok-requires returns-2)

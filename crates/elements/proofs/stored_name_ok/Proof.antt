@@ -8,13 +8,13 @@ use Rattle.elements.proofs.stored_name_ok.Statement.{statement}
 use Rattle.elements.proofs.stored_name_ok.Tie as tie
 
 add-word : tie.Need-add-word
-add-word c = let h = (c .before .before .pre .1) (rw (c .if1 .taken)) in omega arith
+add-word c = omega arith
 
 word-requires : tie.Need-word-requires
 word-requires c κs = tt
 
 add-word-2 : tie.Need-add-word-2
-add-word-2 c = let h = (c .before .before .before .pre .1) (rw (c .before .if1 .taken)) in omega arith
+add-word-2 c = omega arith
 
 word-requires-2 : tie.Need-word-requires-2
 word-requires-2 c κs = tt
@@ -27,13 +27,13 @@ unfolding storedNameOk
 returns c = simp (sym (c .before .before .before .before .before .pre .0), c .before .before .before .if1 .taken, sym (c .before .before .word .ensures .is), sym (c .before .word2 .ensures .is), sym (c .name-ok .ensures), and-true)
 
 add-word-3 : tie.Need-add-word-3
-add-word-3 c = let h = (c .before .before .before .pre .1) (rw (c .if2 .taken)) in omega arith
+add-word-3 c = omega arith
 
 word-requires-3 : tie.Need-word-requires-3
 word-requires-3 c κs = tt
 
 add-word-4 : tie.Need-add-word-4
-add-word-4 c = let h = (c .before .before .before .before .pre .1) (rw (c .before .if2 .taken)) in omega arith
+add-word-4 c = omega arith
 
 word-requires-4 : tie.Need-word-requires-4
 word-requires-4 c κs = tt

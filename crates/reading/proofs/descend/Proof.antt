@@ -1,4 +1,4 @@
--- The loop's invariant: what the descent finds from the element at `here` on is what it finds from the top.
+-- The loop's invariant: what the descent finds from the element at `here` on is what it finds from where it began.
 use Prim.Native.Nat.{_-_, _≤_}
 use mathlib.Core.Path.{sym, ap, _∙_}
 use native.Mathlib.Omega.{arith}
@@ -9,16 +9,17 @@ use Rattle.words.proofs.Laws.{lent-below}
 use Rattle.elements.specs.Kinds.{isHeader}
 use Rattle.reading.specs.declared.Spotted.{Spotted}
 use Rattle.reading.specs.declared.Above.the-variants.{Top}
-use Rattle.reading.proofs.Descent.{IsLocated, words-two, words-small, size-small, step-over, step-into, step-own, step-here, step-past, descent-is}
+use Rattle.reading.specs.Descent.{IsLocated}
+use Rattle.reading.proofs.Descent.{words-two, words-small, size-small, step-over, step-into, step-own, step-here, step-past}
 use Rattle.reading.proofs.descend.Statement.{statement}
 use Rattle.reading.proofs.descend.Tie as tie
 
 abbrev Inv-loop : tie.InvT-loop
-Inv-loop file place here₀ depth₀ above₀ here depth above =
-    (depth ≤ here) × ((r : Spotted) → IsLocated (words file) here depth above place r → IsLocated (words file) 0 0 Top place r)
+Inv-loop file top place here₀ depth₀ above₀ here depth above =
+    (depth ≤ here) × ((r : Spotted) → IsLocated (words file) here depth above place r → IsLocated (words file) top 0 Top place r)
 
 abbrev μ-loop : tie.MeasureT-loop
-μ-loop file place here₀ depth₀ above₀ here depth above = place - here
+μ-loop file top place here₀ depth₀ above₀ here depth above = place - here
 
 loop-holds : tie.Need-loop-holds Inv-loop μ-loop
 loop-holds c = (omega arith, λ r i. i)
@@ -42,7 +43,7 @@ is-header-requires : tie.Need-is-header-requires Inv-loop μ-loop
 is-header-requires c κs = search needs
 
 returns : tie.Need-returns Inv-loop μ-loop
-returns c = descent-is _ _ _ ((c .before .before .before .before .before .before .loop .inv .1) _ (step-own _ _ _ _ _ _ (c .before .before .before .before .extent-words .ensures) (c .before .before .before .before .before .loop-test .taken) (c .before .before .before .if1 .left) (ap isHeader (sym (c .before .before .type-at .ensures)) ∙ sym (c .before .is-header .ensures) ∙ not-true _ (c .if2 .taken))))
+returns c = (c .before .before .before .before .before .before .loop .inv .1) _ (step-own _ _ _ _ _ _ (c .before .before .before .before .extent-words .ensures) (c .before .before .before .before .before .loop-test .taken) (c .before .before .before .if1 .left) (ap isHeader (sym (c .before .before .type-at .ensures)) ∙ sym (c .before .is-header .ensures) ∙ not-true _ (c .if2 .taken)))
 
 add-depth : tie.Need-add-depth Inv-loop μ-loop
 add-depth c = omega arith
@@ -66,10 +67,10 @@ add-end-2 : tie.Need-add-end-2 Inv-loop μ-loop
 add-end-2 c = let s = (c .before .before .before .before .before .args .file .now) in omega (arith, (c .extent-words2 .ensures), words-small s (lent-below s (c .before .before .before .before .shared-slice-known .given)) (c .before .before .before .loop .here))
 
 returns-2 : tie.Need-returns-2 Inv-loop μ-loop
-returns-2 c = descent-is _ _ _ ((c .before .before .before .loop .inv .1) _ (step-here _ _ _ _ _ _ (c .extent-words2 .ensures) (c .before .if3 .taken)))
+returns-2 c = (c .before .before .before .loop .inv .1) _ (step-here _ _ _ _ _ _ (c .extent-words2 .ensures) (c .before .if3 .taken))
 
 returns-3 : tie.Need-returns-3 Inv-loop μ-loop
-returns-3 c = descent-is _ _ _ ((c .before .before .loop .inv .1) _ (step-past _ _ _ _ _ (omega arith)))
+returns-3 c = (c .before .before .loop .inv .1) _ (step-past _ _ _ _ _ (omega arith))
 
 pub descend-spec : {M : Type 1} → statement M
 descend-spec =

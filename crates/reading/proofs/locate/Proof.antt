@@ -2,6 +2,7 @@
 use mathlib.Core.Path.{sym, _∙_}
 use native.Mathlib.Omega.{arith}
 use Rattle.words.proofs.Laws.{length-words}
+use Rattle.reading.proofs.Descent.{descent-is}
 use Rattle.reading.proofs.Places.{locate-before, locate-after, locate-outside}
 use borrow.Author.Needs.{needs}
 use Rattle.reading.proofs.locate.Statement.{statement}
@@ -11,7 +12,7 @@ descend-requires : tie.Need-descend-requires
 descend-requires c κs = search needs
 
 returns : tie.Need-returns
-returns c = (c .descend .ensures) ∙ sym (let l = length-words (c .before .before .before .before .args .file .now) in locate-before _ _ _ (c .before .before .if1 .taken) (omega arith))
+returns c = descent-is _ _ _ (c .descend .ensures) ∙ sym (let l = length-words (c .before .before .before .before .args .file .now) in locate-before _ _ _ (c .before .before .if1 .taken) (omega arith))
 
 returns-2 : tie.Need-returns-2
 returns-2 c = let l = length-words (c .before .before .before .args .file .now) in sym (locate-outside _ _ _ (c .before .if1 .taken) (omega arith))

@@ -33,7 +33,7 @@ same-length-2 : tie.Need-same-length-2
 same-length-2 c = search needs
 
 returns : tie.Need-returns
-returns c = let t = text-named ((c .before .before .before .before .before .before .before .before .before .before .before .before .before .before .args .text .now)) _ _ ((c .before .before .before .before .before .before .before .before .before .before .before .before .before .before .args .place)) (sym ((c .before .before .before .before .before .before .before .before .before .before .pack .ensures)) ∙ (c .before .before .before .before .before .before .before .before .first .given .1)) in (c .before .before .before .before .rename-opened .ensures) ((c .before .before .before .before .before .before .before .before .before .before .before .before .before .before .args .text .now)) (t .0) (t .1)
+returns c = text-named _ _ _ _ ((c .before .before .before .before .before .before .before .before .before .before .before .before .before .before .pre) .ready) _ _ (sym ((c .before .before .before .before .before .before .before .before .before .before .pack .ensures)) ∙ (c .before .before .before .before .before .before .before .before .first .given .1)) ((c .before .before .before .before .rename-opened .ensures))
 
 same-length-3 : tie.Need-same-length-3
 same-length-3 c = search needs
@@ -42,7 +42,7 @@ same-length-4 : tie.Need-same-length-4
 same-length-4 c = search needs
 
 returns-2 : tie.Need-returns-2
-returns-2 c = let t = text-unnamed ((c .before .before .before .before .before .before .before .before .before .before .before .before .before .args .text .now)) _ _ ((c .before .before .before .before .before .before .before .before .before .before .before .before .before .args .place)) (sym ((c .before .before .before .before .before .before .before .before .before .pack .ensures)) ∙ (c .before .before .before .before .before .before .before .enum-told .given .1)) in (c .before .before .before .before .rename-opened2 .ensures) ((c .before .before .before .before .before .before .before .before .before .before .before .before .before .args .text .now)) (t .0) (t .1)
+returns-2 c = text-unnamed _ _ _ _ ((c .before .before .before .before .before .before .before .before .before .before .before .before .before .pre) .ready) _ _ (sym ((c .before .before .before .before .before .before .before .before .before .pack .ensures)) ∙ (c .before .before .before .before .before .before .before .enum-told .given .1)) ((c .before .before .before .before .rename-opened2 .ensures))
 
 pub rename-by-spec : {M : Type 1} → statement M
 rename-by-spec =

@@ -1,0 +1,68 @@
+-- The loop's invariant: what the elements from a place on answer, after n others, is what all of the part answer.
+use Prim.Native.Nat.{_-_, _≤_}
+use mathlib.Core.Path.{sym, _∙_}
+use native.Mathlib.Omega.{arith}
+use borrow.Author.Needs.{needs}
+use Rattle.words.specs.Words.{words}
+use Rattle.finder.specs.declared.Found.{Found}
+use Rattle.finder.specs.Look.{FirstFrom}
+use Rattle.finder.proofs.Order.{size-small}
+use Rattle.finder.proofs.Looks.{look-none, look-hit, look-next}
+use Rattle.finder.proofs.look.Statement.{statement}
+use Rattle.finder.proofs.look.Tie as tie
+
+abbrev Inv-loop : tie.InvT-loop
+Inv-loop file from to before first second at₀ n₀ at n =
+    (n ≤ at) × ((r : Found) → FirstFrom (words file) first second n at to r → FirstFrom (words file) first second before from to r)
+
+abbrev μ-loop : tie.MeasureT-loop
+μ-loop file from to before first second at₀ n₀ at n = to - at
+
+loop-holds : tie.Need-loop-holds Inv-loop μ-loop
+loop-holds c = ((c .before .pre .0), λ r f. f)
+
+has-name-requires : tie.Need-has-name-requires Inv-loop μ-loop
+has-name-requires c κs = omega (arith, (c .loop-test .taken), (c .before .before .before .pre .1))
+
+add-t11 : tie.Need-add-t11 Inv-loop μ-loop
+add-t11 c = omega (arith, (c .before .before .loop-test .taken), (c .before .before .before .before .before .pre .1), (c .before .before .before .loop .inv .0))
+
+returns : tie.Need-returns Inv-loop μ-loop
+returns c = (c .before .before .before .loop .inv .1) _ (look-hit _ _ _ _ _ _ ((c .before .before .loop-test .taken)) (sym ((c .before .has-name .ensures)) ∙ (c .if1 .taken)))
+
+size-at-requires : tie.Need-size-at-requires Inv-loop μ-loop
+size-at-requires c κs = search needs
+
+add-at : tie.Need-add-at Inv-loop μ-loop
+add-at c =
+    let size = size-small ((c .before .before .before .before .before .before .args .file .now)) ((c .before .before .before .before .before .shared-slice-known .given)) ((c .before .before .before .before .loop .at)) in
+    omega (arith, (c .before .before .before .loop-test .taken), (c .before .before .before .before .before .before .pre .1), (c .size-at .ensures))
+
+add-n : tie.Need-add-n Inv-loop μ-loop
+add-n c = omega (arith, (c .before .before .before .loop-test .taken), (c .before .before .before .before .before .before .pre .1), (c .before .before .before .before .loop .inv .0))
+
+loop-less : tie.Need-loop-less Inv-loop μ-loop
+loop-less c = omega (arith, (c .before .before .before .loop-test .taken), (c .size-at .ensures))
+
+loop-again : tie.Need-loop-again Inv-loop μ-loop
+loop-again c = (omega (arith, (c .size-at .ensures), (c .before .before .before .before .loop .inv .0)), λ r f. (c .before .before .before .before .loop .inv .1) r (look-next _ _ _ _ _ _ ((c .before .before .before .loop-test .taken)) (sym ((c .before .before .has-name .ensures)) ∙ (c .before .if1 .left)) r (rw ((c .size-at .ensures)) at f)))
+
+returns-2 : tie.Need-returns-2 Inv-loop μ-loop
+returns-2 c = (c .before .loop .inv .1) _ (look-none _ _ _ _ _ _ ((c .loop-test .left)))
+
+pub look-spec : {M : Type 1} → statement M
+look-spec =
+    tie.close
+    (tie.spec
+    Inv-loop
+    μ-loop
+    loop-holds
+    has-name-requires
+    add-t11
+    returns
+    size-at-requires
+    add-at
+    add-n
+    loop-less
+    loop-again
+    returns-2)

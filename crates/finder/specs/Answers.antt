@@ -1,0 +1,40 @@
+-- What an answer of the finder says of the elements in file order, and of the name that a cell stores.
+use Prim.Native.Nat.{ℕ, _+_}
+use mathlib.Core.Path.{_≡_}
+use mathlib.Core.Logic.{_⊎_}
+use mathlib.Core.Bool.{true, false}
+use mathlib.Core.List.{List, [], _∷_, _++_}
+use lib.ListN.{length}
+use Rattle.words.specs.Words.{wordAt}
+use Rattle.elements.specs.Header.{typeAt}
+use Rattle.files.specs.Spots.{Spot}
+use Rattle.finder.specs.declared.Found.{Found}
+use Rattle.finder.specs.declared.Found.the-variants as found
+use Rattle.finder.specs.Finder.{hasName}
+
+-- none of a list has the name
+abbrev pub NoneNamed : List ℕ → ℕ → ℕ → List Spot → Type 0
+NoneNamed ws first second [] = Unit {0}
+NoneNamed ws first second (x ∷ xs) = (hasName ws (x .place) first second ≡ false) × NoneNamed ws first second xs
+
+-- of a list, the element at a place has the name, and none before it has; `looked` is its ordinal plus one
+pub record FirstAt (ws : List ℕ) (first second : ℕ) (xs : List Spot) (place looked : ℕ) : Type 0 where
+  pub before : List Spot
+  pub one : Spot
+  pub after : List Spot
+  pub whole : xs ≡ before ++ (one ∷ after)
+  pub at : one .place ≡ place
+  pub counted : looked ≡ length before + 1
+  pub named : hasName ws place first second ≡ true
+  pub others : NoneNamed ws first second before
+
+-- what an answer says of a list: the first that has the name, or 13 with the count of all, none of which has it
+abbrev pub Finds : List ℕ → ℕ → ℕ → List Spot → Found → Type 0
+Finds ws first second xs (found.At place looked) = FirstAt ws first second xs place looked
+Finds ws first second xs (found.Refused number place count) = (number ≡ 13) × (place ≡ 0) × (count ≡ length xs) × NoneNamed ws first second xs
+
+-- something holds of the two words that store the name of a type 1 or 2
+abbrev pub Stored : List ℕ → ℕ → (ℕ → ℕ → Type 0) → Type 0
+Stored ws at P =
+    ((typeAt ws at ≡ 1) × P (wordAt ws (at + 16)) (wordAt ws (at + 17)))
+    ⊎ ((typeAt ws at ≡ 2) × P (wordAt ws (at + 19)) (wordAt ws (at + 20)))
