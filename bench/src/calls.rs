@@ -1,68 +1,9 @@
 //! What is measured: the proved library and the C code through their C interfaces, with the second reader's types.
 
+use crate::declared::*;
 use reader::{Call, FindRefusal, Found, Judged, Refusal, State};
 
 extern "C" {
-    fn dgn_judge(file: *const u8, len: usize, dim: usize, out: *mut usize, n: usize) -> usize;
-    fn dgn_extent(file: *const u8, len: usize, dim: usize, place: usize, out: *mut usize, n: usize) -> usize;
-    fn dgn_view(file: *const u8, len: usize, dim: usize, place: usize, out: *mut usize, n: usize) -> usize;
-    fn dgn_find(file: *const u8, len: usize, dim: usize, text: *const u8, m: usize, out: *mut usize, n: usize)
-        -> usize;
-    #[allow(clippy::too_many_arguments)]
-    fn dgn_mark(
-        file: *mut u8,
-        file_len: usize,
-        used: usize,
-        journal: *mut u8,
-        journal_len: usize,
-        jused: usize,
-        dim: usize,
-        place: usize,
-        deleted: usize,
-        out: *mut usize,
-        n: usize,
-    ) -> usize;
-    #[allow(clippy::too_many_arguments)]
-    fn dgn_insert(
-        file: *mut u8,
-        file_len: usize,
-        used: usize,
-        journal: *mut u8,
-        journal_len: usize,
-        jused: usize,
-        dim: usize,
-        header: usize,
-        place: usize,
-        piece: *const u8,
-        piece_len: usize,
-        out: *mut usize,
-        n: usize,
-    ) -> usize;
-    #[allow(clippy::too_many_arguments)]
-    fn dgn_remove(
-        file: *mut u8,
-        file_len: usize,
-        used: usize,
-        journal: *mut u8,
-        journal_len: usize,
-        jused: usize,
-        dim: usize,
-        place: usize,
-        out: *mut usize,
-        n: usize,
-    ) -> usize;
-    #[allow(clippy::too_many_arguments)]
-    fn dgn_undo(
-        file: *mut u8,
-        file_len: usize,
-        used: usize,
-        journal: *const u8,
-        journal_len: usize,
-        jused: usize,
-        dim: usize,
-        out: *mut usize,
-        n: usize,
-    ) -> usize;
     fn plain_judge(file: *const u8, len: usize, dim: usize, out: *mut usize) -> usize;
     fn hop_sizes(file: *const u8) -> usize;
     fn hop_totals(file: *const u8) -> usize;

@@ -3,6 +3,9 @@
 
 mod calls;
 mod checks;
+#[allow(dead_code)]
+#[path = "../../tests/compare/src/declared.rs"]
+mod declared;
 mod edits;
 mod inputs;
 mod programs;

@@ -2,6 +2,7 @@
 //! `compare` is the gate's run; `compare FILES SEED` a run of any length.
 
 mod damage;
+mod declared;
 mod edited;
 mod files;
 mod guard;
