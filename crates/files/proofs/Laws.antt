@@ -21,7 +21,7 @@ use Rattle.files.specs.declared.Verdict.{Verdict}
 use Rattle.files.specs.declared.Verdict.the-variants.{Good, Fault}
 use Rattle.files.specs.declared.Judged.the-variants.{Refused}
 use Rattle.files.specs.Judge.{stopOf, addTo, andThen, enclose, elementBy, listBy, elementFrom, listFrom, elementOf, topOf, callOk, answer, judgeOf}
-use Rattle.files.specs.Cycle.{IsElement, IsList}
+use Rattle.files.specs.Progress.{IsElement, IsList, Passed}
 
 ---- an element, by its head
 
@@ -125,11 +125,6 @@ add-to-zero (Fault n p) = refl
 add-to-twice : (e d k e' d' k' : ℕ) (r : Verdict) → addTo (e + e') (max d d') (k + k') r ≡ addTo e d k (addTo e' d' k' r)
 add-to-twice e d k e' d' k' (Good next a b c) = simp (add-assoc, max-assoc)
 add-to-twice e d k e' d' k' (Fault n p) = refl
-
--- e elements, the deepest at depth d, k of them in the list itself, stand between `at` and `here`
-abbrev pub Passed : ℕ → ℕ → ℕ → List ℕ → ℕ → ℕ → ℕ → ℕ → ℕ → ℕ → Type 0
-Passed dim depth under ws at here bound e d k =
-    (r : Verdict) → IsList dim depth under ws here bound r → IsList dim depth under ws at bound (addTo e d k r)
 
 pub passed-none : (dim depth under : ℕ) (ws : List ℕ) (at bound : ℕ) → Passed dim depth under ws at at bound 0 0 0
 passed-none dim depth under ws at bound r l n lt = add-to-zero r ∙ l n lt

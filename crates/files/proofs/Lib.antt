@@ -1,2 +1,3 @@
 pub mod Laws
-pub mod Cycle
+pub mod Going
+pub mod Reaching

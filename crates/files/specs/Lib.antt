@@ -1,3 +1,4 @@
 pub mod Judge
-pub mod Cycle
+pub mod Progress
+pub mod Reach
 pub mod Spots

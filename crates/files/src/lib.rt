@@ -1,11 +1,14 @@
-// Judging a whole file: an element and a list of components call each other; the elements of one list are a loop, so
-// that the depth of calls is that of nesting. The rules of one element are elements::head_at. Definitions: specs/Judge;
-// the inner contracts of the two are in specs/Cycle.
+// Judging a whole file: the elements of one list are a loop, and a header's components are judged by a call, so that the
+// depth of calls is that of nesting. The rules of one element are elements::head_at. Definitions: specs/Judge, specs/Reach;
+// the inner contract of the loop is in specs/Progress.
 ghost use mathlib.Core.Path.{_≡_};
-ghost use Prim.Native.Nat.{max};
+ghost use mathlib.Core.Bool.{false, _||_};
+ghost use Prim.Native.Nat.{ℕ, max};
+ghost use lib.Dec.{ltb};
 ghost use Rattle.words.specs.Words.{words};
 ghost use Rattle.files.specs.Judge.{stopOf, elementOf, callOk, judgeOf};
-ghost use Rattle.files.specs.Cycle.{ElementJudged, ListJudged};
+ghost use Rattle.files.specs.Reach.{reachedOf};
+ghost use Rattle.files.specs.Progress.{depthOf, ListJudged, Progressed};
 
 // What an element or a list of elements is judged to be: where it ends, its elements at all depths, the greatest
 // depth and how many of them stand in the list itself; or a number and a place.
@@ -49,6 +52,16 @@ fn larger(a: usize, b: usize) -> usize
     if a <= b { b } else { a }
 }
 
+// Whether judging stops after a header that ends at a place.
+fn stops(each: bool, until: usize, end: usize) -> bool
+    ensures { λ r. ⌜ r ≡ (each || ltb until end) ⌝ }
+{
+    if each {
+        return true;
+    }
+    until < end
+}
+
 // Whether an element begins at a place of a list, the list ends there, or its end is lacking.
 pub fn stop_at(s: &[u8], at: usize, bound: usize, depth: usize) -> Stop
     ensures { λ r. ⌜ r ≡ stopOf depth (words (now (s .entry))) at bound ⌝ }
@@ -70,46 +83,172 @@ pub fn stop_at(s: &[u8], at: usize, bound: usize, depth: usize) -> Stop
     }
 }
 
-// One element with its extent: its own rules, then its components, then its count.
-fn judge_element(
+// How far elements of a list were judged, one after another: up to one that ends after a place, or is a header (`last`); up
+// to a place where no head of an element stands; or to a fault beneath an element.
+enum Progress {
+    Stopped {
+        next: usize,
+        last: usize,
+        elements: usize,
+        deepest: usize,
+        direct: usize,
+    },
+    Halted {
+        number: usize,
+        place: usize,
+        elements: usize,
+        deepest: usize,
+        direct: usize,
+    },
+    Broken {
+        number: usize,
+        place: usize,
+    },
+}
+
+// What the elements at the top come to, one after another: the first that ends after a place, or is a header, with how many
+// stand before it; the end of all; or a fault.
+pub enum Reached {
+    Element {
+        start: usize,
+        end: usize,
+        before: usize,
+    },
+    End {
+        place: usize,
+        before: usize,
+    },
+    Fault {
+        number: usize,
+        place: usize,
+    },
+}
+
+// The greatest depth of elements at a depth, of which there are `direct`, with the greatest beneath them; 0 of none.
+fn depth_of(direct: usize, depth: usize, below: usize) -> usize
+    ensures { λ r. ⌜ r ≡ depthOf direct depth below ⌝ }
+{
+    if direct == 0 {
+        return 0;
+    }
+    larger(depth, below)
+}
+
+// A whole list, by how far its elements were judged.
+fn closed(s: &[u8], bound: usize, depth: usize, progress: Progress) -> Verdict
+    ensures { λ r. ⌜ ((dim under at : ℕ) → Progressed dim depth under (now (s .entry)) at bound bound false progress → ListJudged dim depth under (now (s .entry)) at bound r) ⌝ }
+{
+    match progress {
+        Progress::Stopped {
+            next,
+            last: _,
+            elements,
+            deepest,
+            direct,
+        } => Verdict::Good {
+            next,
+            elements,
+            deepest,
+            direct,
+        },
+        Progress::Broken { number, place } => Verdict::Fault { number, place },
+        Progress::Halted {
+            number,
+            place,
+            elements,
+            deepest,
+            direct,
+        } => match stop_at(s, place, bound, depth) {
+            Stop::Done => Verdict::Good {
+                next: place,
+                elements,
+                deepest,
+                direct,
+            },
+            Stop::Lacking => Verdict::Fault { number: 2, place },
+            Stop::More => Verdict::Fault { number, place },
+        },
+    }
+}
+
+// The elements of a list in order, up to and with the first that ends after `until`, or where `each` holds is a header. A
+// header's components are a list of their own, judged before its count. No head stands at the marker or at the list's bound,
+// so what stands there is asked only where there is none.
+fn judge_on(
     s: &[u8],
     at: usize,
     bound: usize,
     depth: usize,
     under: usize,
     dim: usize,
-) -> Verdict
-    ensures { λ r. ⌜ ElementJudged dim depth under (now (s .entry)) at bound r ⌝ }
+    until: usize,
+    each: bool,
+) -> Progress
+    ensures { λ r. ⌜ Progressed dim depth under (now (s .entry)) at bound until each r ⌝ }
 {
-    match elements::head_at(s, at, bound, depth, under, dim) {
-        elements::Head::Bad { number } => Verdict::Fault { number, place: at },
-        elements::Head::Plain { next } => Verdict::Good {
-            next,
-            elements: 1,
-            deepest: depth,
-            direct: 1,
-        },
-        elements::Head::Complex { inner, end } => {
-            match judge_list(s, inner, end, depth + 1, elements::type_at(s, at), dim) {
-                Verdict::Fault { number, place } => Verdict::Fault { number, place },
-                Verdict::Good {
-                    next: _,
-                    elements,
-                    deepest,
+    let mut here = at;
+    let mut below: usize = 0;
+    let mut deepest: usize = 0;
+    let mut direct: usize = 0;
+    loop {
+        match elements::head_at(s, here, bound, depth, under, dim) {
+            elements::Head::Bad { number } => {
+                let d = depth_of(direct, depth, deepest);
+                return Progress::Halted {
+                    number,
+                    place: here,
+                    elements: direct + below,
+                    deepest: d,
                     direct,
-                } => {
-                    if elements::count_ok(s, at, direct) {
-                        Verdict::Good {
-                            next: end,
-                            elements: 1 + elements,
-                            deepest: larger(depth, deepest),
-                            direct: 1,
+                };
+            }
+            elements::Head::Plain { next } => {
+                direct += 1;
+                if until < next {
+                    let d = larger(depth, deepest);
+                    return Progress::Stopped {
+                        next,
+                        last: here,
+                        elements: direct + below,
+                        deepest: d,
+                        direct,
+                    };
+                }
+                here = next;
+            }
+            elements::Head::Complex { inner, end } => {
+                let t = elements::type_at(s, here);
+                let components = judge_on(s, inner, end, depth + 1, t, dim, end, false);
+                match closed(s, end, depth + 1, components) {
+                    Verdict::Fault { number, place } => {
+                        return Progress::Broken { number, place };
+                    }
+                    Verdict::Good {
+                        next: _,
+                        elements: e,
+                        deepest: d,
+                        direct: k,
+                    } => {
+                        if !elements::count_ok(s, here, k) {
+                            return Progress::Broken {
+                                number: 9,
+                                place: here,
+                            };
                         }
-                    } else {
-                        Verdict::Fault {
-                            number: 9,
-                            place: at,
+                        direct += 1;
+                        below += e;
+                        deepest = larger(deepest, d);
+                        if stops(each, until, end) {
+                            let d = larger(depth, deepest);
+                            return Progress::Stopped {
+                                next: end,
+                                last: here,
+                                elements: direct + below,
+                                deepest: d,
+                                direct,
+                            };
                         }
+                        here = end;
                     }
                 }
             }
@@ -121,43 +260,41 @@ fn judge_element(
 fn judge_list(s: &[u8], at: usize, bound: usize, depth: usize, under: usize, dim: usize) -> Verdict
     ensures { λ r. ⌜ ListJudged dim depth under (now (s .entry)) at bound r ⌝ }
 {
-    let mut here = at;
-    let mut elements: usize = 0;
-    let mut deepest: usize = 0;
-    let mut direct: usize = 0;
-    loop {
-        match stop_at(s, here, bound, depth) {
-            Stop::Done => {
-                return Verdict::Good {
-                    next: here,
-                    elements,
-                    deepest,
-                    direct,
-                };
-            }
-            Stop::Lacking => {
-                return Verdict::Fault {
-                    number: 2,
-                    place: here,
-                };
-            }
-            Stop::More => match judge_element(s, here, bound, depth, under, dim) {
-                Verdict::Fault { number, place } => {
-                    return Verdict::Fault { number, place };
-                }
-                Verdict::Good {
-                    next,
-                    elements: e,
-                    deepest: d,
-                    direct: _,
-                } => {
-                    here = next;
-                    elements += e;
-                    deepest = larger(deepest, d);
-                    direct += 1;
-                }
+    let progress = judge_on(s, at, bound, depth, under, dim, bound, false);
+    closed(s, bound, depth, progress)
+}
+
+// The elements at the top from a place on, to the first that ends after `until`, or where `each` holds is a header.
+pub fn reach(s: &[u8], at: usize, bound: usize, dim: usize, until: usize, each: bool) -> Reached
+    ensures { λ r. ⌜ r ≡ reachedOf dim (words (now (s .entry))) at bound until each ⌝ }
+{
+    match judge_on(s, at, bound, 0, 0, dim, until, each) {
+        Progress::Stopped {
+            next,
+            last,
+            elements: _,
+            deepest: _,
+            direct,
+        } => Reached::Element {
+            start: last,
+            end: next,
+            before: direct - 1,
+        },
+        Progress::Broken { number, place } => Reached::Fault { number, place },
+        Progress::Halted {
+            number,
+            place,
+            elements: _,
+            deepest: _,
+            direct,
+        } => match stop_at(s, place, bound, 0) {
+            Stop::Done => Reached::End {
+                place,
+                before: direct,
             },
-        }
+            Stop::Lacking => Reached::Fault { number: 2, place },
+            Stop::More => Reached::Fault { number, place },
+        },
     }
 }
 
@@ -165,7 +302,28 @@ fn judge_list(s: &[u8], at: usize, bound: usize, depth: usize, under: usize, dim
 pub fn element(s: &[u8], at: usize, bound: usize, depth: usize, under: usize, dim: usize) -> Verdict
     ensures { λ r. ⌜ r ≡ elementOf dim depth under (words (now (s .entry))) at bound ⌝ }
 {
-    judge_element(s, at, bound, depth, under, dim)
+    match judge_on(s, at, bound, depth, under, dim, at, false) {
+        Progress::Stopped {
+            next,
+            last: _,
+            elements,
+            deepest,
+            direct,
+        } => Verdict::Good {
+            next,
+            elements,
+            deepest,
+            direct,
+        },
+        Progress::Halted {
+            number,
+            place,
+            elements: _,
+            deepest: _,
+            direct: _,
+        } => Verdict::Fault { number, place },
+        Progress::Broken { number, place } => Verdict::Fault { number, place },
+    }
 }
 
 // Whether a file may be looked at.

@@ -1,18 +1,26 @@
 -- The finder's loops. Elements of a part of a file answer what they answer by their places alone; and the answer for the
 -- elements up to a place, with the elements of the next extent, gives the answer up to its end.
-use Prim.Native.Nat.{ℕ, _+_, _-_, _/_, _≤_, _<_}
+use Prim.Native.Nat.{ℕ, _+_, _-_, _/_, _%_, _≤_, _<_}
 use mathlib.Core.Path.{_≡_, refl, sym, ap, _∙_, subst}
-use mathlib.Core.Bool.{Bool, true, false, false≢true}
+use mathlib.Core.Bool.{Bool, true, false, _&&_, _||_, false≢true}
 use mathlib.Core.List.{List, [], _∷_, _++_, append-nil}
 use mathlib.Core.Option.{none}
 use native.Mathlib.Omega.{arith}
+use native.Mathlib.Nat.{add-assoc, add-zero}
 use lib.ListN.{length, length-append}
+use lib.Dec.{ltb, leb, eqb}
+use borrow.Author.Tests.{leb-true}
+use Rattle.elements.proofs.Laws.{both-true}
 use Rattle.words.specs.Words.{words}
 use Rattle.elements.specs.Header.{typeAt, sizeAt}
 use Rattle.elements.specs.Kinds.{isHeader}
 use Rattle.names.specs.Names.{packed}
 use Rattle.names.specs.declared.Packed.the-variants as text
 use Rattle.files.specs.Judge.{stopOf, elementOf, callOk, judgeOf}
+use Rattle.files.specs.Progress.{stopsAfter}
+use Rattle.files.specs.Reach.{reachedOf}
+use Rattle.files.specs.declared.Reached.{Reached}
+use Rattle.files.specs.declared.Reached.the-variants as reached
 use Rattle.files.specs.Spots.{Spot, spotsOf}
 use Rattle.files.specs.declared.Stop.the-variants.{More, Done, Lacking}
 use Rattle.files.specs.declared.Verdict.the-variants.{Good, Fault}
@@ -24,10 +32,10 @@ use Rattle.grammar.proofs.Rules.{own-type, own-size}
 use Rattle.finder.specs.declared.Found.{Found}
 use Rattle.finder.specs.declared.Found.the-variants as found
 use Rattle.finder.specs.Finder.{hasName, hitIf, firstNamed, searchOf, findOf}
-use Rattle.finder.specs.Look.{InOrder, OneExtent, FirstFrom}
+use Rattle.finder.specs.Look.{InOrder, MayLook, MayPass, passedBy, FirstFrom}
 use Rattle.finder.proofs.Order.{order-append, order-room, tree-order, file-order}
 use Rattle.finder.proofs.Named.{name-none}
-use Rattle.grammar.proofs.Tops.{Judged, judged-none, judged-done, judged-lacking, judged-fault, judged-read, judged-on, judged-more}
+use Rattle.grammar.proofs.Tops.{Judged, judged-none, judged-done, judged-lacking, judged-fault, judged-read, judged-on, judged-more, Arrived, arrived}
 
 ---- a look at the elements of a part
 
@@ -89,6 +97,16 @@ module _ (ws : List ℕ) (a b : ℕ) where
           (count ≡ n + length (x ∷ xs)) × (firstNamed ws a b count ys ≡ hitIf t (x .place) n (firstNamed ws a b (n + 1) (xs ++ ys)))
       go true e k = let z : _≡_ {A = ℕ} 0 1 = cc in absurd (omega arith)
       go false e k = let r = k e in let c = r .0 in (omega arith, r .1)
+
+  -- a refusal is 13, at no place
+  none-is-13 : (n : ℕ) (xs : List Spot) (number place count : ℕ) → found.Refused number place count ≡ firstNamed ws a b n xs → (number ≡ 13) × (place ≡ 0)
+  none-is-13 n [] number place count e = (cc, cc)
+  none-is-13 n (x ∷ xs) number place count e = go (hasName ws (x .place) a b) e (none-is-13 (n + 1) xs number place count)
+    where
+      go : (t : Bool) → found.Refused number place count ≡ hitIf t (x .place) n (firstNamed ws a b (n + 1) xs) →
+          (found.Refused number place count ≡ firstNamed ws a b (n + 1) xs → (number ≡ 13) × (place ≡ 0)) → (number ≡ 13) × (place ≡ 0)
+      go true e k = let z : _≡_ {A = ℕ} 0 1 = cc in absurd (omega arith)
+      go false e k = k e
 
 ---- the loop over the elements at the top
 
@@ -162,12 +180,12 @@ module _ {dim : ℕ} {s : List ℕ} {a b here : ℕ} {r : Found} (l : Searched d
         let i = e .0 in
         omega arith
 
-    pub one-extent : {number place count : ℕ} → r ≡ found.Refused number place count → OneExtent s count here next
-    one-extent q =
+    pub may-look : {number place count : ℕ} → r ≡ found.Refused number place count → MayLook s count here next
+    may-look q =
         let c = count-few q in
         let w = judged-read (l .judged) more good .within in
         let g = judged-on (l .judged) more good in
-        record { may = (c, omega arith); plain = plain-end }
+        (c, omega arith)
 
     pub searched-hit : {place looked : ℕ} → r ≡ found.At place looked → Searched dim s a b next r
     searched-hit q = record {
@@ -184,6 +202,104 @@ module _ {dim : ℕ} {s : List ℕ} {a b here : ℕ} {r : Found} (l : Searched d
       order = both-order;
       same = f inside inside-order ∙ none-goes-on (words s) a b 0 (l .past) inside _ _ _ (sym q ∙ l .same) .1;
     }
+
+    -- one that is no header has no name
+    searched-plain : isHeader (typeAt (words s) here) ≡ false → Searched dim s a b next (passedBy r 1)
+    searched-plain h = go r refl
+      where
+        go : (v : Found) → r ≡ v → Searched dim s a b next (passedBy v 1)
+        go (found.At place looked) q = subst (λ v. Searched dim s a b next v) q (searched-hit q)
+        go (found.Refused number place count) q =
+            let o = none-is-13 (words s) a b 0 (l .past) number place count (sym q ∙ l .same) in
+            rw (o .0, o .1) (searched-more q _ (look-plain (words s) a b count here next h (plain-end h)))
+
+---- the elements up to a header
+
+passed-twice : (r : Found) (k : ℕ) → passedBy (passedBy r k) 1 ≡ passedBy r (k + 1)
+passed-twice (found.At place looked) k = refl
+passed-twice (found.Refused number place count) k = rw (add-assoc count k 1) refl
+
+passed-none : (r : Found) → r ≡ passedBy r 0
+passed-none (found.At place looked) = refl
+passed-none (found.Refused number place count) = rw (add-zero count) refl
+
+-- judging goes on after an element that is no header
+goes-plain : (b c : Bool) → ((true && b) || c) ≡ false → b ≡ false
+goes-plain true c e = e
+goes-plain false c e = refl
+
+no-header : (ws : List ℕ) (until at next : ℕ) → stopsAfter ws until true at next ≡ false → isHeader (typeAt ws at) ≡ false
+unfolding stopsAfter
+no-header ws until at next e = goes-plain (isHeader (typeAt ws at)) (ltb until next) e
+
+call-small : (dim : ℕ) (s : List ℕ) → callOk dim s ≡ true → length s ≤ 1048576
+unfolding callOk
+call-small dim s e =
+    let p = both-true (eqb dim 2 || eqb dim 3) (eqb (length s % 2) 0 && leb (length s) 1048576) e in
+    leb-true (length s) 1048576 (both-true (eqb (length s % 2) 0) (leb (length s) 1048576) (p .1) .1)
+
+module _ {dim : ℕ} {s : List ℕ} {a b here : ℕ} {r : Found} (l : Searched dim s a b here r) (call : callOk dim s ≡ true) where
+  -- k elements without a name were passed
+  abbrev Past : ℕ → ℕ → Type 0
+  Past k at = (here ≤ at) × Searched dim s a b at (passedBy r k)
+
+  searched-arrived : (v : Reached) → v ≡ reachedOf dim (words s) here (length s / 2) (length s / 2) true → Arrived dim s (length s / 2) true Past v
+  searched-arrived v e =
+      arrived dim s (length s / 2) true Past call (λ k at q. q .1 .judged)
+      (λ k at next e d j q more good goes.
+      let o = judged-on (q .1 .judged) more good in
+      let i = q .0 in
+      (omega arith, subst (λ v. Searched dim s a b next v) (passed-twice r k) (searched-plain (q .1) more good (no-header (words s) (length s / 2) at next goes))))
+      here v (omega arith, subst (λ v. Searched dim s a b here v) (passed-none r) l) e
+
+  pub arrived-fault : {n p : ℕ} → reached.Fault n p ≡ reachedOf dim (words s) here (length s / 2) (length s / 2) true → found.Refused n p 0 ≡ searchOf dim s a b
+  arrived-fault e = search-refused dim s a b _ _ (searched-arrived _ e)
+
+  few : {at : ℕ} {v : Found} → Searched dim s a b at v → callOk dim s ≡ true → (n : ℕ) → v ≡ passedBy r n → MayPass r n
+  few {at} {v} q c n e = go r e
+    where
+      go : (w : Found) → v ≡ passedBy w n → MayPass w n
+      go (found.At place looked) f = tt
+      go (found.Refused number place count) f =
+          let m = count-few q f in
+          let i = q .judged .inside in
+          let k = call-small dim s c in
+          omega arith
+
+  module _ {p k : ℕ} (e : reached.End p k ≡ reachedOf dim (words s) here (length s / 2) (length s / 2) true) where
+    pub end-may : MayPass r k
+    end-may = few (searched-arrived _ e .0 .1) call k refl
+
+    pub end-answer : {v : Found} → v ≡ passedBy r k → v ≡ searchOf dim s a b
+    end-answer q = q ∙ searched-done (searched-arrived _ e .0 .1) call (searched-arrived _ e .1)
+
+  module _ {start end k : ℕ} (e : reached.Element start end k ≡ reachedOf dim (words s) here (length s / 2) (length s / 2) true) where
+    pub header-may : MayPass r k
+    header-may = few (searched-arrived _ e .3 .0 .1) call k refl
+
+    pub header-less : length s / 2 - end < length s / 2 - here
+    header-less =
+        let x = searched-arrived _ e .3 in
+        let w = searched-less (x .0 .1) (x .1) (x .2) in
+        let i = x .0 .0 in
+        omega arith
+
+    module _ {v : Found} (q : v ≡ passedBy r k) where
+      at-stays : {place looked : ℕ} → (w : Found) → v ≡ passedBy w k → v ≡ found.At place looked → passedBy w k ≡ w
+      at-stays (found.At p n) f g = refl
+      at-stays (found.Refused m p n) f g = let z : _≡_ {A = ℕ} 0 1 = cc in absurd (omega arith)
+
+      pub header-hit : {place looked : ℕ} → v ≡ found.At place looked → Searched dim s a b end r
+      header-hit h =
+          let x = searched-arrived _ e .3 in
+          subst (λ w. Searched dim s a b end w) (at-stays r q h) (searched-hit (x .0 .1) (x .1) (x .2) (sym q ∙ h))
+
+      module _ {number place count : ℕ} (h : v ≡ found.Refused number place count) where
+        pub header-look : MayLook s count start end
+        header-look = let x = searched-arrived _ e .3 in may-look (x .0 .1) (x .1) (x .2) (sym q ∙ h)
+
+        pub header-more : (w : Found) → FirstFrom (words s) a b count start end w → Searched dim s a b end w
+        header-more w f = let x = searched-arrived _ e .3 in searched-more (x .0 .1) (x .1) (x .2) (sym q ∙ h) w f
 
 ---- by the text
 

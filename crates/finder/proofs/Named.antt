@@ -35,17 +35,38 @@ or-false true = refl
 or-false false = refl
 
 module _ (ws : List ℕ) (at a b : ℕ) where
-  pub name-one : typeAt ws at ≡ 1 → (eqb (wordAt ws (at + 16)) a && eqb (wordAt ws (at + 16 + 1)) b) ≡ hasName ws at a b
+  -- by the test of each type
+  pub name-one : {t : Bool} → t ≡ (eqb (typeAt ws at) 1 && (eqb (wordAt ws (at + 16)) a && eqb (wordAt ws (at + 16 + 1)) b)) → t ≡ true → true ≡ hasName ws at a b
   unfolding hasName
-  name-one e = let n : at + 16 + 1 ≡ at + 17 = omega arith in rw (n, e) (sym (or-false (eqb (wordAt ws (at + 16)) a && eqb (wordAt ws (at + 17)) b)))
+  name-one e q = let n : at + 16 + 1 ≡ at + 17 = omega arith in rw (sym (rw n at e) ∙ q) refl
 
-  pub name-two : typeAt ws at ≡ 2 → (eqb (wordAt ws (at + 19)) a && eqb (wordAt ws (at + 19 + 1)) b) ≡ hasName ws at a b
+  pub name-two : {t r : Bool} → t ≡ (eqb (typeAt ws at) 1 && (eqb (wordAt ws (at + 16)) a && eqb (wordAt ws (at + 16 + 1)) b)) → t ≡ false →
+      r ≡ (eqb (typeAt ws at) 2 && (eqb (wordAt ws (at + 19)) a && eqb (wordAt ws (at + 19 + 1)) b)) → r ≡ hasName ws at a b
   unfolding hasName
-  name-two e = let n : at + 19 + 1 ≡ at + 20 = omega arith in rw (n, e) refl
+  name-two e q f =
+      let n : at + 16 + 1 ≡ at + 17 = omega arith in
+      let m : at + 19 + 1 ≡ at + 20 = omega arith in
+      rw (sym (rw n at e) ∙ q) (rw m at f)
 
   pub name-none : (typeAt ws at ≡ 1 → ⊥) → (typeAt ws at ≡ 2 → ⊥) → false ≡ hasName ws at a b
   unfolding hasName
   name-none p q = rw (ne-eqb (typeAt ws at) 1 p, ne-eqb (typeAt ws at) 2 q) refl
+
+-- the words asked before the type
+module _ (ws : List ℕ) (at t k a b : ℕ) {w : Bool} (e : w ≡ (eqb (wordAt ws (at + k)) a && eqb (wordAt ws (at + k + 1)) b)) where
+  and-yes : (x : Bool) → x ≡ (x && true)
+  and-yes true = refl
+  and-yes false = refl
+
+  and-no : (x : Bool) → false ≡ (x && false)
+  and-no true = refl
+  and-no false = refl
+
+  pub words-first : {n : ℕ} {r : Bool} → w ≡ true → n ≡ typeAt ws at → r ≡ eqb n t → r ≡ (eqb (typeAt ws at) t && (eqb (wordAt ws (at + k)) a && eqb (wordAt ws (at + k + 1)) b))
+  words-first q o f = rw (sym e ∙ q, sym o) (f ∙ and-yes _)
+
+  pub words-fail : w ≡ false → false ≡ (eqb (typeAt ws at) t && (eqb (wordAt ws (at + k)) a && eqb (wordAt ws (at + k + 1)) b))
+  words-fail q = rw (sym e ∙ q) (and-no (eqb (typeAt ws at) t))
 
 ---- the first of a list that has the name
 

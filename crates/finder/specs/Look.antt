@@ -1,14 +1,12 @@
 -- A look at the elements of a part of a file, one after another.
-use Prim.Native.Nat.{ℕ, _+_, _≤_, _<_}
+use Prim.Native.Nat.{ℕ, _+_, _≤_, _<_, _^_}
 use mathlib.Core.Path.{_≡_}
-use mathlib.Core.Bool.{false}
 use mathlib.Core.List.{List, [], _∷_}
 use lib.ListN.{length}
-use Rattle.words.specs.Words.{words}
-use Rattle.elements.specs.Header.{typeAt, sizeAt}
-use Rattle.elements.specs.Kinds.{isHeader}
+use Rattle.elements.specs.Header.{sizeAt}
 use Rattle.files.specs.Spots.{Spot}
 use Rattle.finder.specs.declared.Found.{Found}
+use Rattle.finder.specs.declared.Found.the-variants as found
 use Rattle.finder.specs.Finder.{firstNamed}
 
 -- elements one after another, the first at `at`, the own words of the last ending at `end`
@@ -20,10 +18,15 @@ InOrder ws at (x ∷ xs) end = (x .place ≡ at) × InOrder ws (at + sizeAt ws a
 abbrev pub MayLook : List ℕ → ℕ → ℕ → ℕ → Type 0
 MayLook s n at end = (n ≤ at) × (end < length s)
 
--- and it is the extent of one element: that of an element which is no header ends with its own words
-pub record OneExtent (s : List ℕ) (n at end : ℕ) : Type 0 where
-  pub may : MayLook s n at end
-  pub plain : isHeader (typeAt (words s) at) ≡ false → at + sizeAt (words s) at ≡ end
+-- an answer with n elements after it that have no name
+abbrev pub passedBy : Found → ℕ → Found
+passedBy (found.At place looked) n = found.At place looked
+passedBy (found.Refused number place count) n = found.Refused number place (count + n)
+
+-- their count is a number of 64 bits
+abbrev pub MayPass : Found → ℕ → Type 0
+MayPass (found.At place looked) n = Unit {0}
+MayPass (found.Refused number place count) n = count + n < 2 ^ 64
 
 -- r is what the elements of the part answer, after n others
 abbrev pub FirstFrom : List ℕ → ℕ → ℕ → ℕ → ℕ → ℕ → Found → Type 0

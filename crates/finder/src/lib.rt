@@ -6,9 +6,9 @@ ghost use mathlib.Core.Bool.{_&&_};
 ghost use lib.ListN.{length};
 ghost use lib.Dec.{eqb};
 ghost use Rattle.words.specs.Words.{words, wordAt};
-ghost use Rattle.elements.specs.Header.{extentAt};
+ghost use Rattle.elements.specs.Header.{typeAt, extentAt};
 ghost use Rattle.finder.specs.Finder.{hasName, searchOf, findOf};
-ghost use Rattle.finder.specs.Look.{MayLook, OneExtent, FirstFrom};
+ghost use Rattle.finder.specs.Look.{MayLook, MayPass, passedBy, FirstFrom};
 ghost use Rattle.finder.specs.Walk.{closedTo, opens, nextOf, walkStart};
 
 // The first cell with a name: its place and how many elements were looked at, itself counted; or the refusal, 13 with
@@ -43,19 +43,27 @@ fn has_words(s: &[u8], at: usize, first: usize, second: usize) -> bool
     false
 }
 
+// Whether the element at a place is of a type and has the name of two words from its word k on. The words are asked first:
+// they are seldom those of the name, while types alternate.
+fn is_named(s: &[u8], at: usize, t: usize, k: usize, first: usize, second: usize) -> bool
+    requires { ⌜ (at < length (now s)) × (k < 20) ⌝ }
+    ensures { λ r. ⌜ r ≡ (eqb (typeAt (words (now (s .entry))) at) t && (eqb (wordAt (words (now (s .entry))) (at + k)) first && eqb (wordAt (words (now (s .entry))) (at + k + 1)) second)) ⌝ }
+{
+    if has_words(s, at + k, first, second) {
+        return elements::type_at(s, at) == t;
+    }
+    false
+}
+
 // Whether the element at a place is a type 1 or 2 with the name of two words.
 fn has_name(s: &[u8], at: usize, first: usize, second: usize) -> bool
     requires { ⌜ at < length (now s) ⌝ }
     ensures { λ r. ⌜ r ≡ hasName (words (now (s .entry))) at first second ⌝ }
 {
-    let t = elements::type_at(s, at);
-    if t == 1 {
-        return has_words(s, at + 16, first, second);
+    if is_named(s, at, 1, 16, first, second) {
+        return true;
     }
-    if t == 2 {
-        return has_words(s, at + 19, first, second);
-    }
-    false
+    is_named(s, at, 2, 19, first, second)
 }
 
 // A refusal of the file or of the text.
@@ -95,30 +103,27 @@ fn look(file: &[u8], from: usize, to: usize, before: usize, first: usize, second
     }
 }
 
-// The same for the extent of one element at the top. Only headers have names, so another element is counted alone.
-fn look_through(
-    file: &[u8],
-    from: usize,
-    to: usize,
-    before: usize,
-    first: usize,
-    second: usize,
-) -> Found
-    requires { ⌜ OneExtent (now file) before from to ⌝ }
-    ensures { λ r. ⌜ FirstFrom (words (now (file .entry))) first second before from to r ⌝ }
+// An answer with so many elements after it that have no name.
+fn past(answer: Found, n: usize) -> Found
+    requires { ⌜ MayPass answer n ⌝ }
+    ensures { λ r. ⌜ r ≡ passedBy answer n ⌝ }
 {
-    if elements::is_header(elements::type_at(file, from)) {
-        return look(file, from, to, before, first, second);
-    }
-    Found::Refused {
-        number: 13,
-        place: 0,
-        count: before + 1,
+    match answer {
+        Found::At { place, looked } => Found::At { place, looked },
+        Found::Refused {
+            number,
+            place,
+            count,
+        } => Found::Refused {
+            number,
+            place,
+            count: count + n,
+        },
     }
 }
 
-// The first cell in file order with the name of two words. The elements at the top are judged one after another, and each
-// good one is looked through with its extent.
+// The first cell in file order with the name of two words. The elements at the top are judged up to each header, which is
+// looked through with its extent; those before it have no name and are counted alone.
 fn search(file: &[u8], dim: usize, first: usize, second: usize) -> Found
     ensures { λ r. ⌜ r ≡ searchOf dim (now (file .entry)) first second ⌝ }
 {
@@ -129,32 +134,28 @@ fn search(file: &[u8], dim: usize, first: usize, second: usize) -> Found
     let mut here = 0;
     let mut answer = refused(13, 0);
     loop {
-        match files::stop_at(file, here, bound, 0) {
-            files::Stop::Done => return answer,
-            files::Stop::Lacking => return refused(2, here),
-            files::Stop::More => match files::element(file, here, bound, 0, 0, dim) {
-                files::Verdict::Fault { number, place } => return refused(number, place),
-                files::Verdict::Good {
-                    next,
-                    elements: _,
-                    deepest: _,
-                    direct: _,
-                } => match answer {
-                    Found::At {
-                        place: _,
-                        looked: _,
-                    } => {
-                        here = next;
-                    }
-                    Found::Refused {
-                        number: _,
-                        place: _,
-                        count,
-                    } => {
-                        answer = look_through(file, here, next, count, first, second);
-                        here = next;
-                    }
-                },
+        match files::reach(file, here, bound, dim, bound, true) {
+            files::Reached::Fault { number, place } => return refused(number, place),
+            files::Reached::End { place: _, before } => return past(answer, before),
+            files::Reached::Element {
+                start: header,
+                end,
+                before,
+            } => match past(answer, before) {
+                Found::At {
+                    place: _,
+                    looked: _,
+                } => {
+                    here = end;
+                }
+                Found::Refused {
+                    number: _,
+                    place: _,
+                    count,
+                } => {
+                    answer = look(file, header, end, count, first, second);
+                    here = end;
+                }
             },
         }
     }

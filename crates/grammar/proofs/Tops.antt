@@ -1,8 +1,8 @@
 -- Judging the elements at the top one after another, each by elementOf, gives what judging the file gives. elementOf has
 -- its own number for elementFrom; every number that is enough gives the same.
 use Prim.Native.Nat.{ℕ, zero, suc, _+_, _-_, _*_, _/_, _≤_, _<_}
-use mathlib.Core.Path.{_≡_, refl, sym, ap, _∙_}
-use mathlib.Core.Bool.{true}
+use mathlib.Core.Path.{_≡_, refl, sym, ap, _∙_, subst}
+use mathlib.Core.Bool.{Bool, true, false}
 use mathlib.Core.List.{List}
 use native.Mathlib.Omega.{arith}
 use lib.ListN.{length}
@@ -13,13 +13,16 @@ use Rattle.elements.specs.Rules.{headOf}
 use Rattle.elements.specs.declared.Head.{Head}
 use Rattle.elements.specs.declared.Head.the-variants.{Bad, Plain, Complex}
 use Rattle.files.specs.Judge.{stopOf, addTo, andThen, enclose, elementBy, listBy, elementFrom, listFrom, elementOf, callOk, judgeOf}
-use Rattle.files.specs.Cycle.{IsElement}
+use Rattle.files.specs.Progress.{IsElement, Passed, stopsAfter}
+use Rattle.files.specs.Reach.{reachedIf, reachedBy, reachedFrom, reachedOf}
+use Rattle.files.specs.declared.Reached.{Reached}
+use Rattle.files.specs.declared.Reached.the-variants as reached
 use Rattle.files.specs.declared.Stop.{Stop}
 use Rattle.files.specs.declared.Stop.the-variants.{More, Done, Lacking}
 use Rattle.files.specs.declared.Verdict.{Verdict}
 use Rattle.files.specs.declared.Verdict.the-variants.{Good, Fault}
 use Rattle.files.specs.declared.Judged.the-variants.{Accepted, Refused}
-use Rattle.files.proofs.Laws.{Passed, passed-none, passed-done, passed-lacking, passed-refused, passed-more, judge-top, stop-more}
+use Rattle.files.proofs.Laws.{passed-none, passed-done, passed-lacking, passed-refused, passed-more, judge-top, stop-more}
 use Rattle.grammar.proofs.Rules.{complex-read, checked-extent, own-two}
 use Rattle.grammar.proofs.Sound.{ElementRead, element-sound}
 
@@ -137,3 +140,42 @@ module _ {dim : ℕ} {s : List ℕ} {here : ℕ} (j : Judged dim s here) where
         passed =
             passed-more _ _ _ _ _ _ _ _ _ _ (j .passed) next e d k more (element-is dim (words s) 0 0 here (length s / 2) (Good next e d k) bound-in good) judged-on;
       }
+
+---- what is reached from a place at the top
+
+module _ (dim : ℕ) (s : List ℕ) (until : ℕ) (each : Bool) (Q : ℕ → ℕ → Type 0) where
+  -- Q holds, with the number of elements passed, where judging came to
+  abbrev pub Arrived : Reached → Type 0
+  Arrived (reached.Element a b k) =
+      (e d j : ℕ) × (Q k a × (stopOf 0 (words s) a (length s / 2) ≡ More) × (Good b e d j ≡ elementOf dim 0 0 (words s) a (length s / 2)) × (stopsAfter (words s) until each a b ≡ true))
+  Arrived (reached.End a k) = Q k a × (stopOf 0 (words s) a (length s / 2) ≡ Done)
+  Arrived (reached.Fault n p) = judgeOf dim s ≡ Refused n p
+
+  module _ (call : callOk dim s ≡ true) (judged : (k a : ℕ) → Q k a → Judged dim s a)
+      (step : (k a next e d j : ℕ) → Q k a → stopOf 0 (words s) a (length s / 2) ≡ More → Good next e d j ≡ elementOf dim 0 0 (words s) a (length s / 2) →
+      stopsAfter (words s) until each a next ≡ false → Q (k + 1) next) where
+    -- one element further, by what the rest comes to
+    module _ (k a : ℕ) (q : Q k a) (rest : ℕ → Reached) (then : (next : ℕ) → a < next → next ≤ length s / 2 → Q (k + 1) next → Arrived (rest next)) where
+      arrive-if : (next e d j : ℕ) → stopOf 0 (words s) a (length s / 2) ≡ More → Good next e d j ≡ elementOf dim 0 0 (words s) a (length s / 2) →
+          (b : Bool) → stopsAfter (words s) until each a next ≡ b → Arrived (reachedIf b a next k (rest next))
+      arrive-if next e d j h g true t = (e, d, j, (q, h, g, t))
+      arrive-if next e d j h g false t =
+          then next (judged-on (judged k a q) h g) (judged-read (judged k a q) h g .within) (step k a next e d j q h g t)
+
+      arrive-by : (h : Stop) → stopOf 0 (words s) a (length s / 2) ≡ h → (v : Verdict) → elementOf dim 0 0 (words s) a (length s / 2) ≡ v →
+          Arrived (reachedBy h v a k (λ next. stopsAfter (words s) until each a next) rest)
+      arrive-by Done h v e = (q, h)
+      arrive-by Lacking h v e = judged-lacking (judged k a q) call h
+      arrive-by More h (Fault m p) e = judged-fault (judged k a q) h m p call (sym e)
+      arrive-by More h (Good next e d j) g = arrive-if next e d j h (sym g) (stopsAfter (words s) until each a next) refl
+
+    arrive : (n k a : ℕ) → length s / 2 - a < n → Q k a → Arrived (reachedFrom n dim (words s) until each k a (length s / 2))
+    unfolding reachedFrom
+    arrive zero k a l q = absurd (omega arith)
+    arrive (suc n) k a l q =
+        arrive-by k a q (λ next. reachedFrom n dim (words s) until each (k + 1) next (length s / 2)) (λ next o w z. arrive n (k + 1) next (omega arith) z)
+        (stopOf 0 (words s) a (length s / 2)) refl (elementOf dim 0 0 (words s) a (length s / 2)) refl
+
+    pub arrived : (at : ℕ) (r : Reached) → Q 0 at → r ≡ reachedOf dim (words s) at (length s / 2) until each → Arrived r
+    unfolding reachedOf
+    arrived at r q e = subst Arrived (sym e) (arrive (suc (length s / 2 - at)) 0 at (omega arith) q)

@@ -1,14 +1,37 @@
--- `element` answers `elementOf`: the inner contract at its number.
-use Rattle.files.proofs.Laws.{element-of}
+use Rattle.files.proofs.Reaching.{stopped-element, halted-element, broken-element}
 use borrow.Author.Needs.{needs}
 use Rattle.files.proofs.element.Statement.{statement}
 use Rattle.files.proofs.element.Tie as tie
 
-judge-element-requires : tie.Need-judge-element-requires
-judge-element-requires c κs = search needs
+judge-on-requires : tie.Need-judge-on-requires
+judge-on-requires c κs = search needs
+
+enum-known-next : tie.Need-enum-known-next
+enum-known-next c = search needs
+
+enum-known-number : tie.Need-enum-known-number
+enum-known-number c = search needs
+
+enum-known-number-2 : tie.Need-enum-known-number-2
+enum-known-number-2 c = search needs
 
 returns : tie.Need-returns
-returns c = element-of _ _ _ _ _ _ _ (c .judge-element .ensures .is)
+returns c = stopped-element (rw ((c .before .next .given .1)) at ((c .before .before .before .judge-on .ensures)))
+
+returns-2 : tie.Need-returns-2
+returns-2 c = halted-element (rw ((c .before .number .given .1)) at ((c .before .before .before .judge-on .ensures)))
+
+returns-3 : tie.Need-returns-3
+returns-3 c = broken-element (rw ((c .before .number2 .given .1)) at ((c .before .before .before .judge-on .ensures)))
 
 pub element-spec : {M : Type 1} → statement M
-element-spec = tie.close (tie.spec judge-element-requires returns)
+element-spec =
+    tie.close
+    (tie.spec
+    judge-on-requires
+    enum-known-next
+    enum-known-number
+    enum-known-number-2
+    returns
+    returns-2
+    returns-3)

@@ -1,12 +1,12 @@
+use mathlib.Core.Path.{sym, _∙_}
+use borrow.Author.Tests.{not-true, not-false}
+use Rattle.files.proofs.Laws.{judge-call}
+use Rattle.finder.proofs.Looks.{Searched, searched-none, search-refused, arrived-fault, end-may, end-answer, header-may, header-less, header-hit, header-look, header-more}
 -- The loop's invariant: the elements at the top before `here` are judged, and the answer is that of all elements up to
 -- there (Looks). A refused file is answered as it is judged.
 use Prim.Native.Nat.{_-_, _/_}
-use mathlib.Core.Path.{sym, _∙_}
 use lib.ListN.{length}
 use borrow.Author.Needs.{needs}
-use borrow.Author.Tests.{not-true, not-false}
-use Rattle.files.proofs.Laws.{judge-call}
-use Rattle.finder.proofs.Looks.{Searched, searched-none, search-refused, searched-done, searched-lacking, searched-fault, searched-less, one-extent, searched-hit, searched-more}
 use Rattle.finder.proofs.search.Statement.{statement}
 use Rattle.finder.proofs.search.Tie as tie
 
@@ -23,7 +23,7 @@ refused-requires : tie.Need-refused-requires Inv-loop μ-loop
 refused-requires c κs = search needs
 
 returns : tie.Need-returns Inv-loop μ-loop
-returns c = (c .refused .ensures) ∙ search-refused _ _ _ _ 1 0 (sym (judge-call _ _ (sym ((c .before .before .call-ok .ensures)) ∙ not-true _ ((c .before .if1 .taken)))))
+returns c = ((c .refused .ensures)) ∙ search-refused _ _ _ _ 1 0 (sym (judge-call _ _ (sym ((c .before .before .call-ok .ensures)) ∙ not-true _ ((c .before .if1 .taken)))))
 
 refused-requires-2 : tie.Need-refused-requires-2 Inv-loop μ-loop
 refused-requires-2 c κs = search needs
@@ -31,62 +31,53 @@ refused-requires-2 c κs = search needs
 loop-holds : tie.Need-loop-holds Inv-loop μ-loop
 loop-holds c = searched-none ((c .refused2 .ensures))
 
-stop-at-requires : tie.Need-stop-at-requires Inv-loop μ-loop
-stop-at-requires c κs = search needs
-
-enum-told : tie.Need-enum-told Inv-loop μ-loop
-enum-told c = search needs
-
-returns-2 : tie.Need-returns-2 Inv-loop μ-loop
-returns-2 c = searched-done ((c .before .before .before .loop .inv)) (sym ((c .before .before .before .before .before .before .call-ok .ensures)) ∙ not-false _ ((c .before .before .before .before .before .if1 .left))) (sym ((c .before .before .stop-at .ensures)) ∙ (c .enum-told .given .1))
-
-enum-told-2 : tie.Need-enum-told-2 Inv-loop μ-loop
-enum-told-2 c = search needs
-
-refused-requires-3 : tie.Need-refused-requires-3 Inv-loop μ-loop
-refused-requires-3 c κs = search needs
-
-returns-3 : tie.Need-returns-3 Inv-loop μ-loop
-returns-3 c = (c .refused3 .ensures) ∙ searched-lacking ((c .before .before .before .before .loop .inv)) (sym ((c .before .before .before .before .before .before .before .call-ok .ensures)) ∙ not-false _ ((c .before .before .before .before .before .before .if1 .left))) (sym ((c .before .before .before .stop-at .ensures)) ∙ (c .before .enum-told2 .given .1))
-
-enum-told-3 : tie.Need-enum-told-3 Inv-loop μ-loop
-enum-told-3 c = search needs
-
-element-requires : tie.Need-element-requires Inv-loop μ-loop
-element-requires c κs = search needs
+reach-requires : tie.Need-reach-requires Inv-loop μ-loop
+reach-requires c κs = search needs
 
 enum-known-number : tie.Need-enum-known-number Inv-loop μ-loop
 enum-known-number c = search needs
 
-refused-requires-4 : tie.Need-refused-requires-4 Inv-loop μ-loop
-refused-requires-4 c κs = search needs
+refused-requires-3 : tie.Need-refused-requires-3 Inv-loop μ-loop
+refused-requires-3 c κs = search needs
 
-returns-4 : tie.Need-returns-4 Inv-loop μ-loop
-returns-4 c = (c .refused4 .ensures) ∙ searched-fault ((c .before .before .before .before .before .before .before .before .loop .inv)) (sym ((c .before .before .before .before .before .before .before .before .before .before .before .call-ok .ensures)) ∙ not-false _ ((c .before .before .before .before .before .before .before .before .before .before .if1 .left))) _ _ (sym ((c .before .before .before .before .before .before .before .stop-at .ensures)) ∙ (c .before .before .before .before .before .enum-told3 .given .1)) (sym ((c .before .before .number .given .1)) ∙ (c .before .before .before .before .element .ensures))
+returns-2 : tie.Need-returns-2 Inv-loop μ-loop
+returns-2 c = ((c .refused3 .ensures)) ∙ arrived-fault ((c .before .before .before .before .before .loop .inv)) (sym ((c .before .before .before .before .before .before .before .before .call-ok .ensures)) ∙ not-false _ ((c .before .before .before .before .before .before .before .if1 .left))) (sym ((c .before .before .number .given .1)) ∙ ((c .before .before .before .before .reach .ensures)))
 
-enum-known-next : tie.Need-enum-known-next Inv-loop μ-loop
-enum-known-next c = search needs
+enum-known-before : tie.Need-enum-known-before Inv-loop μ-loop
+enum-known-before c = search needs
 
-enum-told-4 : tie.Need-enum-told-4 Inv-loop μ-loop
-enum-told-4 c = search needs
+past-requires : tie.Need-past-requires Inv-loop μ-loop
+past-requires c κs = end-may ((c .before .before .before .before .loop .inv)) (sym ((c .before .before .before .before .before .before .before .call-ok .ensures)) ∙ not-false _ ((c .before .before .before .before .before .before .if1 .left))) (sym ((c .before .before2 .given .1)) ∙ ((c .before .before .before .reach .ensures)))
+
+returns-3 : tie.Need-returns-3 Inv-loop μ-loop
+returns-3 c = end-answer ((c .before .before .before .before .before .loop .inv)) (sym ((c .before .before .before .before .before .before .before .before .call-ok .ensures)) ∙ not-false _ ((c .before .before .before .before .before .before .before .if1 .left))) (sym ((c .before .before .before2 .given .1)) ∙ ((c .before .before .before .before .reach .ensures))) ((c .past .ensures))
+
+enum-known-header : tie.Need-enum-known-header Inv-loop μ-loop
+enum-known-header c = search needs
+
+past-requires-2 : tie.Need-past-requires-2 Inv-loop μ-loop
+past-requires-2 c κs = header-may ((c .before .before .before .before .loop .inv)) (sym ((c .before .before .before .before .before .before .before .call-ok .ensures)) ∙ not-false _ ((c .before .before .before .before .before .before .if1 .left))) (sym ((c .before .header .given .1)) ∙ ((c .before .before .before .reach .ensures)))
+
+enum-told : tie.Need-enum-told Inv-loop μ-loop
+enum-told c = search needs
 
 loop-less : tie.Need-loop-less Inv-loop μ-loop
-loop-less c = searched-less ((c .before .before .before .before .before .before .before .before .before .loop .inv)) (sym ((c .before .before .before .before .before .before .before .before .stop-at .ensures)) ∙ (c .before .before .before .before .before .before .enum-told3 .given .1)) (sym ((c .before .before .before .next .given .1)) ∙ (c .before .before .before .before .before .element .ensures))
+loop-less c = header-less ((c .before .before .before .before .before .before .before .loop .inv)) (sym ((c .before .before .before .before .before .before .before .before .before .before .call-ok .ensures)) ∙ not-false _ ((c .before .before .before .before .before .before .before .before .before .if1 .left))) (sym ((c .before .before .before .before .header .given .1)) ∙ ((c .before .before .before .before .before .before .reach .ensures)))
 
 loop-again : tie.Need-loop-again Inv-loop μ-loop
-loop-again c = searched-hit ((c .before .before .before .before .before .before .before .before .before .loop .inv)) (sym ((c .before .before .before .before .before .before .before .before .stop-at .ensures)) ∙ (c .before .before .before .before .before .before .enum-told3 .given .1)) (sym ((c .before .before .before .next .given .1)) ∙ (c .before .before .before .before .before .element .ensures)) ((c .enum-told4 .given .1))
+loop-again c = header-hit ((c .before .before .before .before .before .before .before .loop .inv)) (sym ((c .before .before .before .before .before .before .before .before .before .before .call-ok .ensures)) ∙ not-false _ ((c .before .before .before .before .before .before .before .before .before .if1 .left))) (sym ((c .before .before .before .before .header .given .1)) ∙ ((c .before .before .before .before .before .before .reach .ensures))) ((c .before .before .past2 .ensures)) ((c .enum-told .given .1))
 
-enum-known-answer : tie.Need-enum-known-answer Inv-loop μ-loop
-enum-known-answer c = search needs
+enum-known-count : tie.Need-enum-known-count Inv-loop μ-loop
+enum-known-count c = search needs
 
-look-through-requires : tie.Need-look-through-requires Inv-loop μ-loop
-look-through-requires c κs = one-extent ((c .before .before .before .before .before .before .before .before .before .before .loop .inv)) (sym ((c .before .before .before .before .before .before .before .before .before .stop-at .ensures)) ∙ (c .before .before .before .before .before .before .before .enum-told3 .given .1)) (sym ((c .before .before .before .before .next .given .1)) ∙ (c .before .before .before .before .before .before .element .ensures)) ((c .before .answer .given .1))
+look-requires : tie.Need-look-requires Inv-loop μ-loop
+look-requires c κs = header-look ((c .before .before .before .before .before .before .before .before .loop .inv)) (sym ((c .before .before .before .before .before .before .before .before .before .before .before .call-ok .ensures)) ∙ not-false _ ((c .before .before .before .before .before .before .before .before .before .before .if1 .left))) (sym ((c .before .before .before .before .before .header .given .1)) ∙ ((c .before .before .before .before .before .before .before .reach .ensures))) ((c .before .before .before .past2 .ensures)) ((c .before .count .given .1))
 
 loop-less-2 : tie.Need-loop-less-2 Inv-loop μ-loop
-loop-less-2 c = searched-less ((c .before .before .before .before .before .before .before .before .before .before .before .loop .inv)) (sym ((c .before .before .before .before .before .before .before .before .before .before .stop-at .ensures)) ∙ (c .before .before .before .before .before .before .before .before .enum-told3 .given .1)) (sym ((c .before .before .before .before .before .next .given .1)) ∙ (c .before .before .before .before .before .before .before .element .ensures))
+loop-less-2 c = header-less ((c .before .before .before .before .before .before .before .before .before .loop .inv)) (sym ((c .before .before .before .before .before .before .before .before .before .before .before .before .call-ok .ensures)) ∙ not-false _ ((c .before .before .before .before .before .before .before .before .before .before .before .if1 .left))) (sym ((c .before .before .before .before .before .before .header .given .1)) ∙ ((c .before .before .before .before .before .before .before .before .reach .ensures)))
 
 loop-again-2 : tie.Need-loop-again-2 Inv-loop μ-loop
-loop-again-2 c = searched-more ((c .before .before .before .before .before .before .before .before .before .before .before .loop .inv)) (sym ((c .before .before .before .before .before .before .before .before .before .before .stop-at .ensures)) ∙ (c .before .before .before .before .before .before .before .before .enum-told3 .given .1)) (sym ((c .before .before .before .before .before .next .given .1)) ∙ (c .before .before .before .before .before .before .before .element .ensures)) ((c .before .before .answer .given .1)) _ ((c .look-through .ensures))
+loop-again-2 c = header-more ((c .before .before .before .before .before .before .before .before .before .loop .inv)) (sym ((c .before .before .before .before .before .before .before .before .before .before .before .before .call-ok .ensures)) ∙ not-false _ ((c .before .before .before .before .before .before .before .before .before .before .before .if1 .left))) (sym ((c .before .before .before .before .before .before .header .given .1)) ∙ ((c .before .before .before .before .before .before .before .before .reach .ensures))) ((c .before .before .before .before .past2 .ensures)) ((c .before .before .count .given .1)) _ ((c .look .ensures))
 
 pub search-spec : {M : Type 1} → statement M
 search-spec =
@@ -99,22 +90,19 @@ search-spec =
     returns
     refused-requires-2
     loop-holds
-    stop-at-requires
-    enum-told
-    returns-2
-    enum-told-2
-    refused-requires-3
-    returns-3
-    enum-told-3
-    element-requires
+    reach-requires
     enum-known-number
-    refused-requires-4
-    returns-4
-    enum-known-next
-    enum-told-4
+    refused-requires-3
+    returns-2
+    enum-known-before
+    past-requires
+    returns-3
+    enum-known-header
+    past-requires-2
+    enum-told
     loop-less
     loop-again
-    enum-known-answer
-    look-through-requires
+    enum-known-count
+    look-requires
     loop-less-2
     loop-again-2)

@@ -1,0 +1,177 @@
+-- Each way on and out of judge_on keeps its contract, by the laws of judging.
+use Prim.Native.Nat.{ℕ, zero, suc, _+_, _-_, _≤_, _<_, max}
+use mathlib.Core.Path.{_≡_, refl, sym, ap, _∙_, subst}
+use mathlib.Core.Bool.{Bool, true, false, cond, _&&_, _||_, false≢true}
+use mathlib.Core.List.{List}
+use native.Mathlib.Omega.{arith}
+use lib.Dec.{eqb, ltb}
+use borrow.Author.Tests.{leb-true, eqb-true, ne-eqb, lt-ltb, le-ltb}
+use Rattle.words.specs.Words.{words, wordAt}
+use Rattle.elements.specs.Header.{typeAt}
+use Rattle.elements.specs.Kinds.{isHeader}
+use Rattle.elements.specs.Rules.{reservedOk, headOf, countOk, HeadRead}
+use Rattle.elements.specs.declared.Head.{Head}
+use Rattle.elements.specs.declared.Head.the-variants.{Bad, Plain, Complex}
+use Rattle.elements.proofs.Laws.{Checked, head-means}
+use Rattle.files.specs.declared.Stop.the-variants.{More, Done}
+use Rattle.files.specs.declared.Verdict.{Verdict}
+use Rattle.files.specs.declared.Verdict.the-variants.{Good, Fault}
+use Rattle.files.specs.declared.Progress.the-variants.{Stopped, Halted, Broken}
+use Rattle.files.specs.Judge.{stopOf}
+use Rattle.files.specs.Progress.{IsElement, ListJudged, GoodAt, stopsAfter, Steps, depthOf, Gone, Progressed}
+use Rattle.files.proofs.Laws.{passed-none, passed-more, element-plain, element-complex, element-counted, element-miscounted}
+
+---- what stands at an element's head
+
+not-marker : (w : ℕ) → reservedOk w ≡ true → (b : Bool) → eqb w 65535 ≡ b → b ≡ false
+unfolding reservedOk
+not-marker w h false e = refl
+not-marker w h true e = absurd (false≢true (subst (λ (v : ℕ). reservedOk v ≡ true) (eqb-true w 65535 e) h))
+
+no-and : (b : Bool) → (b && false) ≡ false
+no-and true = refl
+no-and false = refl
+
+-- neither the marker nor the bound is where an element's head is good
+pub stop-head : (dim depth under : ℕ) (ws : List ℕ) (at bound : ℕ) → Checked dim depth under ws at bound → stopOf depth ws at bound ≡ More
+unfolding stopOf
+stop-head dim depth under ws at bound c =
+    let two = leb-true 2 (bound - at) (c .two) in
+    rw (lt-ltb at bound (omega arith), not-marker (wordAt ws at) (c .reserved) (eqb (wordAt ws at) 65535) refl, no-and (eqb depth 0)) refl
+
+module _ {dim depth under : ℕ} {s : List ℕ} {at bound : ℕ} {h : Head} (head : HeadRead dim depth under s at bound h) where
+  pub head-plain : {next : ℕ} → h ≡ Plain next → isHeader (typeAt (words s) at) ≡ false
+  head-plain e = head-means dim depth under (words s) at bound _ (sym (head .is) ∙ e) .1 .0
+
+  pub head-complex : {inner end : ℕ} → h ≡ Complex inner end → isHeader (typeAt (words s) at) ≡ true
+  head-complex e = head-means dim depth under (words s) at bound _ (sym (head .is) ∙ e) .1 .0
+
+  pub good-plain : {next : ℕ} → h ≡ Plain next → GoodAt dim depth under (words s) bound at next 1 depth
+  good-plain e =
+      let w = rw e at (head .within) in
+      let q = sym (head .is) ∙ e in
+      record { more = stop-head _ _ _ _ _ _ (head-means dim depth under (words s) at bound _ q .0); good = element-plain _ _ _ _ _ _ _ q; on = omega arith; by = omega arith }
+
+  module _ {inner end type : ℕ} {v : Verdict} (e : h ≡ Complex inner end) (t : type ≡ typeAt (words s) at) (l : ListJudged dim (depth + 1) type s inner end v) where
+    pub more-complex : stopOf depth (words s) at bound ≡ More
+    more-complex = stop-head _ _ _ _ _ _ (head-means dim depth under (words s) at bound _ (sym (head .is) ∙ e) .0)
+
+    pub fault-beneath : {n p : ℕ} → v ≡ Fault n p → IsElement dim depth under (words s) at bound (Fault n p)
+    fault-beneath f =
+        let w = rw e at (head .within) in
+        element-complex _ _ _ _ _ _ _ _ _ (sym (head .is) ∙ e) (omega arith) (rw (f, t) at (l .is))
+
+    module _ {next elements deepest direct : ℕ} {b : Bool} (g : v ≡ Good next elements deepest direct) (o : b ≡ countOk (words s) at direct) where
+      pub good-complex : b ≡ true → GoodAt dim depth under (words s) bound at end (1 + elements) (max depth deepest)
+      good-complex y =
+          let w = rw e at (head .within) in
+          record {
+            more = more-complex;
+            good = element-counted _ _ _ _ _ _ _ _ _ _ _ _ (sym (head .is) ∙ e) (omega arith) (rw (g, t) at (l .is)) (sym o ∙ y);
+            on = omega arith;
+            by = omega arith;
+          }
+
+      pub fault-count : b ≡ false → IsElement dim depth under (words s) at bound (Fault 9 at)
+      fault-count y =
+          let w = rw e at (head .within) in
+          element-miscounted _ _ _ _ _ _ _ _ _ _ _ _ (sym (head .is) ∙ e) (omega arith) (rw (g, t) at (l .is)) (sym o ∙ y)
+
+---- whether judging stops after an element
+
+module _ (ws : List ℕ) (until : ℕ) (each : Bool) (at next : ℕ) where
+  or-no : (a b : Bool) → a ≡ false → ((each && a) || b) ≡ b
+  or-no a b e = rw (e, no-and each) refl
+
+  pub plain-stops : isHeader (typeAt ws at) ≡ false → until < next → stopsAfter ws until each at next ≡ true
+  unfolding stopsAfter
+  plain-stops h l = or-no _ _ h ∙ lt-ltb until next l
+
+  pub plain-goes : isHeader (typeAt ws at) ≡ false → next ≤ until → stopsAfter ws until each at next ≡ false
+  unfolding stopsAfter
+  plain-goes h l = or-no _ _ h ∙ le-ltb until next l
+
+  and-yes : (a : Bool) → (a && true) ≡ a
+  and-yes true = refl
+  and-yes false = refl
+
+  pub header-stops : {b c : Bool} → isHeader (typeAt ws at) ≡ true → b ≡ (each || ltb until next) → b ≡ c → stopsAfter ws until each at next ≡ c
+  unfolding stopsAfter
+  header-stops h e q = rw (h, and-yes each) (sym e ∙ q)
+
+---- the loop
+
+steps-on : (dim depth under : ℕ) (ws : List ℕ) (bound until : ℕ) (each : Bool) (k at here next e d : ℕ) → Steps dim depth under ws bound until each k at here →
+    GoodAt dim depth under ws bound here next e d → stopsAfter ws until each here next ≡ false → Steps dim depth under ws bound until each (suc k) at next
+steps-on dim depth under ws bound until each zero at here next e d s g n = (next, e, d, (subst (λ (a : ℕ). GoodAt dim depth under ws bound a next e d) (sym s) g, (subst (λ (a : ℕ). stopsAfter ws until each a next ≡ false) (sym s) n, refl)))
+steps-on dim depth under ws bound until each (suc k) at here next e d (a, e', d', (g', (n', s))) g n = (a, e', d', (g', (n', steps-on dim depth under ws bound until each k a here next e d s g n)))
+
+-- the invariant: `below` elements and the greatest depth `deepest` are those beneath the `direct` ones
+pub record Going (dim depth under : ℕ) (s : List ℕ) (at bound until : ℕ) (each : Bool) (here below deepest direct : ℕ) : Type 0 where
+  pub gone : Gone dim depth under s at bound until each here (direct + below) (depthOf direct depth deepest) direct
+  pub fresh : direct ≡ 0 → deepest ≡ 0
+
+pub going-none : {dim depth under : ℕ} {s : List ℕ} {at bound until : ℕ} {each : Bool} → Going dim depth under s at bound until each at 0 0 0
+going-none = record {
+  gone = record { inside = omega arith; words-each = omega arith; direct = omega arith; none = λ e. (refl, refl); passed = passed-none _ _ _ _ _ _; steps = refl };
+  fresh = λ e. refl;
+}
+
+-- the greatest depth with one more element, beneath which the greatest depth is d
+depth-some : (k depth below : ℕ) → depthOf (k + 1) depth below ≡ max depth below
+depth-some k depth below = rw (ne-eqb (k + 1) 0 (λ e. absurd (omega arith))) refl
+
+depth-more : (k depth deepest d : ℕ) → (k ≡ 0 → deepest ≡ 0) → max depth (max deepest d) ≡ max (depthOf k depth deepest) (max depth d)
+depth-more k depth deepest d f = go (eqb k 0) refl
+  where
+    go : (b : Bool) → eqb k 0 ≡ b → max depth (max deepest d) ≡ max (cond b 0 (max depth deepest)) (max depth d)
+    go true e = let z = f (eqb-true k 0 e) in omega arith
+    go false e = omega arith
+
+module _ {dim depth under : ℕ} {s : List ℕ} {at bound until : ℕ} {each : Bool} {here below deepest direct : ℕ}
+    (g : Going dim depth under s at bound until each here below deepest direct) where
+  pub going-halted : {d n : ℕ} {h : Head} → HeadRead dim depth under s here bound h → h ≡ Bad n → d ≡ depthOf direct depth deepest →
+      Progressed dim depth under s at bound until each (Halted n here (direct + below) d direct)
+  going-halted head e q = (rw q (g .gone), sym (head .is) ∙ e)
+
+  pub going-broken : {n p : ℕ} → stopOf depth (words s) here bound ≡ More → IsElement dim depth under (words s) here bound (Fault n p) →
+      Progressed dim depth under s at bound until each (Broken n p)
+  going-broken m f = record { here = here; elements = _; deepest = _; before = direct; gone = g .gone; more = m; fault = f }
+
+  -- one more element
+  module _ {next e d : ℕ} (o : GoodAt dim depth under (words s) bound here next e d) where
+    pub going-stopped : {n m : ℕ} → stopsAfter (words s) until each here next ≡ true → n ≡ direct + below + e → m ≡ max (depthOf direct depth deepest) d →
+        Progressed dim depth under s at bound until each (Stopped next here n m (direct + 1))
+    going-stopped h a q = record {
+      elements = _;
+      deepest = _;
+      before = direct;
+      own = _;
+      depth-own = _;
+      gone = g .gone;
+      good = o;
+      stops = h;
+      all = a;
+      deep = q;
+      counted = refl;
+    }
+
+    pub going-on : {b m : ℕ} → stopsAfter (words s) until each here next ≡ false → direct + 1 + b ≡ direct + below + e → max depth m ≡ max (depthOf direct depth deepest) d →
+        here + e ≤ next → Going dim depth under s at bound until each next b m (direct + 1)
+    going-on {b = b} {m = m} h a q w = record {
+      gone = record {
+        inside = let i = g .gone .inside in let l = o .by in omega arith;
+        words-each = let i = g .gone .words-each in omega arith;
+        direct = omega arith;
+        none = λ z. absurd (omega arith);
+        passed = rw (a, depth-some direct depth m, q) (passed-more _ _ _ _ _ _ _ _ _ _ (g .gone .passed) _ _ _ _ (o .more) (o .good) (o .on));
+        steps = let z : suc direct ≡ direct + 1 = omega arith in subst (λ (m : ℕ). Steps dim depth under (words s) bound until each m at next) z (steps-on _ _ _ _ _ _ _ direct at here next _ _ (g .gone .steps) o h);
+      };
+      fresh = λ z. absurd (omega arith);
+    }
+
+  pub depth-plain : {m : ℕ} → m ≡ max depth deepest → m ≡ max (depthOf direct depth deepest) depth
+  depth-plain q = let w = depth-more direct depth deepest 0 (g .fresh) in omega arith
+
+  pub depth-complex : {m : ℕ} (d : ℕ) → m ≡ max deepest d → max depth m ≡ max (depthOf direct depth deepest) (max depth d)
+  depth-complex d q = let w = depth-more direct depth deepest d (g .fresh) in omega arith
