@@ -15,12 +15,13 @@ use Rattle.names.specs.Names.{packed}
 use Rattle.names.specs.declared.Packed.the-variants as name
 use Rattle.files.specs.Spots.{spotsOf}
 use Rattle.reading.specs.declared.Above.{Above}
+use Rattle.reading.specs.declared.Spotted.{Spotted}
 use Rattle.reading.specs.declared.Spotted.the-variants.{At, Refused as Nowhere}
 use Rattle.reading.specs.Descent.{locateOf}
 use Rattle.edits.specs.declared.Edited.{Edited}
 use Rattle.edits.specs.declared.Edited.the-variants.{Made, Refused}
 use Rattle.edits.specs.Edits.{Edit, mark, rename, insert, remove, namePlace}
-use Rattle.edits.specs.Allowed.{Fault?, fine, fault, renameFault, editFault}
+use Rattle.edits.specs.Allowed.{Fault?, fine, fault, unless, renameFault, editFault}
 use Rattle.edits.specs.Records.{flag, recordOf}
 use Rattle.edits.specs.Calls.{Session, Call, mark-call, rename-call, insert-call, remove-call, usedWords, sessionFault, bufferOk}
 use Rattle.edits.proofs.Accepted.{Carried, Sound, SmallHeader, Small}
@@ -30,14 +31,14 @@ use Rattle.buffers.specs.Journals.{recordPushed}
 use Rattle.buffers.proofs.Laws.{part-words}
 use Rattle.faults.specs.declared.Fault.the-variants as answer
 use Rattle.faults.specs.Opening.{sessionOf}
-use Rattle.faults.specs.Faults.{numbered, markNumber, renameNumber, removeNumber, headerOf, insertRefusal, answerOf}
-use Rattle.faults.proofs.Opening.{AcceptedUsed}
+use Rattle.faults.specs.Faults.{isAt, numbered, markNumber, renameNumber, headerOf, insertRefusal, answerOf}
+use Rattle.faults.proofs.Opening.{AcceptedUsed, open-accepted}
 use Rattle.faults.proofs.Exact.{standing, mark-is, rename-is, remove-is, insert-is}
 use Rattle.changes.specs.Changes.{flagPut, namePut, cellName, pieceIn, extentOut}
 use Rattle.changes.proofs.Made as made
-use Rattle.sessions.specs.Sessions.{Leaves, Stepped, cellRenamed, Open, numberOf}
+use Rattle.sessions.specs.Sessions.{Leaves, Stepped, cellRenamed, lastPlace, Open, numberOf}
 use Rattle.sessions.proofs.Steps.{wordsBy, recordBy, edit-step, edit-refused, edit-room, edit-journal, edit-done}
-use Rattle.sessions.proofs.Opened.{file-lengths, journal-lengths, open-file, accepted-used, used-within, jused-within}
+use Rattle.sessions.proofs.Opened.{file-lengths, journal-lengths, used-within, jused-within}
 use Rattle.sessions.proofs.Pushed.{Laid, flag-laid, renamed-laid, inserted-laid, removed-laid, record-long, record-pushed}
 
 -- a number as a refusal
@@ -64,15 +65,18 @@ pub fine-of : (f : Fault?) → answerOf f ≡ answer.Fine → f ≡ fine
 fine-of fine e = refl
 fine-of (fault n q) e = let z : _≡_ {A = ℕ} 0 1 = cc in absurd (omega arith)
 
-module _ (dim : ℕ) (file : List ℕ) (used : ℕ) (journal : List ℕ) (jused m : ℕ) (o : Open dim file used journal jused m) (below : Below 256 file) where
+module _ (dim : ℕ) (file : List ℕ) (used : ℕ) (journal : List ℕ) (jused p : ℕ) (found : Spotted) (o : Open dim file used journal jused p found) (below : Below 256 file) where
   abbrev s : Session
   s = sessionOf file used journal jused
 
   abbrev ws : List ℕ
   ws = usedWords file used
 
-  open-used : AcceptedUsed dim (take used file) m
-  open-used = accepted-used dim file used m (open-file dim file used journal jused m o)
+  abbrev m : ℕ
+  m = lastPlace file used
+
+  open-used : AcceptedUsed dim (take used file) (lastPlace file used)
+  open-used = open-accepted dim file used journal jused (o .ready)
 
   used-below : Below 256 (take used file)
   used-below = below-take 256 used file (omega arith) below
@@ -103,10 +107,10 @@ module _ (dim : ℕ) (file : List ℕ) (used : ℕ) (journal : List ℕ) (jused 
 
   ---- mark
 
-  module _ (p : ℕ) (deleted : Bool) (n : ℕ) (is : n ≡ markNumber (words (take used file)) m p deleted) where
+  module _ (deleted : Bool) (n : ℕ) (is : n ≡ markNumber (words (take used file)) found p deleted) where
     mark-own : numbered n ≡ editFault dim ws (mark p deleted)
     unfolding editFault
-    mark-own = ap numbered is ∙ mark-is dim (take used file) m open-used used-below p deleted
+    mark-own = ap numbered (is ∙ ap (λ f. markNumber ws f p deleted) (o .found-is)) ∙ mark-is dim (take used file) m open-used used-below p deleted
 
     pub mark-refused : (n ≡ 0 → ⊥) → Stepped dim s (mark-call p deleted) (Refused n 0) file journal
     mark-refused h =
@@ -142,9 +146,9 @@ module _ (dim : ℕ) (file : List ℕ) (used : ℕ) (journal : List ℕ) (jused 
 
   ---- rename
 
-  module _ (p : ℕ) (named : Bool) (a b n : ℕ) (is : n ≡ renameNumber (words (take used file)) m p named) where
+  module _ (named : Bool) (a b n : ℕ) (is : n ≡ renameNumber (words (take used file)) found p named) where
     rename-own : numbered n ≡ renameFault (spotsOf dim ws) ws p named
-    rename-own = ap numbered is ∙ rename-is dim (take used file) m open-used used-below p named
+    rename-own = ap numbered (is ∙ ap (λ f. renameNumber ws f p named) (o .found-is)) ∙ rename-is dim (take used file) m open-used used-below p named
 
     pub rename-refused : (n ≡ 0 → ⊥) → Leaves (cellRenamed dim s p named a b) (Refused n 0) file journal
     rename-refused h = edit-refused dim s (rename p a b) (renameFault (spotsOf dim ws) ws p named) n 0 (sym rename-own ∙ numbered-fault n h)
@@ -198,21 +202,21 @@ module _ (dim : ℕ) (file : List ℕ) (used : ℕ) (journal : List ℕ) (jused 
 
   ---- insert
 
-  module _ (h : Above) (p : ℕ) (piece : List ℕ) (piece-below : Below 256 piece) (lent : bufferOk piece ≡ true) where
+  module _ (marker : ℕ) (last : marker ≡ lastPlace file used) (h : Above) (piece : List ℕ) (piece-below : Below 256 piece) (lent : bufferOk piece ≡ true) where
     abbrev put : Edit
     put = insert (headerOf h) p (words piece)
 
     abbrev call : Call
     call = insert-call (headerOf h) p piece
 
-    insert-own : insertRefusal dim (take used file) m h p (words piece) ≡ editFault dim ws (insert (headerOf h) p (words piece))
+    insert-own : insertRefusal dim (take used file) marker found h p (words piece) ≡ editFault dim ws (insert (headerOf h) p (words piece))
     unfolding editFault
-    insert-own = insert-is dim (take used file) m open-used used-below h p (words piece)
+    insert-own = rw (last, o .found-is) (insert-is dim (take used file) m open-used used-below h p (words piece))
 
-    pub insert-refused : (n q : ℕ) → insertRefusal dim (take used file) m h p (words piece) ≡ fault n q → Stepped dim s call (Refused n q) file journal
+    pub insert-refused : (n q : ℕ) → insertRefusal dim (take used file) marker found h p (words piece) ≡ fault n q → Stepped dim s call (Refused n q) file journal
     insert-refused n q e = edit-step dim s _ _ _ lent (o .ready) refl (edit-refused dim s put (editFault dim ws put) n q (sym insert-own ∙ e))
 
-    module _ (none : insertRefusal dim (take used file) m h p (words piece) ≡ fine) where
+    module _ (none : insertRefusal dim (take used file) marker found h p (words piece) ≡ fine) where
       insert-fine : editFault dim ws put ≡ fine
       insert-fine = sym insert-own ∙ none
 
@@ -259,75 +263,75 @@ module _ (dim : ℕ) (file : List ℕ) (used : ℕ) (journal : List ℕ) (jused 
 
   ---- remove
 
-  module _ (p : ℕ) where
-    remove-own : numbered (removeNumber ws m p) ≡ editFault dim ws (remove p)
-    unfolding editFault
-    remove-own = remove-is dim (take used file) m open-used used-below p
+  remove-own : unless (isAt found) 13 ≡ editFault dim ws (remove p)
+  unfolding editFault
+  remove-own = ap (λ f. unless (isAt f) 13) (o .found-is) ∙ remove-is dim (take used file) m open-used used-below p
 
-    pub remove-absent : (n q : ℕ) → locateOf ws p m ≡ Nowhere n q → Stepped dim s (remove-call p) (Refused 13 0) file journal
-    unfolding removeNumber
-    remove-absent n q e =
-        edit-step dim s _ _ _ refl (o .ready) refl (edit-refused dim s (remove p) (editFault dim ws (remove p)) 13 0 (sym remove-own ∙ rw e refl))
+  pub remove-absent : (n q : ℕ) → found ≡ Nowhere n q → Stepped dim s (remove-call p) (Refused 13 0) file journal
+  remove-absent n q e =
+      edit-step dim s _ _ _ refl (o .ready) refl (edit-refused dim s (remove p) (editFault dim ws (remove p)) 13 0 (sym remove-own ∙ rw e refl))
 
-    module _ (end depth : ℕ) (above : Above) (located : locateOf ws p m ≡ At end depth above) where
-      remove-fine : editFault dim ws (remove p) ≡ fine
-      unfolding removeNumber
-      remove-fine = sym remove-own ∙ rw located refl
+  module _ (end depth : ℕ) (above : Above) (is : found ≡ At end depth above) where
+    located : locateOf ws p m ≡ At end depth above
+    located = sym (o .found-is) ∙ is
 
-      pub remove-inside : (p < end) × (2 * end ≤ used)
-      remove-inside = made.remove-within dim file used m below used-even (used-within o) open-used p end depth above located
+    remove-fine : editFault dim ws (remove p) ≡ fine
+    remove-fine = sym remove-own ∙ rw is refl
 
-      remove-long : 2 * length (wordsBy dim s (remove p)) ≡ used - 2 * (end - p)
-      remove-long = made.remove-length dim file used m below used-even (used-within o) open-used p end depth above located
+    pub remove-inside : (p < end) × (2 * end ≤ used)
+    remove-inside = made.remove-within dim file used m below used-even (used-within o) open-used p end depth above located
 
-      remove-fits : 2 * length (wordsBy dim s (remove p)) ≤ length file
-      remove-fits = let n = remove-long in let w = (used-within o) in omega arith
+    remove-long : 2 * length (wordsBy dim s (remove p)) ≡ used - 2 * (end - p)
+    remove-long = made.remove-length dim file used m below used-even (used-within o) open-used p end depth above located
 
-      -- the payload: the extent's bytes in the file
-      abbrev payload : List ℕ
-      payload = take (2 * end - 2 * p) (drop (2 * p) file)
+    remove-fits : 2 * length (wordsBy dim s (remove p)) ≤ length file
+    remove-fits = let n = remove-long in let w = (used-within o) in omega arith
 
-      payload-words : words payload ≡ take (end - p) (drop p ws)
-      payload-words =
-          let i = remove-inside .0 in
-          let half : 2 * p / 2 ≡ p = omega arith in
-          part-words file used (2 * p) (2 * end) (end - p) (omega arith) (omega arith) (remove-inside .1) ∙ ap (λ k. take (end - p) (drop k ws)) half
+    -- the payload: the extent's bytes in the file
+    abbrev payload : List ℕ
+    payload = take (2 * end - 2 * p) (drop (2 * p) file)
 
-      payload-long : length payload ≡ 2 * (end - p)
-      payload-long =
-          let i = remove-inside .0 in
-          let k = remove-inside .1 in
-          let w = (used-within o) in
-          simp (length-take, length-drop) (omega arith)
+    payload-words : words payload ≡ take (end - p) (drop p ws)
+    payload-words =
+        let i = remove-inside .0 in
+        let half : 2 * p / 2 ≡ p = omega arith in
+        part-words file used (2 * p) (2 * end) (end - p) (omega arith) (omega arith) (remove-inside .1) ∙ ap (λ k. take (end - p) (drop k ws)) half
 
-      payload-even : length payload % 2 ≡ 0
-      payload-even = let l = payload-long in omega arith
+    payload-long : length payload ≡ 2 * (end - p)
+    payload-long =
+        let i = remove-inside .0 in
+        let k = remove-inside .1 in
+        let w = (used-within o) in
+        simp (length-take, length-drop) (omega arith)
 
-      remove-laid : Laid (recordOf dim ws (remove p)) 4 (numberOf above) p payload
-      remove-laid =
-          let r = made.remove-record dim file used m below used-even (used-within o) open-used p end depth above located in
-          let small : SmallHeader (headerOf above) = subst Small r (sound-here (remove p) remove-fine tt .small) .0 in
-          subst (λ q. Laid q 4 (numberOf above) p payload) (sym r) (removed-laid above p payload (take (end - p) (drop p ws)) small payload-words)
+    payload-even : length payload % 2 ≡ 0
+    payload-even = let l = payload-long in omega arith
 
-      remove-record : 2 * length (recordBy dim s (remove p)) ≡ 2 * (end - p) + 12
-      remove-record =
-          let l = payload-long in
-          record-long (recordOf dim ws (remove p)) 4 (numberOf above) p payload payload-even remove-laid ∙ (omega arith)
+    remove-laid : Laid (recordOf dim ws (remove p)) 4 (numberOf above) p payload
+    remove-laid =
+        let r = made.remove-record dim file used m below used-even (used-within o) open-used p end depth above located in
+        let small : SmallHeader (headerOf above) = subst Small r (sound-here (remove p) remove-fine tt .small) .0 in
+        subst (λ q. Laid q 4 (numberOf above) p payload) (sym r) (removed-laid above p payload (take (end - p) (drop p ws)) small payload-words)
 
-      pub remove-full : length journal - jused < 2 * (end - p) + 12 → Stepped dim s (remove-call p) (Refused 16 0) file journal
-      remove-full l =
-          let n = remove-record in
-          let w = (jused-within o) in
-          edit-step dim s _ _ _ refl (o .ready) refl (edit-journal dim s (remove p) (editFault dim ws (remove p)) remove-fine remove-fits (omega arith))
+    remove-record : 2 * length (recordBy dim s (remove p)) ≡ 2 * (end - p) + 12
+    remove-record =
+        let l = payload-long in
+        record-long (recordOf dim ws (remove p)) 4 (numberOf above) p payload payload-even remove-laid ∙ (omega arith)
 
-      pub remove-done : 2 * (end - p) + 12 ≤ length journal - jused → (header : ℕ) (file′ journal′ : List ℕ) → file′ ≡ extentOut file used above p (end - p) →
-          header ≡ numberOf above → journal′ ≡ recordPushed journal jused 4 header p payload →
-          Stepped dim s (remove-call p) (Made (used - 2 * (end - p)) (jused + 2 * (end - p) + 12)) file′ journal′
-      remove-done l header file′ journal′ f q j =
-          let n = remove-record in
-          let k = payload-long in
-          let w = (jused-within o) in
-          edit-step dim s _ _ _ refl (o .ready) refl (edit-done dim s (remove p) (editFault dim ws (remove p)) remove-fine remove-fits (omega arith)
-          (used - 2 * (end - p)) (jused + 2 * (end - p) + 12) file′ journal′ (sym remove-long) (omega arith)
-          (f ∙ made.remove-made dim file used m below used-even (used-within o) open-used p end depth above located)
-          (j ∙ ap (λ n. recordPushed journal jused 4 n p payload) q ∙ record-pushed (recordOf dim ws (remove p)) 4 (numberOf above) p payload payload-even remove-laid journal jused jused-even (omega arith)))
+    pub remove-full : length journal - jused < 2 * (end - p) + 12 → Stepped dim s (remove-call p) (Refused 16 0) file journal
+    remove-full l =
+        let n = remove-record in
+        let w = (jused-within o) in
+        edit-step dim s _ _ _ refl (o .ready) refl (edit-journal dim s (remove p) (editFault dim ws (remove p)) remove-fine remove-fits (omega arith))
+
+    pub remove-done : 2 * (end - p) + 12 ≤ length journal - jused → (header : ℕ) (file′ journal′ : List ℕ) → file′ ≡ extentOut file used above p (end - p) →
+        header ≡ numberOf above → journal′ ≡ recordPushed journal jused 4 header p payload →
+        Stepped dim s (remove-call p) (Made (used - 2 * (end - p)) (jused + 2 * (end - p) + 12)) file′ journal′
+    remove-done l header file′ journal′ f q j =
+        let n = remove-record in
+        let k = payload-long in
+        let w = (jused-within o) in
+        edit-step dim s _ _ _ refl (o .ready) refl (edit-done dim s (remove p) (editFault dim ws (remove p)) remove-fine remove-fits (omega arith)
+        (used - 2 * (end - p)) (jused + 2 * (end - p) + 12) file′ journal′ (sym remove-long) (omega arith)
+        (f ∙ made.remove-made dim file used m below used-even (used-within o) open-used p end depth above located)
+        (j ∙ ap (λ n. recordPushed journal jused 4 n p payload) q ∙ record-pushed (recordOf dim ws (remove p)) 4 (numberOf above) p payload payload-even remove-laid journal jused jused-even (omega arith)))

@@ -1,6 +1,6 @@
 -- What an open session has: its lengths are right, and its used file is accepted.
 use Prim.Native.Nat.{ℕ, _-_, _≤_}
-use mathlib.Core.Path.{_≡_, refl, sym, _∙_, subst}
+use mathlib.Core.Path.{_≡_, refl, sym, ap, _∙_}
 use mathlib.Core.Bool.{true, _||_, and-eq-true-iff}
 use mathlib.Core.List.{List}
 use native.Mathlib.Omega.{arith}
@@ -10,32 +10,38 @@ use Rattle.edits.specs.Allowed.{Fault?, fine, fault, unless}
 use Rattle.edits.specs.Calls.{usedWords, endsInMarker, sessionOk, fileFault, sessionFault}
 use Rattle.edits.proofs.Faults.{orElse-fine, unless-fine}
 use Rattle.files.specs.Judge.{topOf}
+use Rattle.reading.specs.declared.Spotted.{Spotted}
+use Rattle.reading.specs.Descent.{locateOf}
 use Rattle.faults.specs.declared.Opened.{Opened}
 use Rattle.faults.specs.declared.Opened.the-variants.{Ready, Refused}
 use Rattle.faults.specs.Opening.{openedBy, lengthsOk, sessionOf, OpenedAs}
 use Rattle.faults.proofs.Opening.{AcceptedUsed, Lengths, lengths-true, open-accepted}
-use Rattle.sessions.specs.Sessions.{Open, OpenFile}
+use Rattle.sessions.specs.Sessions.{lastPlace, Open, OpenFile}
 
 module _ (dim : ℕ) (file : List ℕ) (used : ℕ) (journal : List ℕ) (jused : ℕ) where
   abbrev fault-of : Fault?
   fault-of = sessionFault dim (sessionOf file used journal jused)
 
   -- what opening answered
-  module _ (r : Opened) (is : OpenedAs dim file used (length journal) jused r) where
-    pub opened-ready : (m : ℕ) → r ≡ Ready m → Open dim file used journal jused m
-    opened-ready m h = go fault-of refl (sym h ∙ is journal refl)
+  module _ (p : ℕ) (r : Opened) (is : OpenedAs dim file used (length journal) jused p r) where
+    pub opened-ready : (m : ℕ) (found : Spotted) → r ≡ Ready m found → Open dim file used journal jused p found × (m ≡ lastPlace file used)
+    opened-ready m found h = go fault-of refl (sym h ∙ is journal refl)
       where
-        go : (f : Fault?) → sessionFault dim (sessionOf file used journal jused) ≡ f → Ready m ≡ openedBy f (length (usedWords file used) - 1) → Open dim file used journal jused m
-        go fine e q = record { ready = e; marker-is = (let z : m ≡ length (usedWords file used) - 1 = cc in z) }
-        go (fault n p) e q = let z : _≡_ {A = ℕ} 0 1 = cc in absurd (omega arith)
+        go : (f : Fault?) → sessionFault dim (sessionOf file used journal jused) ≡ f → Ready m found ≡ openedBy f (usedWords file used) p →
+            Open dim file used journal jused p found × (m ≡ lastPlace file used)
+        go fine e q =
+            let x : found ≡ locateOf (usedWords file used) p (lastPlace file used) = cc in
+            let y : m ≡ lastPlace file used = cc in
+            (record { ready = e; found-is = x }, y)
+        go (fault n q′) e q = let z : _≡_ {A = ℕ} 0 1 = cc in absurd (omega arith)
 
-    pub opened-refused : (n p : ℕ) → r ≡ Refused n p → fault-of ≡ fault n p
-    opened-refused n p h = go fault-of refl (sym h ∙ is journal refl)
+    pub opened-refused : (n q : ℕ) → r ≡ Refused n q → fault-of ≡ fault n q
+    opened-refused n q h = go fault-of refl (sym h ∙ is journal refl)
       where
-        go : (f : Fault?) → sessionFault dim (sessionOf file used journal jused) ≡ f → Refused n p ≡ openedBy f (length (usedWords file used) - 1) →
-            sessionFault dim (sessionOf file used journal jused) ≡ fault n p
-        go fine e q = let z : _≡_ {A = ℕ} 0 1 = cc in absurd (omega arith)
-        go (fault n′ p′) e q = e ∙ (let z : fault n′ p′ ≡ fault n p = cc in z)
+        go : (f : Fault?) → sessionFault dim (sessionOf file used journal jused) ≡ f → Refused n q ≡ openedBy f (usedWords file used) p →
+            sessionFault dim (sessionOf file used journal jused) ≡ fault n q
+        go fine e h = let z : _≡_ {A = ℕ} 0 1 = cc in absurd (omega arith)
+        go (fault n′ q′) e h = e ∙ (let z : fault n′ q′ ≡ fault n q = cc in z)
 
   module _ (ready : sessionFault dim (sessionOf file used journal jused) ≡ fine) where
     lengths : (lengthsOk (length file) used ≡ true) × (lengthsOk (length journal) jused ≡ true)
@@ -53,21 +59,32 @@ module _ (dim : ℕ) (file : List ℕ) (used : ℕ) (journal : List ℕ) (jused 
     pub journal-lengths : Lengths (length journal) jused
     journal-lengths = lengths-true (length journal) jused (lengths .1)
 
+  -- the same by another name of the place
+  pub open-by : {p q : ℕ} {found : Spotted} → p ≡ q → Open dim file used journal jused p found → Open dim file used journal jused q found
+  open-by e o = record { ready = o .ready; found-is = o .found-is ∙ ap (λ k. locateOf (usedWords file used) k (lastPlace file used)) e }
+
   -- its file
-  pub open-file : (m : ℕ) → Open dim file used journal jused m → OpenFile dim file used m
-  open-file m o =
+  pub open-file : (p q : ℕ) (found : Spotted) → p ≡ q → Open dim file used journal jused p found → OpenFile dim file used q found
+  open-file p q found e o =
       let a = open-accepted dim file used journal jused (o .ready) in
       let l = file-lengths (o .ready) in
-      subst (OpenFile dim file used) (sym (o .marker-is))
-      (record { elements = a .elements; deepest = a .deepest; judged = a .judged; last = a .last; even = l .used-even; within = l .within })
+      record {
+        elements = a .elements;
+        deepest = a .deepest;
+        judged = a .judged;
+        last = a .last;
+        even = l .used-even;
+        within = l .within;
+        found-is = open-by e o .found-is;
+      }
 
 -- its file's used part, as faults' laws have it
-pub accepted-used : (dim : ℕ) (file : List ℕ) (used m : ℕ) → OpenFile dim file used m → AcceptedUsed dim (take used file) m
-accepted-used dim file used m o = record { elements = o .elements; deepest = o .deepest; judged = o .judged; last = o .last }
+pub accepted-used : (dim : ℕ) (file : List ℕ) (used p : ℕ) (found : Spotted) → OpenFile dim file used p found → AcceptedUsed dim (take used file) (lastPlace file used)
+accepted-used dim file used p found o = record { elements = o .elements; deepest = o .deepest; judged = o .judged; last = o .last }
 
 ---- its lengths
 
-module _ {dim : ℕ} {file : List ℕ} {used : ℕ} {journal : List ℕ} {jused m : ℕ} (o : Open dim file used journal jused m) where
+module _ {dim : ℕ} {file : List ℕ} {used : ℕ} {journal : List ℕ} {jused p : ℕ} {found : Spotted} (o : Open dim file used journal jused p found) where
   pub used-within : used ≤ length file
   used-within = file-lengths dim file used journal jused (o .ready) .within
 

@@ -12,26 +12,26 @@ use Rattle.elements.specs.Header.{deletedOf}
 use Rattle.files.specs.Spots.{spotsOf}
 use Rattle.reading.specs.declared.Above.{Above}
 use Rattle.reading.specs.declared.Above.the-variants.{Top}
+use Rattle.reading.specs.declared.Spotted.{Spotted}
 use Rattle.reading.specs.declared.Spotted.the-variants.{At, Refused as Nowhere}
-use Rattle.reading.specs.Descent.{locateOf}
 use Rattle.edits.specs.declared.Edited.{Edited}
 use Rattle.edits.specs.declared.Edited.the-variants.{Made, Refused}
 use Rattle.edits.specs.Edits.{insert, apply}
 use Rattle.edits.specs.Allowed.{Fault?, fine, fault, insertFault, editFault}
 use Rattle.edits.specs.Records.{Rec, flag, renamed, inserted, removed, placeOf, lastRecord, isFine, reversal, reversible}
-use Rattle.edits.specs.Calls.{Session, undo-call, usedWords, stored}
+use Rattle.edits.specs.Calls.{Session, undo-call, usedWords, sessionFault, stored}
 use Rattle.buffers.specs.declared.Last.{Last}
 use Rattle.buffers.specs.declared.Last.the-variants as last
 use Rattle.buffers.specs.Journals.{Within, LastRead}
 use Rattle.buffers.proofs.Laws.{before-length, part-words}
 use Rattle.faults.specs.Opening.{sessionOf}
-use Rattle.faults.specs.Faults.{headerOf, sameAbove, standsUnder, reversesAt}
+use Rattle.faults.specs.Faults.{headerOf, sameAbove, standsUnder, reversesAt, recordBy}
 use Rattle.faults.proofs.Opening.{AcceptedUsed}
 use Rattle.faults.proofs.Exact.{reversible-is}
 use Rattle.edits.proofs.Bounds.{below-take}
 use Rattle.changes.specs.Changes.{flagPut, namePut, nameBytes, pieceIn, extentOut}
 use Rattle.changes.proofs.Made as made
-use Rattle.sessions.specs.Sessions.{Stepped, Open, OpenFile, Reversed, aboveAt}
+use Rattle.sessions.specs.Sessions.{Stepped, lastPlace, OpenFile, Reversed, aboveAt}
 use Rattle.sessions.proofs.Steps.{back-refused, back-room, back-done, undo-bad, undo-reversed}
 use Rattle.sessions.proofs.Opened.{accepted-used}
 use Rattle.sessions.proofs.Pushed.{header-above, name-words}
@@ -40,26 +40,34 @@ fine-of : (f : Fault?) → isFine f ≡ true → f ≡ fine
 fine-of fine e = refl
 fine-of (fault n p) e = absurd (false≢true e)
 
-module _ (dim : ℕ) (file : List ℕ) (used m : ℕ) (o : OpenFile dim file used m) (below : Below 256 file) (before : ℕ) where
+module _ (dim : ℕ) (file : List ℕ) (used p : ℕ) (found : Spotted) (o : OpenFile dim file used p found) (below : Below 256 file) (before : ℕ) where
   abbrev ws : List ℕ
   ws = usedWords file used
 
-  used-here : AcceptedUsed dim (take used file) m
-  used-here = accepted-used dim file used m o
+  abbrev m : ℕ
+  m = lastPlace file used
+
+  used-here : AcceptedUsed dim (take used file) (lastPlace file used)
+  used-here = accepted-used dim file used p found o
 
   used-below : Below 256 (take used file)
   used-below = below-take 256 used file (omega arith) below
 
+  -- what the code asks of a record is whether its reversal is allowed
+  reverses-is : (marker : ℕ) → marker ≡ lastPlace file used → (kind : ℕ) (h : Above) (x : List ℕ) →
+      reversesAt dim (take used file) marker found kind h p x ≡ reversible dim ws (recordBy kind (headerOf h) p x)
+  reverses-is marker last kind h x = rw (last, o .found-is) (reversible-is dim (take used file) m used-here used-below kind h p x)
+
   ---- a flag is turned over
 
-  module _ (p : ℕ) (x : List ℕ) where
-    flag-is : reversesAt dim (take used file) m 1 Top p x ≡ reversible dim ws (flag p)
-    flag-is = reversible-is dim (take used file) m used-here used-below 1 Top p x
+  module _ (marker : ℕ) (last : marker ≡ lastPlace file used) (x : List ℕ) where
+    flag-is : reversesAt dim (take used file) marker found 1 Top p x ≡ reversible dim ws (flag p)
+    flag-is = reverses-is marker last 1 Top x
 
-    pub flag-refused : reversesAt dim (take used file) m 1 Top p x ≡ false → Reversed dim file used (flag p) before (Refused 19 0) file
+    pub flag-refused : reversesAt dim (take used file) marker found 1 Top p x ≡ false → Reversed dim file used (flag p) before (Refused 19 0) file
     flag-refused e = back-refused dim file used (flag p) before (sym flag-is ∙ e)
 
-    pub flag-done : reversesAt dim (take used file) m 1 Top p x ≡ true → (deleted : Bool) (part : List ℕ) → deleted ≡ eqb (deletedOf (wordAt ws p)) 0 →
+    pub flag-done : reversesAt dim (take used file) marker found 1 Top p x ≡ true → (deleted : Bool) (part : List ℕ) → deleted ≡ eqb (deletedOf (wordAt ws p)) 0 →
         part ≡ flagPut deleted p (take used file) → Reversed dim file used (flag p) before (Made used before) (part ++ drop used file)
     unfolding reversal
     flag-done e deleted part d f =
@@ -70,17 +78,17 @@ module _ (dim : ℕ) (file : List ℕ) (used m : ℕ) (o : OpenFile dim file use
 
   ---- the old name is written back
 
-  module _ (p a b : ℕ) (x : a < 65536) (y : b < 65536) (payload : List ℕ) (is : payload ≡ nameBytes a b) where
-    name-is : reversesAt dim (take used file) m 2 Top p (words payload) ≡ reversible dim ws (renamed p a b)
+  module _ (marker : ℕ) (last : marker ≡ lastPlace file used) (a b : ℕ) (x : a < 65536) (y : b < 65536) (payload : List ℕ) (is : payload ≡ nameBytes a b) where
+    name-is : reversesAt dim (take used file) marker found 2 Top p (words payload) ≡ reversible dim ws (renamed p a b)
     name-is =
-        ap (λ v. reversesAt dim (take used file) m 2 Top p (words v)) is
-        ∙ reversible-is dim (take used file) m used-here used-below 2 Top p (words (nameBytes a b))
+        ap (λ v. reversesAt dim (take used file) marker found 2 Top p (words v)) is
+        ∙ reverses-is marker last 2 Top (words (nameBytes a b))
         ∙ ap (λ v. reversible dim ws (renamed p (wordAt v 0) (wordAt v 1))) (name-words a b x y)
 
-    pub name-refused : reversesAt dim (take used file) m 2 Top p (words payload) ≡ false → Reversed dim file used (renamed p a b) before (Refused 19 0) file
+    pub name-refused : reversesAt dim (take used file) marker found 2 Top p (words payload) ≡ false → Reversed dim file used (renamed p a b) before (Refused 19 0) file
     name-refused e = back-refused dim file used (renamed p a b) before (sym name-is ∙ e)
 
-    pub name-done : reversesAt dim (take used file) m 2 Top p (words payload) ≡ true → (part : List ℕ) →
+    pub name-done : reversesAt dim (take used file) marker found 2 Top p (words payload) ≡ true → (part : List ℕ) →
         part ≡ namePut p a b (take used file) → Reversed dim file used (renamed p a b) before (Made used before) (part ++ drop used file)
     unfolding reversal
     name-done e part f =
@@ -91,15 +99,15 @@ module _ (dim : ℕ) (file : List ℕ) (used m : ℕ) (o : OpenFile dim file use
 
   ---- what was put in is taken out
 
-  module _ (h p : ℕ) where
-    in-is : standsUnder (locateOf ws p m) (aboveAt h) ≡ reversible dim ws (inserted (placeOf h) p)
+  module _ (h : ℕ) where
+    in-is : standsUnder found (aboveAt h) ≡ reversible dim ws (inserted (placeOf h) p)
     unfolding reversesAt
-    in-is = reversible-is dim (take used file) m used-here used-below 3 (aboveAt h) p [] ∙ ap (λ q. reversible dim ws (inserted q p)) (header-above h)
+    in-is = reverses-is m refl 3 (aboveAt h) [] ∙ ap (λ q. reversible dim ws (inserted q p)) (header-above h)
 
-    pub in-absent : (n q : ℕ) → locateOf ws p m ≡ Nowhere n q → Reversed dim file used (inserted (placeOf h) p) before (Refused 19 0) file
+    pub in-absent : (n q : ℕ) → found ≡ Nowhere n q → Reversed dim file used (inserted (placeOf h) p) before (Refused 19 0) file
     in-absent n q l = back-refused dim file used (inserted (placeOf h) p) before (sym in-is ∙ rw l refl)
 
-    module _ (end depth : ℕ) (above above₀ : Above) (l : locateOf ws p m ≡ At end depth above) (is : above₀ ≡ aboveAt h) (same : Bool) (by : same ≡ sameAbove above above₀) where
+    module _ (end depth : ℕ) (above above₀ : Above) (l : found ≡ At end depth above) (is : above₀ ≡ aboveAt h) (same : Bool) (by : same ≡ sameAbove above above₀) where
       in-same : same ≡ reversible dim ws (inserted (placeOf h) p)
       in-same = by ∙ ap (sameAbove above) is ∙ sym (ap (λ v. standsUnder v (aboveAt h)) l) ∙ in-is
 
@@ -110,30 +118,30 @@ module _ (dim : ℕ) (file : List ℕ) (used m : ℕ) (o : OpenFile dim file use
           Reversed dim file used (inserted (placeOf h) p) before (Made (used - 2 * (end - p)) before) file′
       unfolding reversal
       in-done e file′ f =
-          let n = made.remove-length dim file used m below (o .even) (o .within) used-here p end depth above l in
+          let n = made.remove-length dim file used m below (o .even) (o .within) used-here p end depth above (sym (o .found-is) ∙ l) in
           let w = o .within in
           back-done dim file used (inserted (placeOf h) p) before (sym in-same ∙ e) (omega arith) (used - 2 * (end - p)) file′ (sym n)
-          (f ∙ made.remove-made dim file used m below (o .even) (o .within) used-here p end depth above l)
+          (f ∙ made.remove-made dim file used m below (o .even) (o .within) used-here p end depth above (sym (o .found-is) ∙ l))
 
   -- where the extent of the element that is there ends
-  pub in-inside : (p end depth : ℕ) (above : Above) → locateOf ws p m ≡ At end depth above → (p < end) × (2 * end ≤ used)
-  in-inside p end depth above l = made.remove-within dim file used m below (o .even) (o .within) used-here p end depth above l
+  pub in-inside : (end depth : ℕ) (above : Above) → found ≡ At end depth above → (p < end) × (2 * end ≤ used)
+  in-inside end depth above l = made.remove-within dim file used m below (o .even) (o .within) used-here p end depth above (sym (o .found-is) ∙ l)
 
   ---- what was taken out is put in
 
-  module _ (h p : ℕ) (piece : List ℕ) (piece-even : length piece % 2 ≡ 0) (above₀ : Above) (is : above₀ ≡ aboveAt h) where
+  module _ (marker : ℕ) (last : marker ≡ lastPlace file used) (h : ℕ) (piece : List ℕ) (piece-even : length piece % 2 ≡ 0) (above₀ : Above) (is : above₀ ≡ aboveAt h) where
     abbrev rec : Rec
     rec = removed (placeOf h) p (words piece)
 
-    out-is : reversesAt dim (take used file) m 4 above₀ p (words piece) ≡ reversible dim ws rec
+    out-is : reversesAt dim (take used file) marker found 4 above₀ p (words piece) ≡ reversible dim ws rec
     out-is =
-        ap (λ v. reversesAt dim (take used file) m 4 v p (words piece)) is
-        ∙ reversible-is dim (take used file) m used-here used-below 4 (aboveAt h) p (words piece) ∙ ap (λ q. reversible dim ws (removed q p (words piece))) (header-above h)
+        ap (λ v. reversesAt dim (take used file) marker found 4 v p (words piece)) is
+        ∙ reverses-is marker last 4 (aboveAt h) (words piece) ∙ ap (λ q. reversible dim ws (removed q p (words piece))) (header-above h)
 
-    pub out-refused : reversesAt dim (take used file) m 4 above₀ p (words piece) ≡ false → Reversed dim file used rec before (Refused 19 0) file
+    pub out-refused : reversesAt dim (take used file) marker found 4 above₀ p (words piece) ≡ false → Reversed dim file used rec before (Refused 19 0) file
     out-refused e = back-refused dim file used rec before (sym out-is ∙ e)
 
-    module _ (e : reversesAt dim (take used file) m 4 above₀ p (words piece) ≡ true) where
+    module _ (e : reversesAt dim (take used file) marker found 4 above₀ p (words piece) ≡ true) where
       out-long : 2 * length (apply dim ws (reversal ws rec)) ≡ used + length piece
       unfolding reversal
       out-long = made.insert-length dim file used m below (o .even) (o .within) used-here (placeOf h) p piece piece-even
@@ -157,7 +165,7 @@ module _ (dim : ℕ) (file : List ℕ) (used m : ℕ) (o : OpenFile dim file use
 
 ---- undo, by the record that was read
 
-module _ (dim : ℕ) (file : List ℕ) (used : ℕ) (journal : List ℕ) (jused m : ℕ) (o : Open dim file used journal jused m) (some-used : jused ≡ 0 → ⊥) where
+module _ (dim : ℕ) (file : List ℕ) (used : ℕ) (journal : List ℕ) (jused : ℕ) (ready : sessionFault dim (sessionOf file used journal jused) ≡ fine) (some-used : jused ≡ 0 → ⊥) where
   abbrev s : Session
   s = sessionOf file used journal jused
 
@@ -168,7 +176,7 @@ module _ (dim : ℕ) (file : List ℕ) (used : ℕ) (journal : List ℕ) (jused 
   read-back : (rec : Rec) (n p before : ℕ) (r : Edited) (after : List ℕ) → some (rec, take (before / 2) js) ≡ lastRecord js → Within (length (take jused journal)) n p before →
       Reversed dim file used rec before r after → Stepped dim s undo-call r after journal
   read-back rec n p before r after e w v =
-      undo-reversed dim s (o .ready) some-used rec (take (before / 2) js) before r after (sym e) (before-length (take jused journal) n p before w) v
+      undo-reversed dim s ready some-used rec (take (before / 2) js) before r after (sym e) (before-length (take jused journal) n p before w) v
 
   module _ (read : Last) (is : LastRead (take jused journal) read) where
     -- what was read, by its case
@@ -176,7 +184,7 @@ module _ (dim : ℕ) (file : List ℕ) (used : ℕ) (journal : List ℕ) (jused 
     case-of q e = subst (LastRead (take jused journal)) e is
 
     pub read-bad : read ≡ last.Bad → Stepped dim s undo-call (Refused 19 0) file journal
-    read-bad e = undo-bad dim s (o .ready) some-used (sym (case-of last.Bad e .is))
+    read-bad e = undo-bad dim s ready some-used (sym (case-of last.Bad e .is))
 
     pub read-flag : (p before : ℕ) → read ≡ last.Flag p before → (r : Edited) (after : List ℕ) →
         Reversed dim file used (flag p) before r after → Stepped dim s undo-call r after journal

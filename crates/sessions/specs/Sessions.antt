@@ -12,6 +12,7 @@ use Rattle.files.specs.Spots.{spotsOf}
 use Rattle.files.specs.declared.Judged.the-variants as judged
 use Rattle.reading.specs.declared.Above.{Above}
 use Rattle.reading.specs.declared.Above.the-variants.{Top, Under}
+use Rattle.reading.specs.declared.Spotted.{Spotted}
 use Rattle.reading.specs.declared.Spotted.the-variants.{At}
 use Rattle.reading.specs.Descent.{locateOf}
 use Rattle.edits.specs.declared.Edited.{Edited}
@@ -20,6 +21,8 @@ use Rattle.edits.specs.Edits.{rename, apply}
 use Rattle.edits.specs.Allowed.{Fault?, fine, fault, orElse, unless, renameFault}
 use Rattle.edits.specs.Records.{Rec, reversal, reversible}
 use Rattle.edits.specs.Calls.{Session, Call, usedWords, sessionFault, stored, Result, edited, step}
+use Rattle.buffers.specs.declared.Last.{Last}
+use Rattle.buffers.specs.declared.Last.the-variants as last
 use Rattle.faults.specs.Opening.{sessionOf}
 
 -- what is answered and left in the two buffers is what a result says
@@ -37,24 +40,37 @@ abbrev pub cellRenamed : ℕ → Session → ℕ → Bool → ℕ → ℕ → Re
 cellRenamed dim s p named a b =
     edited dim s (rename p a b) (renameFault (spotsOf dim (usedWords (s .file) (s .used))) (usedWords (s .file) (s .used)) p named)
 
--- a session that opens, with the place of its file's marker
-pub record Open (dim : ℕ) (file : List ℕ) (used : ℕ) (journal : List ℕ) (jused marker : ℕ) : Type 0 where
+-- the place of the last used word, where the marker of an open session's file stands
+abbrev pub lastPlace : List ℕ → ℕ → ℕ
+lastPlace file used = length (usedWords file used) - 1
+
+-- a session that opens, with what starts at the place p of its file
+pub record Open (dim : ℕ) (file : List ℕ) (used : ℕ) (journal : List ℕ) (jused p : ℕ) (found : Spotted) : Type 0 where
   pub ready : sessionFault dim (sessionOf file used journal jused) ≡ fine
-  pub marker-is : marker ≡ length (usedWords file used) - 1
+  pub found-is : found ≡ locateOf (usedWords file used) p (lastPlace file used)
 
 -- its file alone
-pub record OpenFile (dim : ℕ) (file : List ℕ) (used marker : ℕ) : Type 0 where
+pub record OpenFile (dim : ℕ) (file : List ℕ) (used p : ℕ) (found : Spotted) : Type 0 where
   pub elements : ℕ
   pub deepest : ℕ
-  pub judged : judgeOf dim (take used file) ≡ judged.Accepted elements deepest marker
-  pub last : marker + 1 ≡ length (usedWords file used)
+  pub judged : judgeOf dim (take used file) ≡ judged.Accepted elements deepest (lastPlace file used)
+  pub last : lastPlace file used + 1 ≡ length (usedWords file used)
   pub even : used % 2 ≡ 0
   pub within : used ≤ length file
+  pub found-is : found ≡ locateOf (usedWords file used) p (lastPlace file used)
 
 -- an element starts at a place of it, its extent ends at `end`, and it stands directly under `above`
-pub record Stands (file : List ℕ) (used marker p end : ℕ) (above : Above) : Type 0 where
+pub record Stands (dim : ℕ) (file : List ℕ) (used : ℕ) (journal : List ℕ) (jused p end : ℕ) (above : Above) : Type 0 where
   pub depth : ℕ
-  pub located : locateOf (usedWords file used) p marker ≡ At end depth above
+  pub opened : Open dim file used journal jused p (At end depth above)
+
+-- the place that a record names, 0 where it is ill-formed
+abbrev pub placeIn : Last → ℕ
+placeIn last.Bad = 0
+placeIn (last.Flag p before) = p
+placeIn (last.Renamed p a b before) = p
+placeIn (last.Inserted h p before) = p
+placeIn (last.Removed h p n before) = p
 
 -- a header place as a number, 4294967295 (the long -1) for the top, and back
 abbrev pub numberOf : Above → ℕ

@@ -1,17 +1,19 @@
 // The calls of a session on its two lent buffers: mark, rename, insert, remove and undo. Each opens the session (1, the
-// file's own refusals, 1 for an early marker), finds its own refusals, then 15 and 16, and changes the buffers last.
+// file's own refusals, 1 for an early marker) and so finds its place, then its own refusals, 15 and 16, and changes the
+// buffers last.
 // Contracts: one step of edits' specs/Calls, over which demand 3 is proved for every list of calls.
 ghost use mathlib.Core.Path.{_≡_};
 ghost use mathlib.Core.Bool.{true};
-ghost use Prim.Native.Nat.{_%_};
-ghost use lib.ListN.{length};
+ghost use Prim.Native.Nat.{_%_, _≤_};
+ghost use lib.ListN.{length, take};
 ghost use Rattle.words.specs.Words.{words};
 ghost use Rattle.edits.specs.Records.{flag, renamed, inserted, removed, placeOf};
 ghost use Rattle.edits.specs.Calls.{mark-call, rename-call, insert-call, remove-call, undo-call, bufferOk};
+ghost use Rattle.buffers.specs.Journals.{LastRead};
 ghost use Rattle.faults.specs.Opening.{sessionOf};
 ghost use Rattle.faults.specs.Faults.{headerOf};
 ghost use Rattle.edits.specs.declared.Edited.the-variants.{Refused};
-ghost use Rattle.sessions.specs.Sessions.{Leaves, Stepped, cellRenamed, Open, OpenFile, Stands, Reversed, numberOf, aboveAt};
+ghost use Rattle.sessions.specs.Sessions.{Leaves, Stepped, cellRenamed, lastPlace, Open, OpenFile, Stands, placeIn, Reversed, numberOf, aboveAt};
 use buffers::Last;
 use buffers::TOP;
 use edits::Edited;
@@ -53,14 +55,14 @@ fn mark_opened(
     journal: &mut [u8],
     jused: usize,
     dim: usize,
-    marker: usize,
     place: usize,
+    found: Spotted,
     deleted: bool,
 ) -> Edited
-    requires { ⌜ Open dim (now file) used (now journal) jused marker ⌝ }
+    requires { ⌜ Open dim (now file) used (now journal) jused place found ⌝ }
     ensures { λ r. ⌜ Stepped dim (sessionOf (now (file .entry)) used (now (journal .entry)) jused) (mark-call place deleted) r (now (file .exit)) (now (journal .exit)) ⌝ }
 {
-    let number = faults::mark_fault(&file[..used], marker, place, deleted);
+    let number = faults::mark_fault(&file[..used], found, place, deleted);
     if number != 0 {
         return refused(number);
     }
@@ -87,7 +89,7 @@ pub fn mark(
 ) -> Edited
     ensures { λ r. ⌜ Stepped dim (sessionOf (now (file .entry)) used (now (journal .entry)) jused) (mark-call place deleted) r (now (file .exit)) (now (journal .exit)) ⌝ }
 {
-    match faults::open_session(file, used, journal.len(), jused, dim) {
+    match faults::open_at(file, used, journal.len(), jused, dim, place) {
         Opened::Refused {
             number,
             place: fault,
@@ -95,8 +97,8 @@ pub fn mark(
             number,
             place: fault,
         },
-        Opened::Ready { marker } => {
-            mark_opened(file, used, journal, jused, dim, marker, place, deleted)
+        Opened::Ready { marker: _, found } => {
+            mark_opened(file, used, journal, jused, dim, place, found, deleted)
         }
     }
 }
@@ -108,16 +110,16 @@ fn rename_opened(
     journal: &mut [u8],
     jused: usize,
     dim: usize,
-    marker: usize,
     place: usize,
+    found: Spotted,
     named: bool,
     first: u16,
     second: u16,
 ) -> Edited
-    requires { ⌜ Open dim (now file) used (now journal) jused marker ⌝ }
+    requires { ⌜ Open dim (now file) used (now journal) jused place found ⌝ }
     ensures { λ r. ⌜ Leaves (cellRenamed dim (sessionOf (now (file .entry)) used (now (journal .entry)) jused) place named first second) r (now (file .exit)) (now (journal .exit)) ⌝ }
 {
-    let number = faults::rename_fault(&file[..used], marker, place, named);
+    let number = faults::rename_fault(&file[..used], found, place, named);
     if number != 0 {
         return refused(number);
     }
@@ -140,11 +142,11 @@ fn rename_by(
     journal: &mut [u8],
     jused: usize,
     dim: usize,
-    marker: usize,
     place: usize,
+    found: Spotted,
     text: &[u8],
 ) -> Edited
-    requires { ⌜ Open dim (now file) used (now journal) jused marker ⌝ }
+    requires { ⌜ Open dim (now file) used (now journal) jused place found ⌝ }
     ensures { λ r. ⌜ Stepped dim (sessionOf (now (file .entry)) used (now (journal .entry)) jused) (rename-call place (now (text .entry))) r (now (file .exit)) (now (journal .exit)) ⌝ }
 {
     match names::pack(text) {
@@ -154,8 +156,8 @@ fn rename_by(
             journal,
             jused,
             dim,
-            marker,
             place,
+            found,
             true,
             first as u16,
             second as u16,
@@ -163,7 +165,7 @@ fn rename_by(
         names::Packed::Refused {
             number: _,
             place: _,
-        } => rename_opened(file, used, journal, jused, dim, marker, place, false, 0, 0),
+        } => rename_opened(file, used, journal, jused, dim, place, found, false, 0, 0),
     }
 }
 
@@ -179,7 +181,7 @@ pub fn rename(
 ) -> Edited
     ensures { λ r. ⌜ Stepped dim (sessionOf (now (file .entry)) used (now (journal .entry)) jused) (rename-call place (now (text .entry))) r (now (file .exit)) (now (journal .exit)) ⌝ }
 {
-    match faults::open_session(file, used, journal.len(), jused, dim) {
+    match faults::open_at(file, used, journal.len(), jused, dim, place) {
         Opened::Refused {
             number,
             place: fault,
@@ -187,8 +189,8 @@ pub fn rename(
             number,
             place: fault,
         },
-        Opened::Ready { marker } => {
-            rename_by(file, used, journal, jused, dim, marker, place, text)
+        Opened::Ready { marker: _, found } => {
+            rename_by(file, used, journal, jused, dim, place, found, text)
         }
     }
 }
@@ -203,13 +205,15 @@ fn insert_opened(
     marker: usize,
     header: Above,
     place: usize,
+    found: Spotted,
     piece: &[u8],
 ) -> Edited
-    requires { ⌜ Open dim (now file) used (now journal) jused marker ⌝ }
+    requires { ⌜ Open dim (now file) used (now journal) jused place found ⌝ }
+    requires { ⌜ marker ≡ lastPlace (now file) used ⌝ }
     requires { ⌜ bufferOk (now piece) ≡ true ⌝ }
     ensures { λ r. ⌜ Stepped dim (sessionOf (now (file .entry)) used (now (journal .entry)) jused) (insert-call (headerOf header) place (now (piece .entry))) r (now (file .exit)) (now (journal .exit)) ⌝ }
 {
-    match faults::insert_fault(&file[..used], dim, marker, header, place, piece) {
+    match faults::insert_fault(&file[..used], dim, marker, found, header, place, piece) {
         faults::Fault::At { number, place: at } => Edited::Refused { number, place: at },
         faults::Fault::Fine => {
             if file.len() - used < piece.len() {
@@ -255,7 +259,7 @@ pub fn insert(
     if !piece_ok(piece) {
         return refused(1);
     }
-    match faults::open_session(file, used, journal.len(), jused, dim) {
+    match faults::open_at(file, used, journal.len(), jused, dim, place) {
         Opened::Refused {
             number,
             place: fault,
@@ -263,7 +267,7 @@ pub fn insert(
             number,
             place: fault,
         },
-        Opened::Ready { marker } => {
+        Opened::Ready { marker, found } => {
             insert_opened(
                 file,
                 used,
@@ -273,6 +277,7 @@ pub fn insert(
                 marker,
                 header,
                 place,
+                found,
                 piece,
             )
         }
@@ -286,13 +291,11 @@ fn remove_found(
     journal: &mut [u8],
     jused: usize,
     dim: usize,
-    marker: usize,
     place: usize,
     end: usize,
     above: Above,
 ) -> Edited
-    requires { ⌜ Open dim (now file) used (now journal) jused marker ⌝ }
-    requires { ⌜ Stands (now file) used marker place end above ⌝ }
+    requires { ⌜ Stands dim (now file) used (now journal) jused place end above ⌝ }
     ensures { λ r. ⌜ Stepped dim (sessionOf (now (file .entry)) used (now (journal .entry)) jused) (remove-call place) r (now (file .exit)) (now (journal .exit)) ⌝ }
 {
     let n = 2 * (end - place);
@@ -321,13 +324,13 @@ fn remove_opened(
     journal: &mut [u8],
     jused: usize,
     dim: usize,
-    marker: usize,
     place: usize,
+    found: Spotted,
 ) -> Edited
-    requires { ⌜ Open dim (now file) used (now journal) jused marker ⌝ }
+    requires { ⌜ Open dim (now file) used (now journal) jused place found ⌝ }
     ensures { λ r. ⌜ Stepped dim (sessionOf (now (file .entry)) used (now (journal .entry)) jused) (remove-call place) r (now (file .exit)) (now (journal .exit)) ⌝ }
 {
-    match reading::locate(&file[..used], place, marker) {
+    match found {
         Spotted::Refused {
             number: _,
             place: _,
@@ -336,7 +339,7 @@ fn remove_opened(
             end,
             depth: _,
             above,
-        } => remove_found(file, used, journal, jused, dim, marker, place, end, above),
+        } => remove_found(file, used, journal, jused, dim, place, end, above),
     }
 }
 
@@ -351,7 +354,7 @@ pub fn remove(
 ) -> Edited
     ensures { λ r. ⌜ Stepped dim (sessionOf (now (file .entry)) used (now (journal .entry)) jused) (remove-call place) r (now (file .exit)) (now (journal .exit)) ⌝ }
 {
-    match faults::open_session(file, used, journal.len(), jused, dim) {
+    match faults::open_at(file, used, journal.len(), jused, dim, place) {
         Opened::Refused {
             number,
             place: fault,
@@ -359,8 +362,8 @@ pub fn remove(
             number,
             place: fault,
         },
-        Opened::Ready { marker } => {
-            remove_opened(file, used, journal, jused, dim, marker, place)
+        Opened::Ready { marker: _, found } => {
+            remove_opened(file, used, journal, jused, dim, place, found)
         }
     }
 }
@@ -372,13 +375,24 @@ fn undo_flag(
     dim: usize,
     marker: usize,
     place: usize,
+    found: Spotted,
     before: usize,
 ) -> Edited
-    requires { ⌜ OpenFile dim (now file) used marker ⌝ }
+    requires { ⌜ OpenFile dim (now file) used place found ⌝ }
+    requires { ⌜ marker ≡ lastPlace (now file) used ⌝ }
     ensures { λ r. ⌜ Reversed dim (now (file .entry)) used (flag place) before r (now (file .exit)) ⌝ }
 {
     let none = [0; 2];
-    if !faults::reversible(&file[..used], dim, marker, 1, Above::Top, place, &none) {
+    if !faults::reversible(
+        &file[..used],
+        dim,
+        marker,
+        found,
+        1,
+        Above::Top,
+        place,
+        &none,
+    ) {
         return refused(19);
     }
     let deleted = words::word(&file[..used], place) / 32768 % 2 == 0;
@@ -396,15 +410,26 @@ fn undo_renamed(
     dim: usize,
     marker: usize,
     place: usize,
+    found: Spotted,
     first: u16,
     second: u16,
     before: usize,
 ) -> Edited
-    requires { ⌜ OpenFile dim (now file) used marker ⌝ }
+    requires { ⌜ OpenFile dim (now file) used place found ⌝ }
+    requires { ⌜ marker ≡ lastPlace (now file) used ⌝ }
     ensures { λ r. ⌜ Reversed dim (now (file .entry)) used (renamed place first second) before r (now (file .exit)) ⌝ }
 {
     let payload = changes::name_bytes(first, second);
-    if !faults::reversible(&file[..used], dim, marker, 2, Above::Top, place, &payload) {
+    if !faults::reversible(
+        &file[..used],
+        dim,
+        marker,
+        found,
+        2,
+        Above::Top,
+        place,
+        &payload,
+    ) {
         return refused(19);
     }
     changes::rename_cell(&mut file[..used], place, first, second);
@@ -419,15 +444,15 @@ fn undo_inserted(
     file: &mut [u8],
     used: usize,
     dim: usize,
-    marker: usize,
     header: usize,
     place: usize,
+    found: Spotted,
     before: usize,
 ) -> Edited
-    requires { ⌜ OpenFile dim (now file) used marker ⌝ }
+    requires { ⌜ OpenFile dim (now file) used place found ⌝ }
     ensures { λ r. ⌜ Reversed dim (now (file .entry)) used (inserted (placeOf header) place) before r (now (file .exit)) ⌝ }
 {
-    match reading::locate(&file[..used], place, marker) {
+    match found {
         Spotted::Refused {
             number: _,
             place: _,
@@ -458,15 +483,17 @@ fn undo_removed(
     marker: usize,
     header: usize,
     place: usize,
+    found: Spotted,
     piece: &[u8],
     before: usize,
 ) -> Edited
-    requires { ⌜ OpenFile dim (now file) used marker ⌝ }
+    requires { ⌜ OpenFile dim (now file) used place found ⌝ }
+    requires { ⌜ marker ≡ lastPlace (now file) used ⌝ }
     requires { ⌜ length (now piece) % 2 ≡ 0 ⌝ }
     ensures { λ r. ⌜ Reversed dim (now (file .entry)) used (removed (placeOf header) place (words (now (piece .entry)))) before r (now (file .exit)) ⌝ }
 {
     let above = header_at(header);
-    if !faults::reversible(&file[..used], dim, marker, 4, above, place, piece) {
+    if !faults::reversible(&file[..used], dim, marker, found, 4, above, place, piece) {
         return refused(19);
     }
     if file.len() - used < piece.len() {
@@ -479,7 +506,44 @@ fn undo_removed(
     }
 }
 
-// Undoes the last edit of an open session.
+// The last record of a journal by its used length; a bad one where that is beyond the journal.
+fn record_by(journal: &[u8], jused: usize) -> Last
+    ensures { λ r. ⌜ (jused ≤ length (now (journal .entry)) → LastRead (take jused (now (journal .entry))) r) ⌝ }
+{
+    if jused <= journal.len() {
+        return buffers::last_record(&journal[..jused]);
+    }
+    Last::Bad
+}
+
+// The place of a record, 0 of a bad one.
+fn place_in(last: Last) -> usize
+    ensures { λ r. ⌜ r ≡ placeIn last ⌝ }
+{
+    match last {
+        Last::Bad => 0,
+        Last::Flag { place, before: _ } => place,
+        Last::Renamed {
+            place,
+            first: _,
+            second: _,
+            before: _,
+        } => place,
+        Last::Inserted {
+            header: _,
+            place,
+            before: _,
+        } => place,
+        Last::Removed {
+            header: _,
+            place,
+            count: _,
+            before: _,
+        } => place,
+    }
+}
+
+// Undoes the last edit of an open session, by its record.
 fn undo_opened(
     file: &mut [u8],
     used: usize,
@@ -487,16 +551,20 @@ fn undo_opened(
     jused: usize,
     dim: usize,
     marker: usize,
+    last: Last,
+    found: Spotted,
 ) -> Edited
-    requires { ⌜ Open dim (now file) used (now journal) jused marker ⌝ }
+    requires { ⌜ Open dim (now file) used (now journal) jused (placeIn last) found ⌝ }
+    requires { ⌜ marker ≡ lastPlace (now file) used ⌝ }
+    requires { ⌜ LastRead (take jused (now journal)) last ⌝ }
     ensures { λ r. ⌜ Stepped dim (sessionOf (now (file .entry)) used (now (journal .entry)) jused) undo-call r (now (file .exit)) (now (journal .entry)) ⌝ }
 {
     if jused == 0 {
         return refused(17);
     }
-    match buffers::last_record(&journal[..jused]) {
+    match last {
         Last::Bad => refused(19),
-        Last::Flag { place, before } => undo_flag(file, used, dim, marker, place, before),
+        Last::Flag { place, before } => { undo_flag(file, used, dim, marker, place, found, before) }
         Last::Renamed {
             place,
             first,
@@ -508,6 +576,7 @@ fn undo_opened(
             dim,
             marker,
             place,
+            found,
             first as u16,
             second as u16,
             before,
@@ -516,7 +585,7 @@ fn undo_opened(
             header,
             place,
             before,
-        } => undo_inserted(file, used, dim, marker, header, place, before),
+        } => undo_inserted(file, used, dim, header, place, found, before),
         Last::Removed {
             header,
             place,
@@ -529,17 +598,21 @@ fn undo_opened(
             marker,
             header,
             place,
+            found,
             &journal[before..before + 2 * count],
             before,
         ),
     }
 }
 
-// Undoes the last edit: its record is taken off the journal, whose bytes stay, and reversed.
+// Undoes the last edit: its record is taken off the journal, whose bytes stay, and reversed. The record is read first, so
+// that its place is found while the file is judged.
 pub fn undo(file: &mut [u8], used: usize, journal: &[u8], jused: usize, dim: usize) -> Edited
     ensures { λ r. ⌜ Stepped dim (sessionOf (now (file .entry)) used (now (journal .entry)) jused) undo-call r (now (file .exit)) (now (journal .entry)) ⌝ }
 {
-    match faults::open_session(file, used, journal.len(), jused, dim) {
+    let last = record_by(journal, jused);
+    let place = place_in(last);
+    match faults::open_at(file, used, journal.len(), jused, dim, place) {
         Opened::Refused {
             number,
             place: fault,
@@ -547,6 +620,8 @@ pub fn undo(file: &mut [u8], used: usize, journal: &[u8], jused: usize, dim: usi
             number,
             place: fault,
         },
-        Opened::Ready { marker } => undo_opened(file, used, journal, jused, dim, marker),
+        Opened::Ready { marker, found } => {
+            undo_opened(file, used, journal, jused, dim, marker, last, found)
+        }
     }
 }

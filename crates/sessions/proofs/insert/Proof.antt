@@ -15,8 +15,8 @@ refused-requires c κs = search needs
 returns : tie.Need-returns
 returns c = answered ((c .refused .ensures)) (not-lent _ _ _ (sym ((c .before .before .piece-ok .ensures)) ∙ not-true _ ((c .before .if1 .taken))))
 
-open-session-requires : tie.Need-open-session-requires
-open-session-requires c κs = search needs
+open-at-requires : tie.Need-open-at-requires
+open-at-requires c κs = search needs
 
 enum-known-number : tie.Need-enum-known-number
 enum-known-number c = search needs
@@ -25,13 +25,13 @@ enum-known-marker : tie.Need-enum-known-marker
 enum-known-marker c = search needs
 
 insert-opened-requires : tie.Need-insert-opened-requires
-insert-opened-requires c κs = (opened-ready ((c .before .before .before .before .before .before .before .before .before .before .before .before .args .dim)) ((c .before .before .before .before .before .before .before .before .before .before .before .before .args .file .now)) ((c .before .before .before .before .before .before .before .before .before .before .before .before .args .used)) ((c .before .before .before .before .before .before .before .before .before .before .before .before .args .journal .now)) ((c .before .before .before .before .before .before .before .before .before .before .before .before .args .jused)) _ ((c .before .before .before .before .before .open-session .ensures)) _ ((c .before .before .before .marker .given .1)), sym ((c .before .before .before .before .before .before .before .before .piece-ok .ensures)) ∙ not-false _ ((c .before .before .before .before .before .before .before .if1 .left)))
+insert-opened-requires c κs = let o = opened-ready ((c .before .before .before .before .before .before .before .before .before .before .before .before .args .dim)) ((c .before .before .before .before .before .before .before .before .before .before .before .before .args .file .now)) ((c .before .before .before .before .before .before .before .before .before .before .before .before .args .used)) ((c .before .before .before .before .before .before .before .before .before .before .before .before .args .journal .now)) ((c .before .before .before .before .before .before .before .before .before .before .before .before .args .jused)) _ _ ((c .before .before .before .before .before .open-at .ensures)) _ _ ((c .before .before .before .marker .given .1)) in (o .0, (o .1, sym ((c .before .before .before .before .before .before .before .before .piece-ok .ensures)) ∙ not-false _ ((c .before .before .before .before .before .before .before .if1 .left))))
 
 same-length : tie.Need-same-length
 same-length c = search needs
 
 returns-2 : tie.Need-returns-2
-returns-2 c = closed _ _ _ _ _ (sym ((c .before .before .before .before .before .before .piece-ok .ensures)) ∙ not-false _ ((c .before .before .before .before .before .if1 .left))) (opened-refused ((c .before .before .before .before .before .before .before .before .before .before .args .dim)) ((c .before .before .before .before .before .before .before .before .before .before .args .file .now)) ((c .before .before .before .before .before .before .before .before .before .before .args .used)) ((c .before .before .before .before .before .before .before .before .before .before .args .journal .now)) ((c .before .before .before .before .before .before .before .before .before .before .args .jused)) _ ((c .before .before .before .open-session .ensures)) _ _ ((c .before .number .given .1)))
+returns-2 c = closed _ _ _ _ _ (sym ((c .before .before .before .before .before .before .piece-ok .ensures)) ∙ not-false _ ((c .before .before .before .before .before .if1 .left))) (opened-refused ((c .before .before .before .before .before .before .before .before .before .before .args .dim)) ((c .before .before .before .before .before .before .before .before .before .before .args .file .now)) ((c .before .before .before .before .before .before .before .before .before .before .args .used)) ((c .before .before .before .before .before .before .before .before .before .before .args .journal .now)) ((c .before .before .before .before .before .before .before .before .before .before .args .jused)) _ _ ((c .before .before .before .open-at .ensures)) _ _ ((c .before .number .given .1)))
 
 same-length-2 : tie.Need-same-length-2
 same-length-2 c = search needs
@@ -49,7 +49,7 @@ insert-spec =
     piece-ok-requires
     refused-requires
     returns
-    open-session-requires
+    open-at-requires
     enum-known-number
     enum-known-marker
     insert-opened-requires

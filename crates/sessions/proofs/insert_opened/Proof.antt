@@ -33,7 +33,7 @@ same-length : tie.Need-same-length
 same-length c = search needs
 
 returns : tie.Need-returns
-returns c = answered ((c .refused .ensures)) (insert-room _ _ _ _ _ _ ((c .before .before .before .before .before .before .before .before .before .pre .0)) (lent-below ((c .before .before .before .before .before .before .before .before .before .args .file .now)) ((c .before .before .before .before .before .before .before .before .slice-known .given))) _ _ _ (lent-below ((c .before .before .before .before .before .before .before .before .before .args .piece .now)) ((c .before .before .before .before .before .before .shared-slice-known .given))) ((c .before .before .before .before .before .before .before .before .before .pre .1)) (fine-of _ (sym ((c .before .before .before .before .insert-fault .ensures)) ∙ (c .before .before .enum-told .given .1))) ((c .before .if1 .taken)))
+returns c = answered ((c .refused .ensures)) (insert-room _ _ _ _ _ _ _ ((c .before .before .before .before .before .before .before .before .before .pre .0)) (lent-below ((c .before .before .before .before .before .before .before .before .before .args .file .now)) ((c .before .before .before .before .before .before .before .before .slice-known .given))) _ ((c .before .before .before .before .before .before .before .before .before .pre .1 .0)) _ _ (lent-below ((c .before .before .before .before .before .before .before .before .before .args .piece .now)) ((c .before .before .before .before .before .before .shared-slice-known .given))) ((c .before .before .before .before .before .before .before .before .before .pre .1 .1)) (fine-of _ (sym ((c .before .before .before .before .insert-fault .ensures)) ∙ (c .before .before .enum-told .given .1))) ((c .before .if1 .taken)))
 
 sub-if2 : tie.Need-sub-if2
 sub-if2 c = jused-within ((c .before .before .before .before .before .before .before .before .pre .0))
@@ -45,7 +45,7 @@ same-length-2 : tie.Need-same-length-2
 same-length-2 c = search needs
 
 returns-2 : tie.Need-returns-2
-returns-2 c = answered ((c .refused2 .ensures)) (insert-full _ _ _ _ _ _ ((c .before .before .before .before .before .before .before .before .before .before .pre .0)) (lent-below ((c .before .before .before .before .before .before .before .before .before .before .args .file .now)) ((c .before .before .before .before .before .before .before .before .before .slice-known .given))) _ _ _ (lent-below ((c .before .before .before .before .before .before .before .before .before .before .args .piece .now)) ((c .before .before .before .before .before .before .before .shared-slice-known .given))) ((c .before .before .before .before .before .before .before .before .before .before .pre .1)) (fine-of _ (sym ((c .before .before .before .before .before .insert-fault .ensures)) ∙ (c .before .before .before .enum-told .given .1))) ((c .before .before .if1 .left)) ((c .before .if2 .taken)))
+returns-2 c = answered ((c .refused2 .ensures)) (insert-full _ _ _ _ _ _ _ ((c .before .before .before .before .before .before .before .before .before .before .pre .0)) (lent-below ((c .before .before .before .before .before .before .before .before .before .before .args .file .now)) ((c .before .before .before .before .before .before .before .before .before .slice-known .given))) _ ((c .before .before .before .before .before .before .before .before .before .before .pre .1 .0)) _ _ (lent-below ((c .before .before .before .before .before .before .before .before .before .before .args .piece .now)) ((c .before .before .before .before .before .before .before .shared-slice-known .given))) ((c .before .before .before .before .before .before .before .before .before .before .pre .1 .1)) (fine-of _ (sym ((c .before .before .before .before .before .insert-fault .ensures)) ∙ (c .before .before .before .enum-told .given .1))) ((c .before .before .if1 .left)) ((c .before .if2 .taken)))
 
 header-number-requires : tie.Need-header-number-requires
 header-number-requires c κs = search needs
@@ -62,17 +62,17 @@ push-requires c κs = search needs
 insert-piece-requires : tie.Need-insert-piece-requires
 insert-piece-requires c κs = search needs
 
-add-t17 : tie.Need-add-t17
-add-t17 c = search needs
-
 add-t18 : tie.Need-add-t18
 add-t18 c = search needs
+
+add-t19 : tie.Need-add-t19
+add-t19 c = search needs
 
 same-length-3 : tie.Need-same-length-3
 same-length-3 c = search needs
 
 returns-3 : tie.Need-returns-3
-returns-3 c = insert-refused _ _ _ _ _ _ ((c .before .before .before .before .before .before .before .before .pre .0)) (lent-below ((c .before .before .before .before .before .before .before .before .args .file .now)) ((c .before .before .before .before .before .before .before .slice-known .given))) _ _ _ (lent-below ((c .before .before .before .before .before .before .before .before .args .piece .now)) ((c .before .before .before .before .before .shared-slice-known .given))) ((c .before .before .before .before .before .before .before .before .pre .1)) _ _ (refusal-of _ _ _ (sym ((c .before .before .before .insert-fault .ensures)) ∙ (c .before .number .given .1)))
+returns-3 c = insert-refused _ _ _ _ _ _ _ ((c .before .before .before .before .before .before .before .before .pre .0)) (lent-below ((c .before .before .before .before .before .before .before .before .args .file .now)) ((c .before .before .before .before .before .before .before .slice-known .given))) _ ((c .before .before .before .before .before .before .before .before .pre .1 .0)) _ _ (lent-below ((c .before .before .before .before .before .before .before .before .args .piece .now)) ((c .before .before .before .before .before .shared-slice-known .given))) ((c .before .before .before .before .before .before .before .before .pre .1 .1)) _ _ (refusal-of _ _ _ (sym ((c .before .before .before .insert-fault .ensures)) ∙ (c .before .number .given .1)))
 
 same-length-4 : tie.Need-same-length-4
 same-length-4 c = search needs
@@ -81,7 +81,7 @@ same-length-5 : tie.Need-same-length-5
 same-length-5 c = search needs
 
 returns-4 : tie.Need-returns-4
-returns-4 c = insert-done _ _ _ _ _ _ ((c .before .before .before .before .before .before .before .before .before .before .before .before .before .before .before .before .before .before .before .pre .0)) (lent-below ((c .before .before .before .before .before .before .before .before .before .before .before .before .before .before .before .before .before .before .before .args .file .now)) ((c .before .before .before .before .before .before .before .before .before .before .before .before .before .before .before .before .before .before .slice-known .given))) _ _ _ (lent-below ((c .before .before .before .before .before .before .before .before .before .before .before .before .before .before .before .before .before .before .before .args .piece .now)) ((c .before .before .before .before .before .before .before .before .before .before .before .before .before .before .before .before .shared-slice-known .given))) ((c .before .before .before .before .before .before .before .before .before .before .before .before .before .before .before .before .before .before .before .pre .1)) (fine-of _ (sym ((c .before .before .before .before .before .before .before .before .before .before .before .before .before .before .insert-fault .ensures)) ∙ (c .before .before .before .before .before .before .before .before .before .before .before .before .enum-told .given .1))) ((c .before .before .before .before .before .before .before .before .before .before .before .if1 .left)) ((c .before .before .before .before .before .before .before .before .before .before .if2 .left)) _ _ _ ((c .before .before .insert-piece .ensures)) ((c .before .before .before .before .before .before .before .before .header-number .ensures)) ((c .before .before .before .before .before .before .push .ensures))
+returns-4 c = insert-done _ _ _ _ _ _ _ ((c .before .before .before .before .before .before .before .before .before .before .before .before .before .before .before .before .before .before .before .pre .0)) (lent-below ((c .before .before .before .before .before .before .before .before .before .before .before .before .before .before .before .before .before .before .before .args .file .now)) ((c .before .before .before .before .before .before .before .before .before .before .before .before .before .before .before .before .before .before .slice-known .given))) _ ((c .before .before .before .before .before .before .before .before .before .before .before .before .before .before .before .before .before .before .before .pre .1 .0)) _ _ (lent-below ((c .before .before .before .before .before .before .before .before .before .before .before .before .before .before .before .before .before .before .before .args .piece .now)) ((c .before .before .before .before .before .before .before .before .before .before .before .before .before .before .before .before .shared-slice-known .given))) ((c .before .before .before .before .before .before .before .before .before .before .before .before .before .before .before .before .before .before .before .pre .1 .1)) (fine-of _ (sym ((c .before .before .before .before .before .before .before .before .before .before .before .before .before .before .insert-fault .ensures)) ∙ (c .before .before .before .before .before .before .before .before .before .before .before .before .enum-told .given .1))) ((c .before .before .before .before .before .before .before .before .before .before .before .if1 .left)) ((c .before .before .before .before .before .before .before .before .before .before .if2 .left)) _ _ _ ((c .before .before .insert-piece .ensures)) ((c .before .before .before .before .before .before .before .before .header-number .ensures)) ((c .before .before .before .before .before .before .push .ensures))
 
 pub insert-opened-spec : {M : Type 1} → statement M
 insert-opened-spec =
@@ -105,8 +105,8 @@ insert-opened-spec =
     slice-aggregate-push
     push-requires
     insert-piece-requires
-    add-t17
     add-t18
+    add-t19
     same-length-3
     returns-3
     same-length-4

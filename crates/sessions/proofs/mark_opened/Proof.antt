@@ -24,7 +24,7 @@ same-length : tie.Need-same-length
 same-length c = search needs
 
 returns : tie.Need-returns
-returns c = answered ((c .refused .ensures)) (mark-refused _ _ _ _ _ _ ((c .before .before .before .before .before .before .pre)) (lent-below ((c .before .before .before .before .before .before .args .file .now)) ((c .before .before .before .before .before .slice-known .given))) _ _ _ ((c .before .before .mark-fault .ensures)) ((c .before .if1 .taken)))
+returns c = answered ((c .refused .ensures)) (mark-refused _ _ _ _ _ _ _ ((c .before .before .before .before .before .before .pre)) (lent-below ((c .before .before .before .before .before .before .args .file .now)) ((c .before .before .before .before .before .slice-known .given))) _ _ ((c .before .before .mark-fault .ensures)) ((c .before .if1 .taken)))
 
 sub-if2 : tie.Need-sub-if2
 sub-if2 c = jused-within ((c .before .before .before .before .before .pre))
@@ -36,7 +36,7 @@ same-length-2 : tie.Need-same-length-2
 same-length-2 c = search needs
 
 returns-2 : tie.Need-returns-2
-returns-2 c = answered ((c .refused2 .ensures)) (mark-full _ _ _ _ _ _ ((c .before .before .before .before .before .before .before .pre)) (lent-below ((c .before .before .before .before .before .before .before .args .file .now)) ((c .before .before .before .before .before .before .slice-known .given))) _ _ _ ((c .before .before .before .mark-fault .ensures)) ((c .before .before .if1 .left)) ((c .before .if2 .taken)))
+returns-2 c = answered ((c .refused2 .ensures)) (mark-full _ _ _ _ _ _ _ ((c .before .before .before .before .before .before .before .pre)) (lent-below ((c .before .before .before .before .before .before .before .args .file .now)) ((c .before .before .before .before .before .before .slice-known .given))) _ _ ((c .before .before .before .mark-fault .ensures)) ((c .before .before .if1 .left)) ((c .before .if2 .taken)))
 
 slice-reshare-prefix-push : tie.Need-slice-reshare-prefix-push
 slice-reshare-prefix-push c = search needs
@@ -66,7 +66,7 @@ same-length-4 : tie.Need-same-length-4
 same-length-4 c = search needs
 
 returns-3 : tie.Need-returns-3
-returns-3 c = mark-done _ _ _ _ _ _ ((c .before .before .before .before .before .before .before .before .before .before .before .before .before .before .before .pre)) (lent-below ((c .before .before .before .before .before .before .before .before .before .before .before .before .before .before .before .args .file .now)) ((c .before .before .before .before .before .before .before .before .before .before .before .before .before .before .slice-known .given))) _ _ _ ((c .before .before .before .before .before .before .before .before .before .before .before .mark-fault .ensures)) ((c .before .before .before .before .before .before .before .before .before .before .if1 .left)) ((c .before .before .before .before .before .before .before .before .before .if2 .left)) _ _ ((c .before .before .mark-element .ensures)) ((c .before .before .before .before .before .before .push .ensures))
+returns-3 c = mark-done _ _ _ _ _ _ _ ((c .before .before .before .before .before .before .before .before .before .before .before .before .before .before .before .pre)) (lent-below ((c .before .before .before .before .before .before .before .before .before .before .before .before .before .before .before .args .file .now)) ((c .before .before .before .before .before .before .before .before .before .before .before .before .before .before .slice-known .given))) _ _ ((c .before .before .before .before .before .before .before .before .before .before .before .mark-fault .ensures)) ((c .before .before .before .before .before .before .before .before .before .before .if1 .left)) ((c .before .before .before .before .before .before .before .before .before .if2 .left)) _ _ ((c .before .before .mark-element .ensures)) ((c .before .before .before .before .before .before .push .ensures))
 
 pub mark-opened-spec : {M : Type 1} → statement M
 mark-opened-spec =

@@ -5,23 +5,23 @@ use borrow.Author.Needs.{needs}
 use Rattle.sessions.proofs.remove.Statement.{statement}
 use Rattle.sessions.proofs.remove.Tie as tie
 
-open-session-requires : tie.Need-open-session-requires
-open-session-requires c κs = search needs
+open-at-requires : tie.Need-open-at-requires
+open-at-requires c κs = search needs
 
 enum-known-number : tie.Need-enum-known-number
 enum-known-number c = search needs
 
-enum-known-marker : tie.Need-enum-known-marker
-enum-known-marker c = search needs
+enum-known-found : tie.Need-enum-known-found
+enum-known-found c = search needs
 
 remove-opened-requires : tie.Need-remove-opened-requires
-remove-opened-requires c κs = opened-ready ((c .before .before .before .before .before .before .before .before .before .args .dim)) ((c .before .before .before .before .before .before .before .before .before .args .file .now)) ((c .before .before .before .before .before .before .before .before .before .args .used)) ((c .before .before .before .before .before .before .before .before .before .args .journal .now)) ((c .before .before .before .before .before .before .before .before .before .args .jused)) _ ((c .before .before .before .before .before .open-session .ensures)) _ ((c .before .before .before .marker .given .1))
+remove-opened-requires c κs = opened-ready ((c .before .before .before .before .before .before .before .before .before .args .dim)) ((c .before .before .before .before .before .before .before .before .before .args .file .now)) ((c .before .before .before .before .before .before .before .before .before .args .used)) ((c .before .before .before .before .before .before .before .before .before .args .journal .now)) ((c .before .before .before .before .before .before .before .before .before .args .jused)) _ _ ((c .before .before .before .before .before .open-at .ensures)) _ _ ((c .before .before .before .found .given .1)) .0
 
 same-length : tie.Need-same-length
 same-length c = search needs
 
 returns : tie.Need-returns
-returns c = closed _ _ _ _ _ refl (opened-refused ((c .before .before .before .before .before .before .before .args .dim)) ((c .before .before .before .before .before .before .before .args .file .now)) ((c .before .before .before .before .before .before .before .args .used)) ((c .before .before .before .before .before .before .before .args .journal .now)) ((c .before .before .before .before .before .before .before .args .jused)) _ ((c .before .before .before .open-session .ensures)) _ _ ((c .before .number .given .1)))
+returns c = closed _ _ _ _ _ refl (opened-refused ((c .before .before .before .before .before .before .before .args .dim)) ((c .before .before .before .before .before .before .before .args .file .now)) ((c .before .before .before .before .before .before .before .args .used)) ((c .before .before .before .before .before .before .before .args .journal .now)) ((c .before .before .before .before .before .before .before .args .jused)) _ _ ((c .before .before .before .open-at .ensures)) _ _ ((c .before .number .given .1)))
 
 same-length-2 : tie.Need-same-length-2
 same-length-2 c = search needs
@@ -36,9 +36,9 @@ pub remove-spec : {M : Type 1} → statement M
 remove-spec =
     tie.close
     (tie.spec
-    open-session-requires
+    open-at-requires
     enum-known-number
-    enum-known-marker
+    enum-known-found
     remove-opened-requires
     same-length
     returns

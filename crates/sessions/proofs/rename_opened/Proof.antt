@@ -24,7 +24,7 @@ same-length : tie.Need-same-length
 same-length c = search needs
 
 returns : tie.Need-returns
-returns c = answered ((c .refused .ensures)) (rename-refused _ _ _ _ _ _ ((c .before .before .before .before .before .before .pre)) (lent-below ((c .before .before .before .before .before .before .args .file .now)) ((c .before .before .before .before .before .slice-known .given))) _ _ _ _ _ ((c .before .before .rename-fault .ensures)) ((c .before .if1 .taken)))
+returns c = answered ((c .refused .ensures)) (rename-refused _ _ _ _ _ _ _ ((c .before .before .before .before .before .before .pre)) (lent-below ((c .before .before .before .before .before .before .args .file .now)) ((c .before .before .before .before .before .slice-known .given))) _ _ _ _ ((c .before .before .rename-fault .ensures)) ((c .before .if1 .taken)))
 
 sub-if2 : tie.Need-sub-if2
 sub-if2 c = jused-within ((c .before .before .before .before .before .pre))
@@ -36,7 +36,7 @@ same-length-2 : tie.Need-same-length-2
 same-length-2 c = search needs
 
 returns-2 : tie.Need-returns-2
-returns-2 c = answered ((c .refused2 .ensures)) (rename-full _ _ _ _ _ _ ((c .before .before .before .before .before .before .before .pre)) (lent-below ((c .before .before .before .before .before .before .before .args .file .now)) ((c .before .before .before .before .before .before .slice-known .given))) _ _ _ _ _ ((c .before .before .before .rename-fault .ensures)) ((c .before .before .if1 .left)) ((c .before .if2 .taken)))
+returns-2 c = answered ((c .refused2 .ensures)) (rename-full _ _ _ _ _ _ _ ((c .before .before .before .before .before .before .before .pre)) (lent-below ((c .before .before .before .before .before .before .before .args .file .now)) ((c .before .before .before .before .before .before .slice-known .given))) _ _ _ _ ((c .before .before .before .rename-fault .ensures)) ((c .before .before .if1 .left)) ((c .before .if2 .taken)))
 
 slice-reshare-prefix-cell-name : tie.Need-slice-reshare-prefix-cell-name
 slice-reshare-prefix-cell-name c = used-within ((c .before .before .before .before .before .before .pre))
@@ -72,7 +72,7 @@ same-length-4 : tie.Need-same-length-4
 same-length-4 c = search needs
 
 returns-3 : tie.Need-returns-3
-returns-3 c = rename-done _ _ _ _ _ _ ((c .before .before .before .before .before .before .before .before .before .before .before .before .before .before .before .before .before .pre)) (lent-below ((c .before .before .before .before .before .before .before .before .before .before .before .before .before .before .before .before .before .args .file .now)) ((c .before .before .before .before .before .before .before .before .before .before .before .before .before .before .before .before .slice-known .given))) _ _ _ _ _ ((c .before .before .before .before .before .before .before .before .before .before .before .before .before .rename-fault .ensures)) ((c .before .before .before .before .before .before .before .before .before .before .before .before .if1 .left)) ((c .before .before .before .before .before .before .before .before .before .before .before .if2 .left)) ((c .before .before .before .before .before .before .before .before .before .before .before .before .before .before .before .before .before .fits .first .fits)) ((c .before .before .before .before .before .before .before .before .before .before .before .before .before .before .before .before .before .fits .second .fits)) _ _ _ ((c .before .before .rename-cell .ensures)) ((c .before .before .before .before .before .before .before .before .before .cell-name .ensures)) ((c .before .before .before .before .before .before .push .ensures))
+returns-3 c = rename-done _ _ _ _ _ _ _ ((c .before .before .before .before .before .before .before .before .before .before .before .before .before .before .before .before .before .pre)) (lent-below ((c .before .before .before .before .before .before .before .before .before .before .before .before .before .before .before .before .before .args .file .now)) ((c .before .before .before .before .before .before .before .before .before .before .before .before .before .before .before .before .slice-known .given))) _ _ _ _ ((c .before .before .before .before .before .before .before .before .before .before .before .before .before .rename-fault .ensures)) ((c .before .before .before .before .before .before .before .before .before .before .before .before .if1 .left)) ((c .before .before .before .before .before .before .before .before .before .before .before .if2 .left)) ((c .before .before .before .before .before .before .before .before .before .before .before .before .before .before .before .before .before .fits .first .fits)) ((c .before .before .before .before .before .before .before .before .before .before .before .before .before .before .before .before .before .fits .second .fits)) _ _ _ ((c .before .before .rename-cell .ensures)) ((c .before .before .before .before .before .before .before .before .before .cell-name .ensures)) ((c .before .before .before .before .before .before .push .ensures))
 
 pub rename-opened-spec : {M : Type 1} → statement M
 rename-opened-spec =

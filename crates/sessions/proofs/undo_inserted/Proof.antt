@@ -1,6 +1,4 @@
-use mathlib.Core.Path.{sym, _∙_}
 use native.Mathlib.Omega.{arith}
-use lib.Seq.{length-take-le}
 use borrow.Author.Tests.{not-true, not-false}
 use Rattle.words.proofs.Laws.{lent-below}
 use Rattle.sessions.proofs.Steps.{answered-back}
@@ -9,23 +7,14 @@ use borrow.Author.Needs.{needs}
 use Rattle.sessions.proofs.undo_inserted.Statement.{statement}
 use Rattle.sessions.proofs.undo_inserted.Tie as tie
 
-slice-reshare-prefix-locate : tie.Need-slice-reshare-prefix-locate
-slice-reshare-prefix-locate c = search needs
-
-slice-aggregate-locate : tie.Need-slice-aggregate-locate
-slice-aggregate-locate c = sym (length-take-le _ _ ((c .before .before .pre .within)))
-
-locate-requires : tie.Need-locate-requires
-locate-requires c κs = search needs
-
 enum-told : tie.Need-enum-told
 enum-told c = search needs
 
 refused-requires : tie.Need-refused-requires
 refused-requires c κs = search needs
 
-enum-known-end : tie.Need-enum-known-end
-enum-known-end c = search needs
+enum-known-found : tie.Need-enum-known-found
+enum-known-found c = search needs
 
 header-at-requires : tie.Need-header-at-requires
 header-at-requires c κs = search needs
@@ -36,56 +25,45 @@ same-above-requires c κs = search needs
 refused-requires-2 : tie.Need-refused-requires-2
 refused-requires-2 c κs = search needs
 
-same-length : tie.Need-same-length
-same-length c = search needs
-
 returns : tie.Need-returns
-returns c = answered-back ((c .refused2 .ensures)) (in-refused _ _ _ _ ((c .before .before .before .before .before .before .before .before .before .before .pre)) (lent-below ((c .before .before .before .before .before .before .before .before .before .before .args .file .now)) ((c .before .before .before .before .before .before .before .before .before .slice-known .given))) _ ((c .before .before .before .before .before .before .before .before .before .before .args .header)) _ _ _ _ _ (sym ((c .before .before .before .before .before .before .before .locate .ensures)) ∙ (c .before .before .before .before .before .end .given .1)) ((c .before .before .before .header-at .ensures)) _ ((c .before .before .same-above .ensures)) (not-true _ ((c .before .if1 .taken))))
+returns c = answered-back (c .refused2 .ensures) (in-refused _ _ _ _ _ (c .before .before .before .before .before .before .before .before .pre) (lent-below (c .before .before .before .before .before .before .before .before .args .file .now) (c .before .before .before .before .before .before .before .slice-known .given)) _ (c .before .before .before .before .before .before .before .before .args .header) _ _ _ _ (c .before .before .before .before .before .found .given .1) (c .before .before .before .header-at .ensures) _ (c .before .before .same-above .ensures) (not-true _ (c .before .if1 .taken)))
 
 sub-n : tie.Need-sub-n
-sub-n c = omega (arith, in-inside _ _ _ _ ((c .before .before .before .before .before .before .before .before .before .pre)) (lent-below ((c .before .before .before .before .before .before .before .before .before .args .file .now)) ((c .before .before .before .before .before .before .before .before .slice-known .given))) ((c .before .before .before .before .before .before .before .before .before .args .before)) _ _ _ _ (sym ((c .before .before .before .before .before .before .locate .ensures)) ∙ (c .before .before .before .before .end .given .1)) .0)
+sub-n c = omega (arith, in-inside _ _ _ _ _ (c .before .before .before .before .before .before .before .pre) (lent-below (c .before .before .before .before .before .before .before .args .file .now) (c .before .before .before .before .before .before .slice-known .given)) (c .before .before .before .before .before .before .before .args .before) _ _ _ ((c .before .before .before .before .found .given .1)) .0)
 
 remove-extent-requires : tie.Need-remove-extent-requires
 remove-extent-requires c κs = search needs
 
-mul-t21 : tie.Need-mul-t21
-mul-t21 c = omega (arith, in-inside _ _ _ _ ((c .before .before .before .before .before .before .before .before .before .before .before .before .before .pre)) (lent-below ((c .before .before .before .before .before .before .before .before .before .before .before .before .before .args .file .now)) ((c .before .before .before .before .before .before .before .before .before .before .before .before .slice-known .given))) ((c .before .before .before .before .before .before .before .before .before .before .before .before .before .args .before)) _ _ _ _ (sym ((c .before .before .before .before .before .before .before .before .before .before .locate .ensures)) ∙ (c .before .before .before .before .before .before .before .before .end .given .1)) .1, (c .before .before .before .before .before .before .before .before .before .before .before .before .before .fits .used .fits))
+mul-t18 : tie.Need-mul-t18
+mul-t18 c = omega (arith, in-inside _ _ _ _ _ (c .before .before .before .before .before .before .before .before .before .before .before .pre) (lent-below (c .before .before .before .before .before .before .before .before .before .before .before .args .file .now) (c .before .before .before .before .before .before .before .before .before .before .slice-known .given)) (c .before .before .before .before .before .before .before .before .before .before .before .args .before) _ _ _ ((c .before .before .before .before .before .before .before .before .found .given .1)) .1, (c .before .before .before .before .before .before .before .before .before .before .before .fits .used .fits))
 
-sub-t22 : tie.Need-sub-t22
-sub-t22 c = omega (arith, in-inside _ _ _ _ ((c .before .before .before .before .before .before .before .before .before .before .before .before .before .pre)) (lent-below ((c .before .before .before .before .before .before .before .before .before .before .before .before .before .args .file .now)) ((c .before .before .before .before .before .before .before .before .before .before .before .before .slice-known .given))) ((c .before .before .before .before .before .before .before .before .before .before .before .before .before .args .before)) _ _ _ _ (sym ((c .before .before .before .before .before .before .before .before .before .before .locate .ensures)) ∙ (c .before .before .before .before .before .before .before .before .end .given .1)) .1)
-
-same-length-2 : tie.Need-same-length-2
-same-length-2 c = search needs
+sub-t19 : tie.Need-sub-t19
+sub-t19 c = omega (arith, in-inside _ _ _ _ _ (c .before .before .before .before .before .before .before .before .before .before .before .pre) (lent-below (c .before .before .before .before .before .before .before .before .before .before .before .args .file .now) (c .before .before .before .before .before .before .before .before .before .before .slice-known .given)) (c .before .before .before .before .before .before .before .before .before .before .before .args .before) _ _ _ ((c .before .before .before .before .before .before .before .before .found .given .1)) .1)
 
 returns-2 : tie.Need-returns-2
-returns-2 c = answered-back ((c .refused .ensures)) (in-absent _ _ _ _ ((c .before .before .before .before .before .before .pre)) (lent-below ((c .before .before .before .before .before .before .args .file .now)) ((c .before .before .before .before .before .slice-known .given))) _ ((c .before .before .before .before .before .before .args .header)) _ _ _ (sym ((c .before .before .before .locate .ensures)) ∙ (c .before .enum-told .given .1)))
+returns-2 c = answered-back (c .refused .ensures) (in-absent _ _ _ _ _ (c .before .before .before .before .pre) (lent-below (c .before .before .before .before .args .file .now) (c .before .before .before .slice-known .given)) _ (c .before .before .before .before .args .header) _ _ (c .before .enum-told .given .1))
 
-same-length-3 : tie.Need-same-length-3
-same-length-3 c = search needs
+same-length : tie.Need-same-length
+same-length c = search needs
 
 returns-3 : tie.Need-returns-3
-returns-3 c = in-done _ _ _ _ ((c .before .before .before .before .before .before .before .before .before .before .before .before .before .pre)) (lent-below ((c .before .before .before .before .before .before .before .before .before .before .before .before .before .args .file .now)) ((c .before .before .before .before .before .before .before .before .before .before .before .before .slice-known .given))) _ ((c .before .before .before .before .before .before .before .before .before .before .before .before .before .args .header)) _ _ _ _ _ (sym ((c .before .before .before .before .before .before .before .before .before .before .locate .ensures)) ∙ (c .before .before .before .before .before .before .before .before .end .given .1)) ((c .before .before .before .before .before .before .header-at .ensures)) _ ((c .before .before .before .before .before .same-above .ensures)) (not-false _ ((c .before .before .before .before .if1 .left))) _ ((c .before .before .remove-extent .ensures))
+returns-3 c = in-done _ _ _ _ _ (c .before .before .before .before .before .before .before .before .before .before .before .pre) (lent-below (c .before .before .before .before .before .before .before .before .before .before .before .args .file .now) (c .before .before .before .before .before .before .before .before .before .before .slice-known .given)) _ (c .before .before .before .before .before .before .before .before .before .before .before .args .header) _ _ _ _ (c .before .before .before .before .before .before .before .before .found .given .1) (c .before .before .before .before .before .before .header-at .ensures) _ (c .before .before .before .before .before .same-above .ensures) (not-false _ (c .before .before .before .before .if1 .left)) _ (c .before .before .remove-extent .ensures)
 
 pub undo-inserted-spec : {M : Type 1} → statement M
 undo-inserted-spec =
     tie.close
     (tie.spec
-    slice-reshare-prefix-locate
-    slice-aggregate-locate
-    locate-requires
     enum-told
     refused-requires
-    enum-known-end
+    enum-known-found
     header-at-requires
     same-above-requires
     refused-requires-2
-    same-length
     returns
     sub-n
     remove-extent-requires
-    mul-t21
-    sub-t22
-    same-length-2
+    mul-t18
+    sub-t19
     returns-2
-    same-length-3
+    same-length
     returns-3)

@@ -1,7 +1,7 @@
-use mathlib.Core.Path.{sym}
+use mathlib.Core.Path.{ap}
 use native.Mathlib.Omega.{arith}
-use lib.Seq.{length-take-le}
-use Rattle.sessions.proofs.Opened.{open-file, jused-within, journal-most}
+use Rattle.sessions.specs.Sessions.{placeIn}
+use Rattle.sessions.proofs.Opened.{open-file, journal-most}
 use Rattle.sessions.proofs.Steps.{answered, undo-nothing}
 use Rattle.sessions.proofs.Reversals.{read-bad, read-flag, read-name, read-renamed, read-inserted, read-within, read-even, read-removed}
 use borrow.Author.Needs.{needs}
@@ -12,13 +12,7 @@ refused-requires : tie.Need-refused-requires
 refused-requires c κs = search needs
 
 returns : tie.Need-returns
-returns c = answered ((c .refused .ensures)) (undo-nothing _ _ ((c .before .before .before .before .pre .ready)) ((c .before .if1 .taken)))
-
-slice-aggregate-last-record : tie.Need-slice-aggregate-last-record
-slice-aggregate-last-record c = sym (length-take-le _ _ (jused-within ((c .before .before .before .before .pre))))
-
-last-record-requires : tie.Need-last-record-requires
-last-record-requires c κs = search needs
+returns c = answered (c .refused .ensures) (undo-nothing _ _ (c .before .before .before .before .pre .0 .ready) (c .before .if1 .taken))
 
 enum-told : tie.Need-enum-told
 enum-told c = search needs
@@ -26,38 +20,38 @@ enum-told c = search needs
 refused-requires-2 : tie.Need-refused-requires-2
 refused-requires-2 c κs = search needs
 
-enum-known-place : tie.Need-enum-known-place
-enum-known-place c = search needs
+enum-known-last : tie.Need-enum-known-last
+enum-known-last c = search needs
 
 undo-flag-requires : tie.Need-undo-flag-requires
-undo-flag-requires c κs = open-file ((c .before .before .before .before .before .before .before .before .before .args .dim)) ((c .before .before .before .before .before .before .before .before .before .args .file .now)) ((c .before .before .before .before .before .before .before .before .before .args .used)) ((c .before .before .before .before .before .before .before .before .before .args .journal .now)) ((c .before .before .before .before .before .before .before .before .before .args .jused)) _ ((c .before .before .before .before .before .before .before .before .before .pre))
+undo-flag-requires c κs = (open-file (c .before .before .before .before .before .before .before .args .dim) (c .before .before .before .before .before .before .before .args .file .now) (c .before .before .before .before .before .before .before .args .used) (c .before .before .before .before .before .before .before .args .journal .now) (c .before .before .before .before .before .before .before .args .jused) _ _ _ (ap placeIn (c .before .before .last .given .1)) (c .before .before .before .before .before .before .before .pre .0), (c .before .before .before .before .before .before .before .pre .1 .0))
 
-enum-known-place-2 : tie.Need-enum-known-place-2
-enum-known-place-2 c = search needs
+enum-known-last-2 : tie.Need-enum-known-last-2
+enum-known-last-2 c = search needs
 
 cast-undo-renamed : tie.Need-cast-undo-renamed
-cast-undo-renamed c = record { fits = read-name _ _ _ _ _ _ ((c .before .before .before .before .before .before .before .before .before .pre)) ((c .before .before .before .before .before .before .if1 .left)) _ ((c .before .before .before .before .last-record .ensures)) _ _ _ _ ((c .before .before .place2 .given .1)) .0 }
+cast-undo-renamed c = record { fits = read-name _ _ _ _ _ (c .before .before .before .before .before .before .before .pre .0 .ready) (c .before .before .before .before .if1 .left) _ (c .before .before .before .before .before .before .before .pre .1 .1) _ _ _ _ ((c .before .before .last2 .given .1)) .0 }
 
 cast-undo-renamed-2 : tie.Need-cast-undo-renamed-2
-cast-undo-renamed-2 c = record { fits = read-name _ _ _ _ _ _ ((c .before .before .before .before .before .before .before .before .before .pre)) ((c .before .before .before .before .before .before .if1 .left)) _ ((c .before .before .before .before .last-record .ensures)) _ _ _ _ ((c .before .before .place2 .given .1)) .1 }
+cast-undo-renamed-2 c = record { fits = read-name _ _ _ _ _ (c .before .before .before .before .before .before .before .pre .0 .ready) (c .before .before .before .before .if1 .left) _ (c .before .before .before .before .before .before .before .pre .1 .1) _ _ _ _ ((c .before .before .last2 .given .1)) .1 }
 
 undo-renamed-requires : tie.Need-undo-renamed-requires
-undo-renamed-requires c κs = open-file ((c .before .before .before .before .before .before .before .before .before .args .dim)) ((c .before .before .before .before .before .before .before .before .before .args .file .now)) ((c .before .before .before .before .before .before .before .before .before .args .used)) ((c .before .before .before .before .before .before .before .before .before .args .journal .now)) ((c .before .before .before .before .before .before .before .before .before .args .jused)) _ ((c .before .before .before .before .before .before .before .before .before .pre))
+undo-renamed-requires c κs = (open-file (c .before .before .before .before .before .before .before .args .dim) (c .before .before .before .before .before .before .before .args .file .now) (c .before .before .before .before .before .before .before .args .used) (c .before .before .before .before .before .before .before .args .journal .now) (c .before .before .before .before .before .before .before .args .jused) _ _ _ (ap placeIn (c .before .before .last2 .given .1)) (c .before .before .before .before .before .before .before .pre .0), (c .before .before .before .before .before .before .before .pre .1 .0))
 
-enum-known-header : tie.Need-enum-known-header
-enum-known-header c = search needs
+enum-known-last-3 : tie.Need-enum-known-last-3
+enum-known-last-3 c = search needs
 
 undo-inserted-requires : tie.Need-undo-inserted-requires
-undo-inserted-requires c κs = open-file ((c .before .before .before .before .before .before .before .before .before .args .dim)) ((c .before .before .before .before .before .before .before .before .before .args .file .now)) ((c .before .before .before .before .before .before .before .before .before .args .used)) ((c .before .before .before .before .before .before .before .before .before .args .journal .now)) ((c .before .before .before .before .before .before .before .before .before .args .jused)) _ ((c .before .before .before .before .before .before .before .before .before .pre))
+undo-inserted-requires c κs = open-file (c .before .before .before .before .before .before .before .args .dim) (c .before .before .before .before .before .before .before .args .file .now) (c .before .before .before .before .before .before .before .args .used) (c .before .before .before .before .before .before .before .args .journal .now) (c .before .before .before .before .before .before .before .args .jused) _ _ _ (ap placeIn (c .before .before .last3 .given .1)) (c .before .before .before .before .before .before .before .pre .0)
 
-enum-known-header-2 : tie.Need-enum-known-header-2
-enum-known-header-2 c = search needs
+enum-known-last-4 : tie.Need-enum-known-last-4
+enum-known-last-4 c = search needs
 
 mul-undo-removed : tie.Need-mul-undo-removed
-mul-undo-removed c = omega (arith, read-within _ _ _ _ _ _ ((c .before .before .before .before .before .before .before .before .before .pre)) ((c .before .before .before .before .before .before .if1 .left)) _ ((c .before .before .before .before .last-record .ensures)) _ _ _ _ ((c .before .before .header2 .given .1)), journal-most ((c .before .before .before .before .before .before .before .before .before .pre)))
+mul-undo-removed c = omega (arith, read-within _ _ _ _ _ (c .before .before .before .before .before .before .before .pre .0 .ready) (c .before .before .before .before .if1 .left) _ (c .before .before .before .before .before .before .before .pre .1 .1) _ _ _ _ (c .before .before .last4 .given .1), journal-most (c .before .before .before .before .before .before .before .pre .0))
 
 add-undo-removed : tie.Need-add-undo-removed
-add-undo-removed c = omega (arith, read-within _ _ _ _ _ _ ((c .before .before .before .before .before .before .before .before .before .pre)) ((c .before .before .before .before .before .before .if1 .left)) _ ((c .before .before .before .before .last-record .ensures)) _ _ _ _ ((c .before .before .header2 .given .1)), journal-most ((c .before .before .before .before .before .before .before .before .before .pre)))
+add-undo-removed c = omega (arith, read-within _ _ _ _ _ (c .before .before .before .before .before .before .before .pre .0 .ready) (c .before .before .before .before .if1 .left) _ (c .before .before .before .before .before .before .before .pre .1 .1) _ _ _ _ (c .before .before .last4 .given .1), journal-most (c .before .before .before .before .before .before .before .pre .0))
 
 sub-undo-removed : tie.Need-sub-undo-removed
 sub-undo-removed c = search needs
@@ -66,37 +60,37 @@ part-undo-removed-start : tie.Need-part-undo-removed-start
 part-undo-removed-start c = search needs
 
 part-undo-removed-end : tie.Need-part-undo-removed-end
-part-undo-removed-end c = read-within _ _ _ _ _ _ ((c .before .before .before .before .before .before .before .before .before .pre)) ((c .before .before .before .before .before .before .if1 .left)) _ ((c .before .before .before .before .last-record .ensures)) _ _ _ _ ((c .before .before .header2 .given .1))
+part-undo-removed-end c = read-within _ _ _ _ _ (c .before .before .before .before .before .before .before .pre .0 .ready) (c .before .before .before .before .if1 .left) _ (c .before .before .before .before .before .before .before .pre .1 .1) _ _ _ _ (c .before .before .last4 .given .1)
 
 undo-removed-requires : tie.Need-undo-removed-requires
-undo-removed-requires c κs = (open-file ((c .before .before .before .before .before .before .before .before .before .before .args .dim)) ((c .before .before .before .before .before .before .before .before .before .before .args .file .now)) ((c .before .before .before .before .before .before .before .before .before .before .args .used)) ((c .before .before .before .before .before .before .before .before .before .before .args .journal .now)) ((c .before .before .before .before .before .before .before .before .before .before .args .jused)) _ ((c .before .before .before .before .before .before .before .before .before .before .pre)), read-even _ _ _ _ _ _ ((c .before .before .before .before .before .before .before .before .before .before .pre)) ((c .before .before .before .before .before .before .before .if1 .left)) _ ((c .before .before .before .before .before .last-record .ensures)) _ _ _ _ ((c .before .before .before .header2 .given .1)))
+undo-removed-requires c κs = (open-file (c .before .before .before .before .before .before .before .before .args .dim) (c .before .before .before .before .before .before .before .before .args .file .now) (c .before .before .before .before .before .before .before .before .args .used) (c .before .before .before .before .before .before .before .before .args .journal .now) (c .before .before .before .before .before .before .before .before .args .jused) _ _ _ (ap placeIn (c .before .before .before .last4 .given .1)) (c .before .before .before .before .before .before .before .before .pre .0), ((c .before .before .before .before .before .before .before .before .pre .1 .0), read-even _ _ _ _ _ (c .before .before .before .before .before .before .before .before .pre .0 .ready) (c .before .before .before .before .before .if1 .left) _ (c .before .before .before .before .before .before .before .before .pre .1 .1) _ _ _ _ (c .before .before .before .last4 .given .1)))
 
 returns-2 : tie.Need-returns-2
-returns-2 c = answered ((c .refused2 .ensures)) (read-bad _ _ _ _ _ _ ((c .before .before .before .before .before .before .before .before .pre)) ((c .before .before .before .before .before .if1 .left)) _ ((c .before .before .before .last-record .ensures)) ((c .before .enum-told .given .1)))
+returns-2 c = answered (c .refused2 .ensures) (read-bad _ _ _ _ _ (c .before .before .before .before .before .before .pre .0 .ready) (c .before .before .before .if1 .left) _ (c .before .before .before .before .before .before .pre .1 .1) (c .before .enum-told .given .1))
 
 same-length : tie.Need-same-length
 same-length c = search needs
 
 returns-3 : tie.Need-returns-3
-returns-3 c = read-flag _ _ _ _ _ _ ((c .before .before .before .before .before .before .before .before .before .before .before .before .pre)) ((c .before .before .before .before .before .before .before .before .before .if1 .left)) _ ((c .before .before .before .before .before .before .before .last-record .ensures)) _ _ ((c .before .before .before .before .before .place .given .1)) _ _ ((c .before .before .undo-flag .ensures))
+returns-3 c = read-flag _ _ _ _ _ (c .before .before .before .before .before .before .before .before .before .before .pre .0 .ready) (c .before .before .before .before .before .before .before .if1 .left) _ (c .before .before .before .before .before .before .before .before .before .before .pre .1 .1) _ _ (c .before .before .before .before .before .last .given .1) _ _ (c .before .before .undo-flag .ensures)
 
 same-length-2 : tie.Need-same-length-2
 same-length-2 c = search needs
 
 returns-4 : tie.Need-returns-4
-returns-4 c = read-renamed _ _ _ _ _ _ ((c .before .before .before .before .before .before .before .before .before .before .before .before .pre)) ((c .before .before .before .before .before .before .before .before .before .if1 .left)) _ ((c .before .before .before .before .before .before .before .last-record .ensures)) _ _ _ _ ((c .before .before .before .before .before .place2 .given .1)) _ _ ((c .before .before .undo-renamed .ensures))
+returns-4 c = read-renamed _ _ _ _ _ (c .before .before .before .before .before .before .before .before .before .before .pre .0 .ready) (c .before .before .before .before .before .before .before .if1 .left) _ (c .before .before .before .before .before .before .before .before .before .before .pre .1 .1) _ _ _ _ (c .before .before .before .before .before .last2 .given .1) _ _ (c .before .before .undo-renamed .ensures)
 
 same-length-3 : tie.Need-same-length-3
 same-length-3 c = search needs
 
 returns-5 : tie.Need-returns-5
-returns-5 c = read-inserted _ _ _ _ _ _ ((c .before .before .before .before .before .before .before .before .before .before .before .before .pre)) ((c .before .before .before .before .before .before .before .before .before .if1 .left)) _ ((c .before .before .before .before .before .before .before .last-record .ensures)) _ _ _ ((c .before .before .before .before .before .header .given .1)) _ _ ((c .before .before .undo-inserted .ensures))
+returns-5 c = read-inserted _ _ _ _ _ (c .before .before .before .before .before .before .before .before .before .before .pre .0 .ready) (c .before .before .before .before .before .before .before .if1 .left) _ (c .before .before .before .before .before .before .before .before .before .before .pre .1 .1) _ _ _ (c .before .before .before .before .before .last3 .given .1) _ _ (c .before .before .undo-inserted .ensures)
 
 same-length-4 : tie.Need-same-length-4
 same-length-4 c = search needs
 
 returns-6 : tie.Need-returns-6
-returns-6 c = read-removed _ _ _ _ _ _ ((c .before .before .before .before .before .before .before .before .before .before .before .before .before .pre)) ((c .before .before .before .before .before .before .before .before .before .before .if1 .left)) _ ((c .before .before .before .before .before .before .before .before .last-record .ensures)) _ _ _ _ ((c .before .before .before .before .before .before .header2 .given .1)) _ _ ((c .before .before .undo-removed .ensures))
+returns-6 c = read-removed _ _ _ _ _ (c .before .before .before .before .before .before .before .before .before .before .before .pre .0 .ready) (c .before .before .before .before .before .before .before .before .if1 .left) _ (c .before .before .before .before .before .before .before .before .before .before .before .pre .1 .1) _ _ _ _ (c .before .before .before .before .before .before .last4 .given .1) _ _ (c .before .before .undo-removed .ensures)
 
 pub undo-opened-spec : {M : Type 1} → statement M
 undo-opened-spec =
@@ -104,19 +98,17 @@ undo-opened-spec =
     (tie.spec
     refused-requires
     returns
-    slice-aggregate-last-record
-    last-record-requires
     enum-told
     refused-requires-2
-    enum-known-place
+    enum-known-last
     undo-flag-requires
-    enum-known-place-2
+    enum-known-last-2
     cast-undo-renamed
     cast-undo-renamed-2
     undo-renamed-requires
-    enum-known-header
+    enum-known-last-3
     undo-inserted-requires
-    enum-known-header-2
+    enum-known-last-4
     mul-undo-removed
     add-undo-removed
     sub-undo-removed

@@ -27,7 +27,7 @@ same-length : tie.Need-same-length
 same-length c = search needs
 
 returns : tie.Need-returns
-returns c = answered-back ((c .refused .ensures)) (out-refused _ _ _ _ ((c .before .before .before .before .before .before .before .pre .0)) (lent-below ((c .before .before .before .before .before .before .before .args .file .now)) ((c .before .before .before .before .before .before .slice-known .given))) _ ((c .before .before .before .before .before .before .before .args .header)) _ ((c .before .before .before .before .before .before .before .args .piece .now)) ((c .before .before .before .before .before .before .before .pre .1)) _ ((c .before .before .before .before .header-at .ensures)) (sym ((c .before .before .reversible .ensures)) ∙ not-true _ ((c .before .if1 .taken))))
+returns c = answered-back ((c .refused .ensures)) (out-refused _ _ _ _ _ ((c .before .before .before .before .before .before .before .pre .0)) (lent-below ((c .before .before .before .before .before .before .before .args .file .now)) ((c .before .before .before .before .before .before .slice-known .given))) _ _ ((c .before .before .before .before .before .before .before .pre .1 .0)) ((c .before .before .before .before .before .before .before .args .header)) ((c .before .before .before .before .before .before .before .args .piece .now)) ((c .before .before .before .before .before .before .before .pre .1 .1)) _ ((c .before .before .before .before .header-at .ensures)) (sym ((c .before .before .reversible .ensures)) ∙ not-true _ ((c .before .if1 .taken))))
 
 sub-if2 : tie.Need-sub-if2
 sub-if2 c = search needs
@@ -39,19 +39,19 @@ same-length-2 : tie.Need-same-length-2
 same-length-2 c = search needs
 
 returns-2 : tie.Need-returns-2
-returns-2 c = answered-back ((c .refused2 .ensures)) (out-room _ _ _ _ ((c .before .before .before .before .before .before .before .before .pre .0)) (lent-below ((c .before .before .before .before .before .before .before .before .args .file .now)) ((c .before .before .before .before .before .before .before .slice-known .given))) _ ((c .before .before .before .before .before .before .before .before .args .header)) _ ((c .before .before .before .before .before .before .before .before .args .piece .now)) ((c .before .before .before .before .before .before .before .before .pre .1)) _ ((c .before .before .before .before .before .header-at .ensures)) (sym ((c .before .before .before .reversible .ensures)) ∙ not-false _ ((c .before .before .if1 .left))) ((c .before .if2 .taken)))
+returns-2 c = answered-back ((c .refused2 .ensures)) (out-room _ _ _ _ _ ((c .before .before .before .before .before .before .before .before .pre .0)) (lent-below ((c .before .before .before .before .before .before .before .before .args .file .now)) ((c .before .before .before .before .before .before .before .slice-known .given))) _ _ ((c .before .before .before .before .before .before .before .before .pre .1 .0)) ((c .before .before .before .before .before .before .before .before .args .header)) ((c .before .before .before .before .before .before .before .before .args .piece .now)) ((c .before .before .before .before .before .before .before .before .pre .1 .1)) _ ((c .before .before .before .before .before .header-at .ensures)) (sym ((c .before .before .before .reversible .ensures)) ∙ not-false _ ((c .before .before .if1 .left))) ((c .before .if2 .taken)))
 
 insert-piece-requires : tie.Need-insert-piece-requires
 insert-piece-requires c κs = search needs
 
-add-t15 : tie.Need-add-t15
-add-t15 c = search needs
+add-t16 : tie.Need-add-t16
+add-t16 c = search needs
 
 same-length-3 : tie.Need-same-length-3
 same-length-3 c = search needs
 
 returns-3 : tie.Need-returns-3
-returns-3 c = out-done _ _ _ _ ((c .before .before .before .before .before .before .before .before .before .before .before .pre .0)) (lent-below ((c .before .before .before .before .before .before .before .before .before .before .before .args .file .now)) ((c .before .before .before .before .before .before .before .before .before .before .slice-known .given))) _ ((c .before .before .before .before .before .before .before .before .before .before .before .args .header)) _ ((c .before .before .before .before .before .before .before .before .before .before .before .args .piece .now)) ((c .before .before .before .before .before .before .before .before .before .before .before .pre .1)) _ ((c .before .before .before .before .before .before .before .before .header-at .ensures)) (sym ((c .before .before .before .before .before .before .reversible .ensures)) ∙ not-false _ ((c .before .before .before .before .before .if1 .left))) ((c .before .before .before .before .if2 .left)) _ ((c .before .before .insert-piece .ensures))
+returns-3 c = out-done _ _ _ _ _ ((c .before .before .before .before .before .before .before .before .before .before .before .pre .0)) (lent-below ((c .before .before .before .before .before .before .before .before .before .before .before .args .file .now)) ((c .before .before .before .before .before .before .before .before .before .before .slice-known .given))) _ _ ((c .before .before .before .before .before .before .before .before .before .before .before .pre .1 .0)) ((c .before .before .before .before .before .before .before .before .before .before .before .args .header)) ((c .before .before .before .before .before .before .before .before .before .before .before .args .piece .now)) ((c .before .before .before .before .before .before .before .before .before .before .before .pre .1 .1)) _ ((c .before .before .before .before .before .before .before .before .header-at .ensures)) (sym ((c .before .before .before .before .before .before .reversible .ensures)) ∙ not-false _ ((c .before .before .before .before .before .if1 .left))) ((c .before .before .before .before .if2 .left)) _ ((c .before .before .insert-piece .ensures))
 
 pub undo-removed-spec : {M : Type 1} → statement M
 undo-removed-spec =
@@ -69,6 +69,6 @@ undo-removed-spec =
     same-length-2
     returns-2
     insert-piece-requires
-    add-t15
+    add-t16
     same-length-3
     returns-3)
