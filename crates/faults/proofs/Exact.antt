@@ -30,7 +30,7 @@ use Rattle.edits.specs.Records.{isFine, reversal, reversible}
 use Rattle.edits.proofs.Accepted.{Accepted as Standing}
 use Rattle.edits.proofs.Judging.{judged-tree}
 use Rattle.totals.proofs.Rooms.{room-is}
-use Rattle.faults.specs.Faults.{isAt, numbered, markNumber, renameNumber, removeNumber, headerOf, sameAbove, standsUnder, componentsBy, insertIn, insertRefusal, reversesAt, recordBy}
+use Rattle.faults.specs.Faults.{isAt, numbered, markNumber, renameNumber, headerOf, sameAbove, standsUnder, componentsBy, insertIn, insertRefusal, reversesAt, recordBy}
 use Rattle.faults.proofs.Opening.{AcceptedUsed}
 
 ---- the numbers
@@ -45,10 +45,6 @@ three-checks true true true = refl
 three-checks true true false = refl
 three-checks true false c = refl
 three-checks false b c = refl
-
-one-check : (a : Bool) → numbered (firstFault (check a 13 ∷ [])) ≡ unless a 13
-one-check true = refl
-one-check false = refl
 
 -- a number is none exactly where it is 0
 numbered-fine : (n : ℕ) → eqb n 0 ≡ isFine (numbered n)
@@ -119,17 +115,17 @@ module _ (dim : ℕ) (s : List ℕ) (m : ℕ) (used : AcceptedUsed dim s m) (bel
   under-is : (p : ℕ) (h : Above) → standsUnder (locateOf (words s) p m) h ≡ under? (spotIn (spotsOf dim (words s)) p) (headerOf h)
   under-is p h = ap (λ f. standsUnder f h) (found-is p) ∙ found-under (spotIn (spotsOf dim (words s)) p) h
 
-  pub mark-is : (p : ℕ) (deleted : Bool) → numbered (markNumber (words s) m p deleted) ≡ markFault (spotsOf dim (words s)) (words s) p deleted
+  pub mark-is : (p : ℕ) (deleted : Bool) → numbered (markNumber (words s) (locateOf (words s) p m) p deleted) ≡ markFault (spotsOf dim (words s)) (words s) p deleted
   unfolding markNumber markFault
   mark-is p deleted = rw (at-is p) (two-checks (startsAt (spotsOf dim (words s)) p) (flagDiffers deleted (wordAt (words s) p)))
 
-  pub rename-is : (p : ℕ) (named : Bool) → numbered (renameNumber (words s) m p named) ≡ renameFault (spotsOf dim (words s)) (words s) p named
+  pub rename-is : (p : ℕ) (named : Bool) → numbered (renameNumber (words s) (locateOf (words s) p m) p named) ≡ renameFault (spotsOf dim (words s)) (words s) p named
   unfolding renameNumber renameFault
   rename-is p named = rw (at-is p) (three-checks (startsAt (spotsOf dim (words s)) p) (isCell (words s) p) named)
 
-  pub remove-is : (p : ℕ) → numbered (removeNumber (words s) m p) ≡ removeFault (spotsOf dim (words s)) p
-  unfolding removeNumber removeFault
-  remove-is p = rw (at-is p) (one-check (startsAt (spotsOf dim (words s)) p))
+  pub remove-is : (p : ℕ) → unless (isAt (locateOf (words s) p m)) 13 ≡ removeFault (spotsOf dim (words s)) p
+  unfolding removeFault
+  remove-is p = rw (at-is p) refl
 
   -- the list at the top ends at the marker
   marker-is : (p : ℕ) → eqb m p ≡ eqb p (length (words s) - 1)
@@ -139,46 +135,46 @@ module _ (dim : ℕ) (s : List ℕ) (m : ℕ) (used : AcceptedUsed dim s m) (bel
       go true q = let h = eqb-true m p q in let l = used .last in sym (eq-eqb p (length (words s) - 1) (omega arith))
       go false q = let h = eqb-false m p q in let l = used .last in sym (ne-eqb p (length (words s) - 1) (λ z. h (omega arith)))
 
-  top-is : (p : ℕ) (x : List ℕ) → insertRefusal dim s m Top p x ≡ insertFault dim (spotsOf dim (words s)) (words s) none p x
+  top-is : (p : ℕ) (x : List ℕ) → insertRefusal dim s m (locateOf (words s) p m) Top p x ≡ insertFault dim (spotsOf dim (words s)) (words s) none p x
   unfolding insertRefusal insertFault gapOk pieceFault
   top-is p x = rw (under-is p Top, marker-is p)
 
-  header-is : (h p : ℕ) (x : List ℕ) → insertRefusal dim s m (Under h) p x ≡ insertFault dim (spotsOf dim (words s)) (words s) (some h) p x
+  header-is : (h p : ℕ) (x : List ℕ) → insertRefusal dim s m (locateOf (words s) p m) (Under h) p x ≡ insertFault dim (spotsOf dim (words s)) (words s) (some h) p x
   unfolding insertRefusal insertFault gapOk pieceFault
   header-is h p x =
-      ap (λ f. insertIn (componentsBy f (typeAt (words s) h)) dim s m (Under h) p x) (found-is h)
+      ap (λ f. insertIn (componentsBy f (typeAt (words s) h)) dim s (locateOf (words s) p m) (Under h) p x) (found-is h)
       ∙ go (spotIn (spotsOf dim (words s)) h) refl (isHeader (typeAt (words s) h)) refl
     where
       go : (o : Option Spot) → spotIn (spotsOf dim (words s)) h ≡ o → (b : Bool) → isHeader (typeAt (words s) h) ≡ b →
-          insertIn (componentsBy (foundBy o) (typeAt (words s) h)) dim s m (Under h) p x ≡ insertFault dim (spotsOf dim (words s)) (words s) (some h) p x
+          insertIn (componentsBy (foundBy o) (typeAt (words s) h)) dim s (locateOf (words s) p m) (Under h) p x ≡ insertFault dim (spotsOf dim (words s)) (words s) (some h) p x
       go none i b t = rw i
       go (some y) i false t = rw (i, t)
       go (some y) i true t = rw (t, i, under-is p (Under h), room-is dim (length x) h s y (standing dim s m used below) i)
 
-  pub insert-is : (h : Above) (p : ℕ) (x : List ℕ) → insertRefusal dim s m h p x ≡ insertFault dim (spotsOf dim (words s)) (words s) (headerOf h) p x
+  pub insert-is : (h : Above) (p : ℕ) (x : List ℕ) → insertRefusal dim s m (locateOf (words s) p m) h p x ≡ insertFault dim (spotsOf dim (words s)) (words s) (headerOf h) p x
   insert-is Top p x = top-is p x
   insert-is (Under h) p x = header-is h p x
 
-  pub reversible-is : (kind : ℕ) (h : Above) (p : ℕ) (x : List ℕ) → reversesAt dim s m kind h p x ≡ reversible dim (words s) (recordBy kind (headerOf h) p x)
+  pub reversible-is : (kind : ℕ) (h : Above) (p : ℕ) (x : List ℕ) → reversesAt dim s m (locateOf (words s) p m) kind h p x ≡ reversible dim (words s) (recordBy kind (headerOf h) p x)
   unfolding reversesAt reversible reversal editFault markFault removeFault
   reversible-is kind h p x = go (eqb kind 1) (eqb kind 2) (eqb kind 3)
     where
       flag-is : isAt (locateOf (words s) p m) ≡ reversible dim (words s) (recordBy 1 (headerOf h) p x)
       flag-is = at-is p ∙ turned-fine (startsAt (spotsOf dim (words s)) p) (flagDiffers (eqb (deletedOf (wordAt (words s) p)) 0) (wordAt (words s) p)) (flag-turned (wordAt (words s) p))
 
-      renamed-is : eqb (renameNumber (words s) m p (nameOk (wordAt x 0) (wordAt x 1))) 0 ≡ reversible dim (words s) (recordBy 2 (headerOf h) p x)
-      renamed-is = numbered-fine (renameNumber (words s) m p (nameOk (wordAt x 0) (wordAt x 1))) ∙ ap isFine (rename-is p (nameOk (wordAt x 0) (wordAt x 1)))
+      renamed-is : eqb (renameNumber (words s) (locateOf (words s) p m) p (nameOk (wordAt x 0) (wordAt x 1))) 0 ≡ reversible dim (words s) (recordBy 2 (headerOf h) p x)
+      renamed-is = numbered-fine (renameNumber (words s) (locateOf (words s) p m) p (nameOk (wordAt x 0) (wordAt x 1))) ∙ ap isFine (rename-is p (nameOk (wordAt x 0) (wordAt x 1)))
 
       inserted-is : standsUnder (locateOf (words s) p m) h ≡ reversible dim (words s) (recordBy 3 (headerOf h) p x)
       inserted-is = under-is p h ∙ under-starts (spotIn (spotsOf dim (words s)) p) (headerOf h)
 
-      removed-is : isFine (insertRefusal dim s m h p x) ≡ reversible dim (words s) (recordBy 4 (headerOf h) p x)
+      removed-is : isFine (insertRefusal dim s m (locateOf (words s) p m) h p x) ≡ reversible dim (words s) (recordBy 4 (headerOf h) p x)
       removed-is = ap isFine (insert-is h p x)
 
       go : (a b c : Bool) →
           cond a (isAt (locateOf (words s) p m))
-          (cond b (eqb (renameNumber (words s) m p (nameOk (wordAt x 0) (wordAt x 1))) 0)
-          (cond c (standsUnder (locateOf (words s) p m) h) (isFine (insertRefusal dim s m h p x))))
+          (cond b (eqb (renameNumber (words s) (locateOf (words s) p m) p (nameOk (wordAt x 0) (wordAt x 1))) 0)
+          (cond c (standsUnder (locateOf (words s) p m) h) (isFine (insertRefusal dim s m (locateOf (words s) p m) h p x))))
           ≡ reversible dim (words s)
           (cond a (recordBy 1 (headerOf h) p x) (cond b (recordBy 2 (headerOf h) p x) (cond c (recordBy 3 (headerOf h) p x) (recordBy 4 (headerOf h) p x))))
       go true b c = flag-is

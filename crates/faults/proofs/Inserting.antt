@@ -8,7 +8,7 @@ use lib.ListN.{length}
 use lib.Dec.{eqb}
 use Rattle.words.specs.Words.{words}
 use Rattle.reading.specs.declared.Above.{Above}
-use Rattle.reading.specs.Descent.{locateOf}
+use Rattle.reading.specs.declared.Spotted.{Spotted}
 use Rattle.edits.specs.Allowed.{Fault?, fine, fault, orElse}
 use Rattle.edits.specs.Records.{isFine}
 use Rattle.faults.specs.declared.Components.the-variants as components
@@ -40,29 +40,29 @@ some (fault m q) n p e = refl
 
 ---- the steps
 
-module _ (dim : ℕ) (s : List ℕ) (marker : ℕ) (header : Above) (p : ℕ) (x : List ℕ) where
-  pub insert-fine : answerOf (insertRefusal dim s marker header p x) ≡ answer.Fine → true ≡ isFine (insertRefusal dim s marker header p x)
-  insert-fine e = none (insertRefusal dim s marker header p x) e
+module _ (dim : ℕ) (s : List ℕ) (marker : ℕ) (found : Spotted) (header : Above) (p : ℕ) (x : List ℕ) where
+  pub insert-fine : answerOf (insertRefusal dim s marker found header p x) ≡ answer.Fine → true ≡ isFine (insertRefusal dim s marker found header p x)
+  insert-fine e = none (insertRefusal dim s marker found header p x) e
 
-  pub insert-refused : (n q : ℕ) → answerOf (insertRefusal dim s marker header p x) ≡ answer.At n q → false ≡ isFine (insertRefusal dim s marker header p x)
-  insert-refused n q e = some (insertRefusal dim s marker header p x) n q e
+  pub insert-refused : (n q : ℕ) → answerOf (insertRefusal dim s marker found header p x) ≡ answer.At n q → false ≡ isFine (insertRefusal dim s marker found header p x)
+  insert-refused n q e = some (insertRefusal dim s marker found header p x) n q e
 
-  pub insert-absent : componentsOf (words s) marker header ≡ components.Absent → answer.At 13 0 ≡ answerOf (insertRefusal dim s marker header p x)
+  pub insert-absent : componentsOf (words s) marker header ≡ components.Absent → answer.At 13 0 ≡ answerOf (insertRefusal dim s marker found header p x)
   unfolding insertRefusal
   insert-absent e = rw e
 
   module _ (end depth under : ℕ) (is : componentsOf (words s) marker header ≡ components.Listed end depth under) where
-    pub insert-elsewhere : (standsUnder (locateOf (words s) p marker) header || eqb end p) ≡ false → answer.At 13 0 ≡ answerOf (insertRefusal dim s marker header p x)
+    pub insert-elsewhere : (standsUnder found header || eqb end p) ≡ false → answer.At 13 0 ≡ answerOf (insertRefusal dim s marker found header p x)
     unfolding insertRefusal
     insert-elsewhere g = rw (is, g)
 
-    module _ (gap : (standsUnder (locateOf (words s) p marker) header || eqb end p) ≡ true) where
+    module _ (gap : (standsUnder found header || eqb end p) ≡ true) where
       pub insert-piece : (n q : ℕ) → answerOf (pieceRefusal dim depth under x) ≡ answer.At n q →
-          answer.At n q ≡ answerOf (insertRefusal dim s marker header p x)
+          answer.At n q ≡ answerOf (insertRefusal dim s marker found header p x)
       unfolding insertRefusal
       insert-piece n q e = rw (is, gap) (first (pieceRefusal dim depth under x) (roomUnder s header (length x)) n q e)
 
       pub insert-room : answerOf (pieceRefusal dim depth under x) ≡ answer.Fine →
-          answerOf (roomUnder s header (length x)) ≡ answerOf (insertRefusal dim s marker header p x)
+          answerOf (roomUnder s header (length x)) ≡ answerOf (insertRefusal dim s marker found header p x)
       unfolding insertRefusal
       insert-room e = rw (is, gap) (rest (pieceRefusal dim depth under x) (roomUnder s header (length x)) e)

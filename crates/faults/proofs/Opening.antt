@@ -1,7 +1,7 @@
 -- Opening a session: 1 for the lengths, the marker's word and the dimension are one refusal, and then judging the used
 -- part says the rest.
 use Prim.Native.Nat.{ℕ, _+_, _-_, _/_, _%_, _≤_}
-use mathlib.Core.Path.{_≡_, refl, ap}
+use mathlib.Core.Path.{_≡_, refl, _∙_}
 use mathlib.Core.Bool.{Bool, true, false, cond, _&&_, _||_, and-false, and-true}
 use mathlib.Core.List.{List}
 use native.Mathlib.Omega.{arith}
@@ -16,6 +16,11 @@ use Rattle.files.specs.declared.Verdict.{Verdict}
 use Rattle.files.specs.declared.Verdict.the-variants.{Good, Fault}
 use Rattle.files.specs.declared.Judged.{Judged}
 use Rattle.files.specs.declared.Judged.the-variants as judged
+use Rattle.reading.specs.declared.Spotted.{Spotted}
+use Rattle.reading.specs.declared.Placed.the-variants as placed
+use Rattle.reading.specs.Places.{placedAt}
+use Rattle.reading.specs.Descent.{locateOf}
+use Rattle.reading.proofs.Places.{refused-judged, judged-located}
 use Rattle.edits.specs.Allowed.{fine, orElse, unless}
 use Rattle.edits.specs.Calls.{usedWords, endsInMarker, sessionOk, fileFault, sessionFault}
 use Rattle.edits.proofs.Faults.{orElse-fine, unless-fine}
@@ -25,43 +30,51 @@ use Rattle.faults.specs.Opening.{openedBy, lengthsOk, sessionOf}
 
 ---- the used file alone
 
--- what is opened, by what the used file is judged to be and the place of its last word
-unfoldable pub openedJudged : Judged → ℕ → Opened
-openedJudged (judged.Accepted e d m) last = cond (eqb m last) (Ready last) (Refused 1 0)
-openedJudged (judged.Refused n p) last = Refused n p
+-- what is opened, by what the used file is judged to be, the place of its last word and what was found
+unfoldable pub openedJudged : Judged → ℕ → Spotted → Opened
+openedJudged (judged.Accepted e d m) last found = cond (eqb m last) (Ready last found) (Refused 1 0)
+openedJudged (judged.Refused n p) last found = Refused n p
 
-module _ (dim : ℕ) (s : List ℕ) (even : length s % 2 ≡ 0) (small : length s ≤ 1048576) where
-  judged-is : (last : ℕ) →
-      openedJudged (judgeOf dim s) last ≡ openedBy (orElse (unless (eqb dim 2 || eqb dim 3) 1) (fileFault (topOf dim (words s)) last)) last
+module _ (dim : ℕ) (s : List ℕ) (even : length s % 2 ≡ 0) (small : length s ≤ 1048576) (at : ℕ) where
+  abbrev last : ℕ
+  last = length (words s) - 1
+
+  judged-is : openedJudged (judgeOf dim s) last (locateOf (words s) at last) ≡ openedBy (orElse (unless (eqb dim 2 || eqb dim 3) 1) (fileFault (topOf dim (words s)) last)) (words s) at
   unfolding judgeOf callOk openedJudged
-  judged-is last = rw (eq-eqb (length s % 2) 0 even, le-leb (length s) 1048576 small) (go (eqb dim 2 || eqb dim 3) (topOf dim (words s)))
+  judged-is = rw (eq-eqb (length s % 2) 0 even, le-leb (length s) 1048576 small) (go (eqb dim 2 || eqb dim 3) (topOf dim (words s)))
     where
-      marker : (b : Bool) → cond b (Ready last) (Refused 1 0) ≡ openedBy (unless b 1) last
+      marker : (b : Bool) → cond b (Ready last (locateOf (words s) at last)) (Refused 1 0) ≡ openedBy (unless b 1) (words s) at
       marker true = refl
       marker false = refl
 
-      go : (b : Bool) (v : Verdict) → openedJudged (cond (b && (true && true)) (answer v) (judged.Refused 1 0)) last ≡ openedBy (orElse (unless b 1) (fileFault v last)) last
+      go : (b : Bool) (v : Verdict) →
+          openedJudged (cond (b && (true && true)) (answer v) (judged.Refused 1 0)) last (locateOf (words s) at last) ≡ openedBy (orElse (unless b 1) (fileFault v last)) (words s) at
       go true (Good next e d k) = marker (eqb next last)
       go true (Fault n p) = refl
       go false v = refl
 
-  -- the same, with the last word's place by the words
-  module _ (v : Judged) (is : judgeOf dim s ≡ v) where
-    pub opened-is : openedJudged v (length s / 2 - 1)
-        ≡ openedBy (orElse (unless (eqb dim 2 || eqb dim 3) 1) (fileFault (topOf dim (words s)) (length (words s) - 1))) (length (words s) - 1)
-    opened-is = rw (length-words s, ← is) (judged-is (length s / 2 - 1))
+  -- by what was answered of the file and the place; the last word's place is by the bytes
+  pub opened-refused : (n p : ℕ) → placedAt dim s at ≡ placed.Refused n p →
+      Refused n p ≡ openedBy (orElse (unless (eqb dim 2 || eqb dim 3) 1) (fileFault (topOf dim (words s)) last)) (words s) at
+  unfolding openedJudged
+  opened-refused n p e = rw (refused-judged dim s at n p e) at judged-is
 
-pub opened-ready : (e d m last : ℕ) → m ≡ last → Ready m ≡ openedJudged (judged.Accepted e d m) last
-unfolding openedJudged
-opened-ready e d m last h = rw (eq-eqb m last h) (ap Ready h)
+  module _ (m : ℕ) (found : Spotted) (e : placedAt dim s at ≡ placed.Judged m found) where
+    opened-by : openedJudged (judged.Accepted (judged-located dim s at m found e .elements) (judged-located dim s at m found e .deepest) m) last (locateOf (words s) at last)
+        ≡ openedBy (orElse (unless (eqb dim 2 || eqb dim 3) 1) (fileFault (topOf dim (words s)) last)) (words s) at
+    opened-by = rw (judged-located dim s at m found e .judged) at judged-is
 
-pub opened-early : (e d m last : ℕ) → (m ≡ last → ⊥) → Refused 1 0 ≡ openedJudged (judged.Accepted e d m) last
-unfolding openedJudged
-opened-early e d m last h = rw (ne-eqb m last h)
+    pub opened-ready : m ≡ length s / 2 - 1 → Ready m found ≡ openedBy (orElse (unless (eqb dim 2 || eqb dim 3) 1) (fileFault (topOf dim (words s)) last)) (words s) at
+    unfolding openedJudged
+    opened-ready h =
+        let w = length-words s in
+        let q : m ≡ length (words s) - 1 = omega arith in
+        let f = judged-located dim s at m found e .is in
+        (let z : Ready m found ≡ Ready last (locateOf (words s) at last) = cc in z) ∙ (rw (eq-eqb m last q) at opened-by)
 
-pub opened-refused : (n p last : ℕ) → Refused n p ≡ openedJudged (judged.Refused n p) last
-unfolding openedJudged
-opened-refused n p last = refl
+    pub opened-early : (m ≡ length s / 2 - 1 → ⊥) → Refused 1 0 ≡ openedBy (orElse (unless (eqb dim 2 || eqb dim 3) 1) (fileFault (topOf dim (words s)) last)) (words s) at
+    unfolding openedJudged
+    opened-early h = let w = length-words s in rw (ne-eqb m last (λ z. h (omega arith))) at opened-by
 
 ---- the two buffers
 
@@ -112,14 +125,14 @@ module _ (dim : ℕ) (file : List ℕ) (used size jused : ℕ) where
       let sm = l .small in
       record { within = in′; even = omega arith; two = omega arith; small = omega arith }
 
-  module _ (journal : List ℕ) (is : length journal ≡ size) where
-    pub open-refused : rest ≡ false → Refused 1 0 ≡ openedBy (sessionFault dim (sessionOf file used journal jused)) (length (usedWords file used) - 1)
+  module _ (at : ℕ) (journal : List ℕ) (is : length journal ≡ size) where
+    pub open-refused : rest ≡ false → Refused 1 0 ≡ openedBy (sessionFault dim (sessionOf file used journal jused)) (usedWords file used) at
     unfolding sessionFault sessionOk
     open-refused e = rw (is, e, and-false (eqb dim 2 || eqb dim 3))
 
     pub open-judged : rest ≡ true → (r : Opened) →
-        r ≡ openedBy (orElse (unless (eqb dim 2 || eqb dim 3) 1) (fileFault (topOf dim (usedWords file used)) (length (usedWords file used) - 1))) (length (usedWords file used) - 1) →
-        r ≡ openedBy (sessionFault dim (sessionOf file used journal jused)) (length (usedWords file used) - 1)
+        r ≡ openedBy (orElse (unless (eqb dim 2 || eqb dim 3) 1) (fileFault (topOf dim (usedWords file used)) (length (usedWords file used) - 1))) (usedWords file used) at →
+        r ≡ openedBy (sessionFault dim (sessionOf file used journal jused)) (usedWords file used) at
     unfolding sessionFault sessionOk
     open-judged e r h = rw (is, e, and-true (eqb dim 2 || eqb dim 3)) h
 

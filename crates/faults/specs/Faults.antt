@@ -1,5 +1,6 @@
--- When an edit is refused, by a descent to its place, not by the list of all elements. On an accepted file these are the
--- refusals of edits' specs/Allowed (proofs/Exact). ws are the used words, marker is the last one's place.
+-- When an edit is refused, by what was found at its place, not by the list of all elements. On an accepted file these are
+-- the refusals of edits' specs/Allowed (proofs/Exact). ws are the used words, marker is the last one's place, found is what
+-- starts at the place p.
 use Prim.Native.Nat.{ℕ, _+_}
 use mathlib.Core.List.{List, [], _∷_}
 use mathlib.Core.Bool.{Bool, true, false, cond, _||_}
@@ -35,18 +36,14 @@ abbrev pub numbered : ℕ → Fault?
 numbered n = cond (eqb n 0) fine (fault n 0)
 
 -- the number that marking answers: 13, 14, or 0 for none
-unfoldable pub markNumber : List ℕ → ℕ → ℕ → Bool → ℕ
-markNumber ws marker p deleted =
-    firstFault (check (isAt (locateOf ws p marker)) 13 ∷ check (flagDiffers deleted (wordAt ws p)) 14 ∷ [])
+unfoldable pub markNumber : List ℕ → Spotted → ℕ → Bool → ℕ
+markNumber ws found p deleted =
+    firstFault (check (isAt found) 13 ∷ check (flagDiffers deleted (wordAt ws p)) 14 ∷ [])
 
 -- the number that renaming answers: 13, 18, 12 for the text, or 0 for none
-unfoldable pub renameNumber : List ℕ → ℕ → ℕ → Bool → ℕ
-renameNumber ws marker p named =
-    firstFault (check (isAt (locateOf ws p marker)) 13 ∷ check (isCell ws p) 18 ∷ check named 12 ∷ [])
-
--- the number that removing answers: 13, or 0 for none
-unfoldable pub removeNumber : List ℕ → ℕ → ℕ → ℕ
-removeNumber ws marker p = firstFault (check (isAt (locateOf ws p marker)) 13 ∷ [])
+unfoldable pub renameNumber : List ℕ → Spotted → ℕ → Bool → ℕ
+renameNumber ws found p named =
+    firstFault (check (isAt found) 13 ∷ check (isCell ws p) 18 ∷ check named 12 ∷ [])
 
 -- the header place that is named, none for the top
 abbrev pub headerOf : Above → Option ℕ
@@ -85,14 +82,14 @@ roomUnder s Top n = fine
 roomUnder s (Under h) n = roomFaultBy (roomOf n h s)
 
 -- an insert's refusal: 13, the piece's own, 8
-abbrev pub insertIn : Components → ℕ → List ℕ → ℕ → Above → ℕ → List ℕ → Fault?
-insertIn components.Absent dim s marker header p x = fault 13 0
-insertIn (components.Listed end depth under) dim s marker header p x =
-    orElse (unless (standsUnder (locateOf (words s) p marker) header || eqb end p) 13)
+abbrev pub insertIn : Components → ℕ → List ℕ → Spotted → Above → ℕ → List ℕ → Fault?
+insertIn components.Absent dim s found header p x = fault 13 0
+insertIn (components.Listed end depth under) dim s found header p x =
+    orElse (unless (standsUnder found header || eqb end p) 13)
     (orElse (pieceRefusal dim depth under x) (roomUnder s header (length x)))
 
-unfoldable pub insertRefusal : ℕ → List ℕ → ℕ → Above → ℕ → List ℕ → Fault?
-insertRefusal dim s marker header p x = insertIn (componentsOf (words s) marker header) dim s marker header p x
+unfoldable pub insertRefusal : ℕ → List ℕ → ℕ → Spotted → Above → ℕ → List ℕ → Fault?
+insertRefusal dim s marker found header p x = insertIn (componentsOf (words s) marker header) dim s found header p x
 
 -- the answer for a refusal or none
 abbrev pub answerOf : Fault? → Fault
@@ -102,12 +99,12 @@ answerOf (fault n p) = answer.At n p
 -- whether a record's reversal is allowed, by its kind, its header place, its place and its payload x: of a flag the
 -- element is there; of a rename the old words are a name that the cell can take; of an insert the element stands
 -- directly under the header; of a remove the payload can be put back
-unfoldable pub reversesAt : ℕ → List ℕ → ℕ → ℕ → Above → ℕ → List ℕ → Bool
-reversesAt dim s marker kind header p x =
-    cond (eqb kind 1) (isAt (locateOf (words s) p marker))
-    (cond (eqb kind 2) (eqb (renameNumber (words s) marker p (nameOk (wordAt x 0) (wordAt x 1))) 0)
-    (cond (eqb kind 3) (standsUnder (locateOf (words s) p marker) header)
-    (isFine (insertRefusal dim s marker header p x))))
+unfoldable pub reversesAt : ℕ → List ℕ → ℕ → Spotted → ℕ → Above → ℕ → List ℕ → Bool
+reversesAt dim s marker found kind header p x =
+    cond (eqb kind 1) (isAt found)
+    (cond (eqb kind 2) (eqb (renameNumber (words s) found p (nameOk (wordAt x 0) (wordAt x 1))) 0)
+    (cond (eqb kind 3) (standsUnder found header)
+    (isFine (insertRefusal dim s marker found header p x))))
 
 -- the record of a kind (1 flag, 2 rename, 3 insert, else remove)
 abbrev pub recordBy : ℕ → Option ℕ → ℕ → List ℕ → Rec

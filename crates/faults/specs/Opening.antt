@@ -8,13 +8,14 @@ use lib.ListN.{length}
 use lib.Dec.{eqb, leb}
 use Rattle.edits.specs.Allowed.{Fault?, fine, fault}
 use Rattle.edits.specs.Calls.{Session, usedWords, sessionFault}
+use Rattle.reading.specs.Descent.{locateOf}
 use Rattle.faults.specs.declared.Opened.{Opened}
 use Rattle.faults.specs.declared.Opened.the-variants.{Ready, Refused}
 
--- the marker's place, or the refusal
-abbrev pub openedBy : Fault? → ℕ → Opened
-openedBy fine marker = Ready marker
-openedBy (fault n p) marker = Refused n p
+-- the marker's place, which is the last of the words, and what starts at a place before it, or the refusal
+abbrev pub openedBy : Fault? → List ℕ → ℕ → Opened
+openedBy fine ws at = Ready (length ws - 1) (locateOf ws at (length ws - 1))
+openedBy (fault n p) ws at = Refused n p
 
 -- 1 unless a buffer has an even length of at most 1,048,576 bytes, and its used length is even and within it
 abbrev pub lengthsOk : ℕ → ℕ → Bool
@@ -25,7 +26,7 @@ abbrev pub sessionOf : List ℕ → ℕ → List ℕ → ℕ → Session
 sessionOf file used journal jused = record { file = file; used = used; journal = journal; jused = jused }
 
 -- what opening answers, with every journal of so many bytes: of a journal it looks at its lengths alone
-abbrev pub OpenedAs : ℕ → List ℕ → ℕ → ℕ → ℕ → Opened → Type 0
-OpenedAs dim file used size jused r =
+abbrev pub OpenedAs : ℕ → List ℕ → ℕ → ℕ → ℕ → ℕ → Opened → Type 0
+OpenedAs dim file used size jused at r =
     (journal : List ℕ) → length journal ≡ size →
-    r ≡ openedBy (sessionFault dim (sessionOf file used journal jused)) (length (usedWords file used) - 1)
+    r ≡ openedBy (sessionFault dim (sessionOf file used journal jused)) (usedWords file used) at

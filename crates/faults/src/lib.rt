@@ -1,5 +1,5 @@
 // Whether a call of a session is refused, and with which number and place: opening it, and each edit on the used part
-// of an accepted file, with the place of its marker. Nothing is changed here. Definitions: specs/Opening, specs/Faults;
+// of an accepted file, with the place of its marker and what was found at the edit's own. Nothing is changed here. Definitions: specs/Opening, specs/Faults;
 // proofs/Exact: on an accepted file they are those of the crate edits.
 ghost use mathlib.Core.Path.{_≡_};
 ghost use mathlib.Core.Bool.{_&&_, _||_};
@@ -9,17 +9,16 @@ ghost use lib.Dec.{eqb};
 ghost use Rattle.words.specs.Words.{words};
 ghost use Rattle.files.specs.Judge.{topOf};
 ghost use Rattle.reading.specs.declared.Above.the-variants.{Under};
-ghost use Rattle.reading.specs.Descent.{locateOf};
 ghost use Rattle.edits.specs.Allowed.{orElse, unless, flagDiffers, isCell};
 ghost use Rattle.edits.specs.Calls.{endsInMarker, usedWords, fileFault};
 ghost use Rattle.faults.specs.Opening.{openedBy, lengthsOk, OpenedAs};
-ghost use Rattle.faults.specs.Faults.{isAt, markNumber, renameNumber, removeNumber, sameAbove, standsUnder, componentsOf, pieceRefusal, roomUnder, insertRefusal, answerOf, reversesAt};
+ghost use Rattle.faults.specs.Faults.{isAt, markNumber, renameNumber, sameAbove, standsUnder, componentsOf, pieceRefusal, roomUnder, insertRefusal, answerOf, reversesAt};
 use reading::Above;
 use reading::Spotted;
 
-// What opening a session answers: the place of the file's marker, or a refusal.
+// What opening a session answers: the place of the file's marker and what starts at a place of it, or a refusal.
 pub enum Opened {
-    Ready { marker: usize },
+    Ready { marker: usize, found: Spotted },
     Refused { number: usize, place: usize },
 }
 
@@ -79,21 +78,23 @@ fn buffers_ok(file: &[u8], used: usize, journal_len: usize, jused: usize) -> boo
     ends_in_marker(&file[..used])
 }
 
-// What judging the used file answers; its marker is due at the last used word.
-fn open_file(used: &[u8], dim: usize) -> Opened
+// What judging the used file answers, with what starts at a place; its marker is due at the last used word.
+fn open_file(used: &[u8], dim: usize, place: usize) -> Opened
     requires { ⌜ (length (now used) % 2 ≡ 0) × ((2 ≤ length (now used)) × (length (now used) ≤ 1048576)) ⌝ }
-    ensures { λ r. ⌜ r ≡ openedBy (orElse (unless (eqb dim 2 || eqb dim 3) 1) (fileFault (topOf dim (words (now (used .entry)))) (length (words (now (used .entry))) - 1))) (length (words (now (used .entry))) - 1) ⌝ }
+    ensures { λ r. ⌜ r ≡ openedBy (orElse (unless (eqb dim 2 || eqb dim 3) 1) (fileFault (topOf dim (words (now (used .entry)))) (length (words (now (used .entry))) - 1))) (words (now (used .entry))) place ⌝ }
 {
     let last = used.len() / 2 - 1;
-    match files::judge(used, dim) {
-        files::Judged::Refused { number, place } => Opened::Refused { number, place },
-        files::Judged::Accepted {
-            elements: _,
-            deepest: _,
-            marker,
-        } => {
+    match reading::placed_at(used, dim, place) {
+        reading::Placed::Refused {
+            number,
+            place: fault,
+        } => Opened::Refused {
+            number,
+            place: fault,
+        },
+        reading::Placed::Judged { marker, found } => {
             if marker == last {
-                return Opened::Ready { marker };
+                return Opened::Ready { marker, found };
             }
             Opened::Refused {
                 number: 1,
@@ -103,18 +104,19 @@ fn open_file(used: &[u8], dim: usize) -> Opened
     }
 }
 
-// Opens a session on a file's buffer and a journal's, by their used lengths.
-pub fn open_session(
+// Opens a session on a file's buffer and a journal's, by their used lengths, and finds what starts at a place.
+pub fn open_at(
     file: &[u8],
     used: usize,
     journal_len: usize,
     jused: usize,
     dim: usize,
+    place: usize,
 ) -> Opened
-    ensures { λ r. ⌜ OpenedAs dim (now (file .entry)) used «journal_len» jused r ⌝ }
+    ensures { λ r. ⌜ OpenedAs dim (now (file .entry)) used «journal_len» jused place r ⌝ }
 {
     if buffers_ok(file, used, journal_len, jused) {
-        return open_file(&file[..used], dim);
+        return open_file(&file[..used], dim, place);
     }
     Opened::Refused {
         number: 1,
@@ -122,11 +124,11 @@ pub fn open_session(
     }
 }
 
-// Whether an element starts at a place.
-fn is_at(used: &[u8], marker: usize, place: usize) -> bool
-    ensures { λ r. ⌜ r ≡ isAt (locateOf (words (now (used .entry))) place marker) ⌝ }
+// Whether an element starts at a place, by what was found there.
+fn is_at(found: Spotted) -> bool
+    ensures { λ r. ⌜ r ≡ isAt found ⌝ }
 {
-    match reading::locate(used, place, marker) {
+    match found {
         Spotted::At {
             end: _,
             depth: _,
@@ -150,10 +152,10 @@ fn flag_differs(w: usize, deleted: bool) -> bool
 }
 
 // The number that marking an element deleted or live answers, 0 for none.
-pub fn mark_fault(used: &[u8], marker: usize, place: usize, deleted: bool) -> usize
-    ensures { λ r. ⌜ r ≡ markNumber (words (now (used .entry))) marker place deleted ⌝ }
+pub fn mark_fault(used: &[u8], found: Spotted, place: usize, deleted: bool) -> usize
+    ensures { λ r. ⌜ r ≡ markNumber (words (now (used .entry))) found place deleted ⌝ }
 {
-    if is_at(used, marker, place) {
+    if is_at(found) {
         if flag_differs(words::word(used, place), deleted) {
             return 0;
         }
@@ -174,10 +176,10 @@ fn is_cell(used: &[u8], place: usize) -> bool
 }
 
 // The number that renaming a cell answers, 0 for none; the text is a name or it is not.
-pub fn rename_fault(used: &[u8], marker: usize, place: usize, named: bool) -> usize
-    ensures { λ r. ⌜ r ≡ renameNumber (words (now (used .entry))) marker place named ⌝ }
+pub fn rename_fault(used: &[u8], found: Spotted, place: usize, named: bool) -> usize
+    ensures { λ r. ⌜ r ≡ renameNumber (words (now (used .entry))) found place named ⌝ }
 {
-    let there = is_at(used, marker, place);
+    let there = is_at(found);
     let cell = is_cell(used, place);
     if !there {
         return 13;
@@ -189,16 +191,6 @@ pub fn rename_fault(used: &[u8], marker: usize, place: usize, named: bool) -> us
         return 12;
     }
     0
-}
-
-// The number that removing an element answers, 0 for none.
-pub fn remove_fault(used: &[u8], marker: usize, place: usize) -> usize
-    ensures { λ r. ⌜ r ≡ removeNumber (words (now (used .entry))) marker place ⌝ }
-{
-    if is_at(used, marker, place) {
-        return 0;
-    }
-    13
 }
 
 // Whether both are the top, or the same header.
@@ -217,11 +209,11 @@ pub fn same_above(a: Above, b: Above) -> bool
     }
 }
 
-// Whether an element starts at a place, directly under a header or at the top.
-fn stands_under(used: &[u8], marker: usize, header: Above, place: usize) -> bool
-    ensures { λ r. ⌜ r ≡ standsUnder (locateOf (words (now (used .entry))) place marker) header ⌝ }
+// Whether an element starts at a place, directly under a header or at the top, by what was found there.
+fn stands_under(found: Spotted, header: Above) -> bool
+    ensures { λ r. ⌜ r ≡ standsUnder found header ⌝ }
 {
-    match reading::locate(used, place, marker) {
+    match found {
         Spotted::At {
             end: _,
             depth: _,
@@ -276,10 +268,10 @@ fn components_of(used: &[u8], marker: usize, header: Above) -> Components
 }
 
 // Whether a direct component starts at a place or the list ends there.
-fn gap_at(used: &[u8], marker: usize, header: Above, end: usize, place: usize) -> bool
-    ensures { λ r. ⌜ r ≡ (standsUnder (locateOf (words (now (used .entry))) place marker) header || eqb end place) ⌝ }
+fn gap_at(found: Spotted, header: Above, end: usize, place: usize) -> bool
+    ensures { λ r. ⌜ r ≡ (standsUnder found header || eqb end place) ⌝ }
 {
-    if stands_under(used, marker, header, place) {
+    if stands_under(found, header) {
         return true;
     }
     end == place
@@ -330,11 +322,12 @@ pub fn insert_fault(
     used: &[u8],
     dim: usize,
     marker: usize,
+    found: Spotted,
     header: Above,
     place: usize,
     piece: &[u8],
 ) -> Fault
-    ensures { λ r. ⌜ r ≡ answerOf (insertRefusal dim (now (used .entry)) marker header place (words (now (piece .entry)))) ⌝ }
+    ensures { λ r. ⌜ r ≡ answerOf (insertRefusal dim (now (used .entry)) marker found header place (words (now (piece .entry)))) ⌝ }
 {
     match components_of(used, marker, header) {
         Components::Absent => Fault::At {
@@ -342,7 +335,7 @@ pub fn insert_fault(
             place: 0,
         },
         Components::Listed { end, depth, under } => {
-            if !gap_at(used, marker, header, end, place) {
+            if !gap_at(found, header, end, place) {
                 return Fault::At {
                     number: 13,
                     place: 0,
@@ -362,24 +355,25 @@ pub fn reversible(
     used: &[u8],
     dim: usize,
     marker: usize,
+    found: Spotted,
     kind: usize,
     header: Above,
     place: usize,
     payload: &[u8],
 ) -> bool
-    ensures { λ r. ⌜ r ≡ reversesAt dim (now (used .entry)) marker kind header place (words (now (payload .entry))) ⌝ }
+    ensures { λ r. ⌜ r ≡ reversesAt dim (now (used .entry)) marker found kind header place (words (now (payload .entry))) ⌝ }
 {
     if kind == 1 {
-        return is_at(used, marker, place);
+        return is_at(found);
     }
     if kind == 2 {
         let named = names::name_ok(words::word(payload, 0), words::word(payload, 1));
-        return rename_fault(used, marker, place, named) == 0;
+        return rename_fault(used, found, place, named) == 0;
     }
     if kind == 3 {
-        return stands_under(used, marker, header, place);
+        return stands_under(found, header);
     }
-    match insert_fault(used, dim, marker, header, place, payload) {
+    match insert_fault(used, dim, marker, found, header, place, payload) {
         Fault::Fine => true,
         Fault::At {
             number: _,

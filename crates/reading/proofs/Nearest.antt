@@ -18,10 +18,11 @@ use Rattle.grammar.proofs.Stands.{stands-left}
 use Rattle.reading.specs.declared.Above.the-variants.{Top}
 use Rattle.reading.specs.declared.Spotted.{Spotted}
 use Rattle.reading.specs.declared.Spotted.the-variants as spotted
-use Rattle.reading.specs.Places.{spottedAt}
+use Rattle.reading.specs.declared.Placed.the-variants as placed
+use Rattle.reading.specs.Places.{placedAt}
 use Rattle.reading.specs.Descent.{extentWords, IsLocated, lastBy}
 use Rattle.reading.proofs.Descent.{extent-weight, step-over, descent-is}
-use Rattle.reading.proofs.Places.{locate-before, locate-after, spotted-refused, spotted-located}
+use Rattle.reading.proofs.Places.{locate-before, locate-after, placed-refused, placed-located}
 use Rattle.grammar.proofs.Tops.{Judged, judged-none, judged-done, judged-lacking, judged-fault, judged-read, judged-on, judged-more}
 
 -- what is found from an element at the top on is what is found from the start
@@ -54,23 +55,22 @@ last-same s p here top a f = go (leb here p) refl
 
 module _ {dim : ℕ} {s : List ℕ} {p here top : ℕ} (n : Nearest dim s p here top) where
   module _ (call : callOk dim s ≡ true) where
-    pub nearest-lacking : stopOf 0 (words s) here (length s / 2) ≡ Lacking → spotted.Refused 2 here ≡ spottedAt dim s p
-    nearest-lacking h = sym (spotted-refused dim s p 2 here (judged-lacking (n .judged) call h))
+    pub nearest-lacking : stopOf 0 (words s) here (length s / 2) ≡ Lacking → placed.Refused 2 here ≡ placedAt dim s p
+    nearest-lacking h = sym (placed-refused dim s p 2 here (judged-lacking (n .judged) call h))
 
-    pub nearest-found : (r : Spotted) → stopOf 0 (words s) here (length s / 2) ≡ Done → p < here → IsLocated (words s) top 0 Top p r → r ≡ spottedAt dim s p
+    pub nearest-found : (r : Spotted) → stopOf 0 (words s) here (length s / 2) ≡ Done → p < here → IsLocated (words s) top 0 Top p r → placed.Judged here r ≡ placedAt dim s p
     nearest-found r h l i =
         let b = n .judged .inside in
         let w = length-words s in
-        descent-is (words s) p r (n .from r i)
-        ∙ sym (locate-before (words s) p here l (omega arith))
-        ∙ sym (spotted-located dim s p _ _ here (judged-done (n .judged) call h))
+        ap (placed.Judged here) (descent-is (words s) p r (n .from r i) ∙ sym (locate-before (words s) p here l (omega arith)))
+        ∙ sym (placed-located dim s p _ _ here (judged-done (n .judged) call h))
 
-    pub nearest-after : stopOf 0 (words s) here (length s / 2) ≡ Done → here ≤ p → spotted.Refused 13 0 ≡ spottedAt dim s p
-    nearest-after h l = sym (spotted-located dim s p _ _ here (judged-done (n .judged) call h) ∙ locate-after (words s) p here l)
+    pub nearest-after : stopOf 0 (words s) here (length s / 2) ≡ Done → here ≤ p → placed.Judged here (spotted.Refused 13 0) ≡ placedAt dim s p
+    nearest-after h l = sym (placed-located dim s p _ _ here (judged-done (n .judged) call h) ∙ ap (placed.Judged here) (locate-after (words s) p here l))
 
     pub nearest-fault : (k q : ℕ) → stopOf 0 (words s) here (length s / 2) ≡ More → Fault k q ≡ elementOf dim 0 0 (words s) here (length s / 2) →
-        spotted.Refused k q ≡ spottedAt dim s p
-    nearest-fault k q h e = sym (spotted-refused dim s p k q (judged-fault (n .judged) h k q call e))
+        placed.Refused k q ≡ placedAt dim s p
+    nearest-fault k q h e = sym (placed-refused dim s p k q (judged-fault (n .judged) h k q call e))
 
   module _ {next e d k : ℕ} (more : stopOf 0 (words s) here (length s / 2) ≡ More) (good : Good next e d k ≡ elementOf dim 0 0 (words s) here (length s / 2)) where
     -- fewer words are left to judge

@@ -21,8 +21,10 @@ use Rattle.grammar.proofs.Places.{spot-after, spot-within}
 use Rattle.grammar.proofs.Whole.{FileTree, file-tree}
 use Rattle.grammar.proofs.Exact.{accepted-is}
 use Rattle.reading.specs.declared.Above.{Above}
+use Rattle.reading.specs.declared.Spotted.{Spotted}
 use Rattle.reading.specs.declared.Spotted.the-variants as spotted
-use Rattle.reading.specs.Places.{foundBy, spottedAt}
+use Rattle.reading.specs.declared.Placed.the-variants as placed
+use Rattle.reading.specs.Places.{foundBy, spottedAt, placedAt}
 use Rattle.reading.specs.Descent.{descentTo, locateOf}
 use Rattle.reading.proofs.Descent.{locate-tree}
 
@@ -88,6 +90,47 @@ spotted-found dim s p e d m q = rw q
 
 pub spotted-located : (dim : ℕ) (s : List ℕ) (p e d m : ℕ) → judgeOf dim s ≡ Accepted e d m → spottedAt dim s p ≡ locateOf (words s) p m
 spotted-located dim s p e d m q = spotted-found dim s p e d m q ∙ sym (locate-is dim s e d m q p)
+
+-- the same with the marker's place
+pub placed-refused : (dim : ℕ) (s : List ℕ) (p n q : ℕ) → judgeOf dim s ≡ Refused n q → placedAt dim s p ≡ placed.Refused n q
+unfolding placedAt
+placed-refused dim s p n q e = rw e
+
+pub placed-located : (dim : ℕ) (s : List ℕ) (p e d m : ℕ) → judgeOf dim s ≡ Accepted e d m → placedAt dim s p ≡ placed.Judged m (locateOf (words s) p m)
+unfolding placedAt
+placed-located dim s p e d m q = rw q (ap (placed.Judged m) (sym (locate-is dim s e d m q p)))
+
+-- and back: what the answer says of the file and of the place
+pub record Located (dim : ℕ) (s : List ℕ) (p m : ℕ) (found : Spotted) : Type 0 where
+  pub elements : ℕ
+  pub deepest : ℕ
+  pub judged : judgeOf dim s ≡ Accepted elements deepest m
+  pub is : found ≡ locateOf (words s) p m
+
+module _ (dim : ℕ) (s : List ℕ) (p : ℕ) where
+  pub refused-judged : (n q : ℕ) → placedAt dim s p ≡ placed.Refused n q → judgeOf dim s ≡ Refused n q
+  refused-judged n q h = go (judgeOf dim s) refl
+    where
+      go : (v : Judged) → judgeOf dim s ≡ v → judgeOf dim s ≡ Refused n q
+      go (Refused n′ q′) j = j ∙ (let z : Refused n′ q′ ≡ Refused n q = cc (placed-refused dim s p n′ q′ j) in z)
+      go (Accepted e d m) j = let z : _≡_ {A = ℕ} 0 1 = cc (placed-located dim s p e d m j) in absurd (omega arith)
+
+  pub judged-located : (m : ℕ) (found : Spotted) → placedAt dim s p ≡ placed.Judged m found → Located dim s p m found
+  judged-located m found h = go (judgeOf dim s) refl
+    where
+      go : (v : Judged) → judgeOf dim s ≡ v → Located dim s p m found
+      go (Refused n q) j = let z : _≡_ {A = ℕ} 0 1 = cc (placed-refused dim s p n q j) in absurd (omega arith)
+      go (Accepted e d m′) j =
+          let l = placed-located dim s p e d m′ j in
+          let same : m′ ≡ m = cc in
+          let f : locateOf (words s) p m′ ≡ found = cc in
+          record { elements = e; deepest = d; judged = j ∙ ap (Accepted e d) same; is = sym f ∙ ap (locateOf (words s) p) same }
+
+  pub placed-none : (n q : ℕ) → placedAt dim s p ≡ placed.Refused n q → spotted.Refused n q ≡ spottedAt dim s p
+  placed-none n q h = sym (spotted-refused dim s p n q (refused-judged n q h))
+
+  pub placed-found : (m : ℕ) (found : Spotted) → placedAt dim s p ≡ placed.Judged m found → found ≡ spottedAt dim s p
+  placed-found m found h = let l = judged-located m found h in l .is ∙ sym (spotted-located dim s p (l .elements) (l .deepest) m (l .judged))
 
 -- an element that is found: its place and its end lie in the file, whose dimension is 2 or 3
 pub record Inside (dim : ℕ) (s : List ℕ) (p end : ℕ) : Type 0 where

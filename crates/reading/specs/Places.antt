@@ -15,6 +15,8 @@ use Rattle.reading.specs.declared.Above.{Above}
 use Rattle.reading.specs.declared.Above.the-variants.{Top, Under}
 use Rattle.reading.specs.declared.Spotted.{Spotted}
 use Rattle.reading.specs.declared.Spotted.the-variants as spotted
+use Rattle.reading.specs.declared.Placed.{Placed}
+use Rattle.reading.specs.declared.Placed.the-variants as placed
 
 -- the direct header of an element
 abbrev pub aboveOf : Option ℕ → Above
@@ -32,6 +34,14 @@ spottedBy (judged.Accepted e d m) found = foundBy found
 
 unfoldable pub spottedAt : ℕ → List ℕ → ℕ → Spotted
 spottedAt dim s p = spottedBy (judgeOf dim s) (spotIn (spotsOf dim (words s)) p)
+
+-- what a file is judged to be, with its marker's place and what is found at a place
+abbrev pub placedBy : Judged → Option Spot → Placed
+placedBy (judged.Refused n p) found = placed.Refused n p
+placedBy (judged.Accepted e d m) found = placed.Judged m (foundBy found)
+
+unfoldable pub placedAt : ℕ → List ℕ → ℕ → Placed
+placedAt dim s p = placedBy (judgeOf dim s) (spotIn (spotsOf dim (words s)) p)
 
 -- the extent of the element that starts at a place: its start and its end
 abbrev pub extentBy : Spotted → ℕ → Extent

@@ -5,7 +5,7 @@ ghost use Prim.Native.Nat.{_/_, _<_};
 ghost use lib.ListN.{length};
 ghost use Rattle.words.specs.Words.{words};
 ghost use Rattle.reading.specs.declared.Above.the-variants.{Top};
-ghost use Rattle.reading.specs.Places.{spottedAt, extentAnswer, extentBytes};
+ghost use Rattle.reading.specs.Places.{placedAt, spottedAt, extentAnswer, extentBytes};
 ghost use Rattle.reading.specs.Descent.{extentWords, IsLocated, lastBy, locateOf};
 
 pub mod attributes;
@@ -33,6 +33,12 @@ pub enum Spotted {
         number: usize,
         place: usize,
     },
+}
+
+// A file judged, with the place of its marker and what starts at a place.
+pub enum Placed {
+    Refused { number: usize, place: usize },
+    Judged { marker: usize, found: Spotted },
 }
 
 // An extent, from its first word to the word after its last.
@@ -189,13 +195,13 @@ fn last_by(top: usize, here: usize, place: usize) -> usize
     if here <= place { here } else { top }
 }
 
-// The element that starts at a place of a file: 1, the file's own refusals, then 13. The elements at the top are judged
-// one after another; the last that starts by the place is where the descent begins.
-pub fn spotted_at(file: &[u8], dim: usize, place: usize) -> Spotted
-    ensures { λ r. ⌜ r ≡ spottedAt dim (now (file .entry)) place ⌝ }
+// What a file is judged to be, 1 and its own refusals first, and the element that starts at a place. The elements at the
+// top are judged one after another; the last that starts by the place is where the descent begins.
+pub fn placed_at(file: &[u8], dim: usize, place: usize) -> Placed
+    ensures { λ r. ⌜ r ≡ placedAt dim (now (file .entry)) place ⌝ }
 {
     if !files::call_ok(file, dim) {
-        return Spotted::Refused {
+        return Placed::Refused {
             number: 1,
             place: 0,
         };
@@ -207,15 +213,23 @@ pub fn spotted_at(file: &[u8], dim: usize, place: usize) -> Spotted
         match files::stop_at(file, here, bound, 0) {
             files::Stop::Done => {
                 if place < here {
-                    return descend(file, top, place);
+                    let found = descend(file, top, place);
+                    return Placed::Judged {
+                        marker: here,
+                        found,
+                    };
                 }
-                return Spotted::Refused {
+                let found = Spotted::Refused {
                     number: 13,
                     place: 0,
                 };
+                return Placed::Judged {
+                    marker: here,
+                    found,
+                };
             }
             files::Stop::Lacking => {
-                return Spotted::Refused {
+                return Placed::Refused {
                     number: 2,
                     place: here,
                 };
@@ -225,7 +239,7 @@ pub fn spotted_at(file: &[u8], dim: usize, place: usize) -> Spotted
                     number,
                     place: fault,
                 } => {
-                    return Spotted::Refused {
+                    return Placed::Refused {
                         number,
                         place: fault,
                     };
@@ -241,6 +255,22 @@ pub fn spotted_at(file: &[u8], dim: usize, place: usize) -> Spotted
                 }
             },
         }
+    }
+}
+
+// The element that starts at a place of a file: 1, the file's own refusals, then 13.
+pub fn spotted_at(file: &[u8], dim: usize, place: usize) -> Spotted
+    ensures { λ r. ⌜ r ≡ spottedAt dim (now (file .entry)) place ⌝ }
+{
+    match placed_at(file, dim, place) {
+        Placed::Refused {
+            number,
+            place: fault,
+        } => Spotted::Refused {
+            number,
+            place: fault,
+        },
+        Placed::Judged { marker: _, found } => found,
     }
 }
 

@@ -17,7 +17,7 @@ use Rattle.edits.specs.Calls.{Session, Call, mark-call, rename-call, insert-cal
 use Rattle.edits.specs.Book.{Run, ran}
 use Rattle.edits.proofs.Every.{demand-three}
 use Rattle.edits.specs.Demand.{Demand3}
-use Rattle.sessions.specs.Sessions.{Stepped}
+use Rattle.steps.specs.Steps.{Stepped}
 use Rattle.sessions.specs.Runs as runs
 use Rattle.sessions.specs.Runs.{leaves, Called, EveryCall}
 

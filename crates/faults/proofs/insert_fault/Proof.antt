@@ -20,7 +20,7 @@ gap-at-requires : tie.Need-gap-at-requires
 gap-at-requires c κs = search needs
 
 returns : tie.Need-returns
-returns c = insert-elsewhere _ _ _ _ _ _ _ _ _ (sym (c .before .before .before .before .before .components-of .ensures) ∙ (c .before .before .before .end .given .1)) (sym (c .before .gap-at .ensures) ∙ not-true _ (c .if1 .taken))
+returns c = insert-elsewhere _ _ _ _ _ _ _ _ _ _ (sym (c .before .before .before .before .before .components-of .ensures) ∙ (c .before .before .before .end .given .1)) (sym (c .before .gap-at .ensures) ∙ not-true _ (c .if1 .taken))
 
 piece-fault-requires : tie.Need-piece-fault-requires
 piece-fault-requires c κs = search needs
@@ -35,13 +35,13 @@ room-under-requires : tie.Need-room-under-requires
 room-under-requires c κs = search needs
 
 returns-2 : tie.Need-returns-2
-returns-2 c = insert-absent _ _ _ _ _ _ (sym (c .before .before .components-of .ensures) ∙ (c .enum-told .given .1))
+returns-2 c = insert-absent _ _ _ _ _ _ _ (sym (c .before .before .components-of .ensures) ∙ (c .enum-told .given .1))
 
 returns-3 : tie.Need-returns-3
-returns-3 c = insert-piece _ _ _ _ _ _ _ _ _ (sym (c .before .before .before .before .before .before .before .before .before .components-of .ensures) ∙ (c .before .before .before .before .before .before .before .end .given .1)) (sym (c .before .before .before .before .before .gap-at .ensures) ∙ not-false _ (c .before .before .before .before .if1 .left)) _ _ (sym (c .before .before .before .piece-fault .ensures) ∙ (c .before .number .given .1))
+returns-3 c = insert-piece _ _ _ _ _ _ _ _ _ _ (sym (c .before .before .before .before .before .before .before .before .before .components-of .ensures) ∙ (c .before .before .before .before .before .before .before .end .given .1)) (sym (c .before .before .before .before .before .gap-at .ensures) ∙ not-false _ (c .before .before .before .before .if1 .left)) _ _ (sym (c .before .before .before .piece-fault .ensures) ∙ (c .before .number .given .1))
 
 returns-4 : tie.Need-returns-4
-returns-4 c = (c .room-under .ensures) ∙ rw (← length-words (c .before .before .before .before .before .before .before .before .before .before .before .before .args .piece .now)) (insert-room _ _ _ _ _ _ _ _ _ (sym (c .before .before .before .before .before .before .before .before .before .components-of .ensures) ∙ (c .before .before .before .before .before .before .before .end .given .1)) (sym (c .before .before .before .before .before .gap-at .ensures) ∙ not-false _ (c .before .before .before .before .if1 .left)) (sym (c .before .before .before .piece-fault .ensures) ∙ (c .before .enum-told2 .given .1)))
+returns-4 c = (c .room-under .ensures) ∙ rw (← length-words (c .before .before .before .before .before .before .before .before .before .before .before .before .args .piece .now)) (insert-room _ _ _ _ _ _ _ _ _ _ (sym (c .before .before .before .before .before .before .before .before .before .components-of .ensures) ∙ (c .before .before .before .before .before .before .before .end .given .1)) (sym (c .before .before .before .before .before .gap-at .ensures) ∙ not-false _ (c .before .before .before .before .if1 .left)) (sym (c .before .before .before .piece-fault .ensures) ∙ (c .before .enum-told2 .given .1)))
 
 pub insert-fault-spec : {M : Type 1} → statement M
 insert-fault-spec =

@@ -1,6 +1,6 @@
 -- Judging the used file answers 1 for the dimension, then the file's own; the marker's place is compared last.
 use mathlib.Core.Path.{sym, _∙_}
-use Rattle.faults.proofs.Opening.{opened-is, opened-ready, opened-early, opened-refused}
+use Rattle.faults.proofs.Opening.{opened-ready, opened-early, opened-refused}
 use borrow.Author.Needs.{needs}
 use Rattle.faults.proofs.open_file.Statement.{statement}
 use Rattle.faults.proofs.open_file.Tie as tie
@@ -8,8 +8,8 @@ use Rattle.faults.proofs.open_file.Tie as tie
 sub-last : tie.Need-sub-last
 sub-last c = search needs
 
-judge-requires : tie.Need-judge-requires
-judge-requires c κs = search needs
+placed-at-requires : tie.Need-placed-at-requires
+placed-at-requires c κs = search needs
 
 enum-known-number : tie.Need-enum-known-number
 enum-known-number c = search needs
@@ -18,20 +18,20 @@ enum-known-marker : tie.Need-enum-known-marker
 enum-known-marker c = search needs
 
 returns : tie.Need-returns
-returns c = opened-ready _ _ _ _ (c .if1 .taken) ∙ opened-is _ _ (c .before .before .before .before .before .before .pre .0) (c .before .before .before .before .before .before .pre .1 .1) _ (sym (c .before .before .before .before .judge .ensures) ∙ (c .before .before .marker .given .1))
+returns c = opened-ready _ _ (c .before .before .before .before .before .before .pre .0) (c .before .before .before .before .before .before .pre .1 .1) _ _ _ (sym (c .before .before .before .before .placed-at .ensures) ∙ (c .before .before .marker .given .1)) (c .if1 .taken)
 
 returns-2 : tie.Need-returns-2
-returns-2 c = opened-refused _ _ _ ∙ opened-is _ _ (c .before .before .before .before .before .pre .0) (c .before .before .before .before .before .pre .1 .1) _ (sym (c .before .before .before .judge .ensures) ∙ (c .before .number .given .1))
+returns-2 c = opened-refused _ _ (c .before .before .before .before .before .pre .0) (c .before .before .before .before .before .pre .1 .1) _ _ _ (sym (c .before .before .before .placed-at .ensures) ∙ (c .before .number .given .1))
 
 returns-3 : tie.Need-returns-3
-returns-3 c = opened-early _ _ _ _ (c .if1 .left) ∙ opened-is _ _ (c .before .before .before .before .before .before .pre .0) (c .before .before .before .before .before .before .pre .1 .1) _ (sym (c .before .before .before .before .judge .ensures) ∙ (c .before .before .marker .given .1))
+returns-3 c = opened-early _ _ (c .before .before .before .before .before .before .pre .0) (c .before .before .before .before .before .before .pre .1 .1) _ _ _ (sym (c .before .before .before .before .placed-at .ensures) ∙ (c .before .before .marker .given .1)) (c .if1 .left)
 
 pub open-file-spec : {M : Type 1} → statement M
 open-file-spec =
     tie.close
     (tie.spec
     sub-last
-    judge-requires
+    placed-at-requires
     enum-known-number
     enum-known-marker
     returns

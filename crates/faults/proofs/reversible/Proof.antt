@@ -48,11 +48,11 @@ enum-told-2 c = search needs
 
 returns-4 : tie.Need-returns-4
 unfolding reversesAt
-returns-4 c = rw (ne-eqb _ _ (c .before .before .before .before .before .if1 .left), ne-eqb _ _ (c .before .before .before .before .if2 .left), ne-eqb _ _ (c .before .before .before .if3 .left)) (insert-fine _ _ _ _ _ _ (sym (c .before .before .insert-fault .ensures) ∙ (c .enum-told .given .1)))
+returns-4 c = rw (ne-eqb _ _ (c .before .before .before .before .before .if1 .left), ne-eqb _ _ (c .before .before .before .before .if2 .left), ne-eqb _ _ (c .before .before .before .if3 .left)) (insert-fine _ _ _ _ _ _ _ (sym (c .before .before .insert-fault .ensures) ∙ (c .enum-told .given .1)))
 
 returns-5 : tie.Need-returns-5
 unfolding reversesAt
-returns-5 c = rw (ne-eqb _ _ (c .before .before .before .before .before .if1 .left), ne-eqb _ _ (c .before .before .before .before .if2 .left), ne-eqb _ _ (c .before .before .before .if3 .left)) (insert-refused _ _ _ _ _ _ _ _ (sym (c .before .before .insert-fault .ensures) ∙ (c .enum-told2 .given .1)))
+returns-5 c = rw (ne-eqb _ _ (c .before .before .before .before .before .if1 .left), ne-eqb _ _ (c .before .before .before .before .if2 .left), ne-eqb _ _ (c .before .before .before .if3 .left)) (insert-refused _ _ _ _ _ _ _ _ _ (sym (c .before .before .insert-fault .ensures) ∙ (c .enum-told2 .given .1)))
 
 pub reversible-spec : {M : Type 1} → statement M
 reversible-spec =

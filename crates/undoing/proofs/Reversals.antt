@@ -1,0 +1,232 @@
+-- The reversal of each kind of record, by what the code finds and leaves; and undo's ways out by the record that was read.
+use Prim.Native.Nat.{ℕ, _+_, _-_, _*_, _/_, _%_, _≤_, _<_}
+use mathlib.Core.Path.{_≡_, refl, sym, ap, _∙_, subst}
+use mathlib.Core.Bool.{Bool, true, false, false≢true}
+use mathlib.Core.List.{List, [], _++_}
+use mathlib.Core.Option.{some}
+use native.Mathlib.Omega.{arith}
+use lib.ListN.{length, take, drop, length-take, length-drop}
+use lib.Dec.{eqb}
+use Rattle.words.specs.Words.{words, Below, wordAt}
+use Rattle.elements.specs.Header.{deletedOf}
+use Rattle.files.specs.Spots.{spotsOf}
+use Rattle.reading.specs.declared.Above.{Above}
+use Rattle.reading.specs.declared.Above.the-variants.{Top}
+use Rattle.reading.specs.declared.Spotted.{Spotted}
+use Rattle.reading.specs.declared.Spotted.the-variants.{At, Refused as Nowhere}
+use Rattle.edits.specs.declared.Edited.{Edited}
+use Rattle.edits.specs.declared.Edited.the-variants.{Made, Refused}
+use Rattle.edits.specs.Edits.{insert, apply}
+use Rattle.edits.specs.Allowed.{Fault?, fine, fault, insertFault, editFault}
+use Rattle.edits.specs.Records.{Rec, flag, renamed, inserted, removed, placeOf, lastRecord, isFine, reversal, reversible}
+use Rattle.edits.specs.Calls.{Session, undo-call, usedWords, sessionFault, stored}
+use Rattle.edits.proofs.Bounds.{below-take}
+use Rattle.buffers.specs.declared.Last.{Last}
+use Rattle.buffers.specs.declared.Last.the-variants as last
+use Rattle.buffers.specs.Journals.{Within, LastRead}
+use Rattle.buffers.proofs.Laws.{before-length, part-words}
+use Rattle.faults.specs.Opening.{sessionOf}
+use Rattle.faults.specs.Faults.{headerOf, sameAbove, standsUnder, reversesAt, recordBy}
+use Rattle.faults.proofs.Opening.{AcceptedUsed}
+use Rattle.faults.proofs.Exact.{reversible-is}
+use Rattle.changes.specs.Changes.{flagPut, namePut, nameBytes, pieceIn, extentOut}
+use Rattle.changes.proofs.Made as made
+use Rattle.steps.specs.Steps.{Stepped, lastPlace, aboveAt}
+use Rattle.steps.proofs.Pushed.{header-above, name-words}
+use Rattle.undoing.specs.Undoing.{OpenFile, Reversed}
+use Rattle.undoing.proofs.Ways.{back-refused, back-room, back-done, undo-bad, undo-reversed}
+use Rattle.undoing.proofs.Ways.{accepted-used}
+
+fine-of : (f : Fault?) → isFine f ≡ true → f ≡ fine
+fine-of fine e = refl
+fine-of (fault n p) e = absurd (false≢true e)
+
+module _ (dim : ℕ) (file : List ℕ) (used p : ℕ) (found : Spotted) (o : OpenFile dim file used p found) (below : Below 256 file) (before : ℕ) where
+  abbrev ws : List ℕ
+  ws = usedWords file used
+
+  abbrev m : ℕ
+  m = lastPlace file used
+
+  used-here : AcceptedUsed dim (take used file) (lastPlace file used)
+  used-here = accepted-used dim file used p found o
+
+  used-below : Below 256 (take used file)
+  used-below = below-take 256 used file (omega arith) below
+
+  -- what the code asks of a record is whether its reversal is allowed
+  reverses-is : (marker : ℕ) → marker ≡ lastPlace file used → (kind : ℕ) (h : Above) (x : List ℕ) →
+      reversesAt dim (take used file) marker found kind h p x ≡ reversible dim ws (recordBy kind (headerOf h) p x)
+  reverses-is marker last kind h x = rw (last, o .found-is) (reversible-is dim (take used file) m used-here used-below kind h p x)
+
+  ---- a flag is turned over
+
+  module _ (marker : ℕ) (last : marker ≡ lastPlace file used) (x : List ℕ) where
+    flag-is : reversesAt dim (take used file) marker found 1 Top p x ≡ reversible dim ws (flag p)
+    flag-is = reverses-is marker last 1 Top x
+
+    pub flag-refused : reversesAt dim (take used file) marker found 1 Top p x ≡ false → Reversed dim file used (flag p) before (Refused 19 0) file
+    flag-refused e = back-refused dim file used (flag p) before (sym flag-is ∙ e)
+
+    pub flag-done : reversesAt dim (take used file) marker found 1 Top p x ≡ true → (deleted : Bool) (part : List ℕ) → deleted ≡ eqb (deletedOf (wordAt ws p)) 0 →
+        part ≡ flagPut deleted p (take used file) → Reversed dim file used (flag p) before (Made used before) (part ++ drop used file)
+    unfolding reversal
+    flag-done e deleted part d f =
+        let l = made.mark-length dim file used m below (o .even) (o .within) used-here p (eqb (deletedOf (wordAt ws p)) 0) in
+        let w = o .within in
+        back-done dim file used (flag p) before (sym flag-is ∙ e) (omega arith) used (part ++ drop used file) (sym l)
+        (ap (λ x. x ++ drop used file) f ∙ rw d (made.mark-made dim file used m below (o .even) (o .within) used-here p (eqb (deletedOf (wordAt ws p)) 0)))
+
+  ---- the old name is written back
+
+  module _ (marker : ℕ) (last : marker ≡ lastPlace file used) (a b : ℕ) (x : a < 65536) (y : b < 65536) (payload : List ℕ) (is : payload ≡ nameBytes a b) where
+    name-is : reversesAt dim (take used file) marker found 2 Top p (words payload) ≡ reversible dim ws (renamed p a b)
+    name-is =
+        ap (λ v. reversesAt dim (take used file) marker found 2 Top p (words v)) is
+        ∙ reverses-is marker last 2 Top (words (nameBytes a b))
+        ∙ ap (λ v. reversible dim ws (renamed p (wordAt v 0) (wordAt v 1))) (name-words a b x y)
+
+    pub name-refused : reversesAt dim (take used file) marker found 2 Top p (words payload) ≡ false → Reversed dim file used (renamed p a b) before (Refused 19 0) file
+    name-refused e = back-refused dim file used (renamed p a b) before (sym name-is ∙ e)
+
+    pub name-done : reversesAt dim (take used file) marker found 2 Top p (words payload) ≡ true → (part : List ℕ) →
+        part ≡ namePut p a b (take used file) → Reversed dim file used (renamed p a b) before (Made used before) (part ++ drop used file)
+    unfolding reversal
+    name-done e part f =
+        let l = made.rename-length dim file used m below (o .even) (o .within) used-here p a b in
+        let w = o .within in
+        back-done dim file used (renamed p a b) before (sym name-is ∙ e) (omega arith) used (part ++ drop used file) (sym l)
+        (ap (λ x. x ++ drop used file) f ∙ made.rename-made dim file used m below (o .even) (o .within) used-here p a b x y)
+
+  ---- what was put in is taken out
+
+  module _ (h : ℕ) where
+    in-is : standsUnder found (aboveAt h) ≡ reversible dim ws (inserted (placeOf h) p)
+    unfolding reversesAt
+    in-is = reverses-is m refl 3 (aboveAt h) [] ∙ ap (λ q. reversible dim ws (inserted q p)) (header-above h)
+
+    pub in-absent : (n q : ℕ) → found ≡ Nowhere n q → Reversed dim file used (inserted (placeOf h) p) before (Refused 19 0) file
+    in-absent n q l = back-refused dim file used (inserted (placeOf h) p) before (sym in-is ∙ rw l refl)
+
+    module _ (end depth : ℕ) (above above₀ : Above) (l : found ≡ At end depth above) (is : above₀ ≡ aboveAt h) (same : Bool) (by : same ≡ sameAbove above above₀) where
+      in-same : same ≡ reversible dim ws (inserted (placeOf h) p)
+      in-same = by ∙ ap (sameAbove above) is ∙ sym (ap (λ v. standsUnder v (aboveAt h)) l) ∙ in-is
+
+      pub in-refused : same ≡ false → Reversed dim file used (inserted (placeOf h) p) before (Refused 19 0) file
+      in-refused e = back-refused dim file used (inserted (placeOf h) p) before (sym in-same ∙ e)
+
+      pub in-done : same ≡ true → (file′ : List ℕ) → file′ ≡ extentOut file used above p (end - p) →
+          Reversed dim file used (inserted (placeOf h) p) before (Made (used - 2 * (end - p)) before) file′
+      unfolding reversal
+      in-done e file′ f =
+          let n = made.remove-length dim file used m below (o .even) (o .within) used-here p end depth above (sym (o .found-is) ∙ l) in
+          let w = o .within in
+          back-done dim file used (inserted (placeOf h) p) before (sym in-same ∙ e) (omega arith) (used - 2 * (end - p)) file′ (sym n)
+          (f ∙ made.remove-made dim file used m below (o .even) (o .within) used-here p end depth above (sym (o .found-is) ∙ l))
+
+  -- where the extent of the element that is there ends
+  pub in-inside : (end depth : ℕ) (above : Above) → found ≡ At end depth above → (p < end) × (2 * end ≤ used)
+  in-inside end depth above l = made.remove-within dim file used m below (o .even) (o .within) used-here p end depth above (sym (o .found-is) ∙ l)
+
+  ---- what was taken out is put in
+
+  module _ (marker : ℕ) (last : marker ≡ lastPlace file used) (h : ℕ) (piece : List ℕ) (piece-even : length piece % 2 ≡ 0) (above₀ : Above) (is : above₀ ≡ aboveAt h) where
+    abbrev rec : Rec
+    rec = removed (placeOf h) p (words piece)
+
+    out-is : reversesAt dim (take used file) marker found 4 above₀ p (words piece) ≡ reversible dim ws rec
+    out-is =
+        ap (λ v. reversesAt dim (take used file) marker found 4 v p (words piece)) is
+        ∙ reverses-is marker last 4 (aboveAt h) (words piece) ∙ ap (λ q. reversible dim ws (removed q p (words piece))) (header-above h)
+
+    pub out-refused : reversesAt dim (take used file) marker found 4 above₀ p (words piece) ≡ false → Reversed dim file used rec before (Refused 19 0) file
+    out-refused e = back-refused dim file used rec before (sym out-is ∙ e)
+
+    module _ (e : reversesAt dim (take used file) marker found 4 above₀ p (words piece) ≡ true) where
+      out-long : 2 * length (apply dim ws (reversal ws rec)) ≡ used + length piece
+      unfolding reversal
+      out-long = made.insert-length dim file used m below (o .even) (o .within) used-here (placeOf h) p piece piece-even
+
+      out-fine : insertFault dim (spotsOf dim ws) ws (headerOf (aboveAt h)) p (words piece) ≡ fine
+      unfolding reversible reversal editFault
+      out-fine = rw (header-above h) (fine-of (editFault dim ws (insert (placeOf h) p (words piece))) (sym out-is ∙ e))
+
+      pub out-room : length file - used < length piece → Reversed dim file used rec before (Refused 15 0) file
+      out-room l = let n = out-long in let w = o .within in back-room dim file used rec before (sym out-is ∙ e) (omega arith)
+
+      pub out-done : length piece ≤ length file - used → (file′ : List ℕ) → file′ ≡ pieceIn file used above₀ p piece →
+          Reversed dim file used rec before (Made (used + length piece) before) file′
+      unfolding reversal
+      out-done l file′ f =
+          let n = out-long in
+          let w = o .within in
+          back-done dim file used rec before (sym out-is ∙ e) (omega arith) (used + length piece) file′ (sym n)
+          (f ∙ ap (λ v. pieceIn file used v p piece) is ∙ made.insert-made dim file used m below (o .even) (o .within) used-here (aboveAt h) p piece piece-even out-fine (omega arith)
+          ∙ ap (λ q. stored file used (apply dim ws (insert q p (words piece)))) (header-above h))
+
+---- undo, by the record that was read
+
+module _ (dim : ℕ) (file : List ℕ) (used : ℕ) (journal : List ℕ) (jused : ℕ) (ready : sessionFault dim (sessionOf file used journal jused) ≡ fine) (some-used : jused ≡ 0 → ⊥) where
+  abbrev s : Session
+  s = sessionOf file used journal jused
+
+  abbrev js : List ℕ
+  js = words (take jused journal)
+
+  -- a record before which so many bytes are used
+  read-back : (rec : Rec) (n p before : ℕ) (r : Edited) (after : List ℕ) → some (rec, take (before / 2) js) ≡ lastRecord js → Within (length (take jused journal)) n p before →
+      Reversed dim file used rec before r after → Stepped dim s undo-call r after journal
+  read-back rec n p before r after e w v =
+      undo-reversed dim s ready some-used rec (take (before / 2) js) before r after (sym e) (before-length (take jused journal) n p before w) v
+
+  module _ (read : Last) (is : LastRead (take jused journal) read) where
+    -- what was read, by its case
+    case-of : (q : Last) → read ≡ q → LastRead (take jused journal) q
+    case-of q e = subst (LastRead (take jused journal)) e is
+
+    pub read-bad : read ≡ last.Bad → Stepped dim s undo-call (Refused 19 0) file journal
+    read-bad e = undo-bad dim s ready some-used (sym (case-of last.Bad e .is))
+
+    pub read-flag : (p before : ℕ) → read ≡ last.Flag p before → (r : Edited) (after : List ℕ) →
+        Reversed dim file used (flag p) before r after → Stepped dim s undo-call r after journal
+    read-flag p before e r after v = let l = case-of (last.Flag p before) e in read-back (flag p) 0 p before r after (l .is) (l .within) v
+
+    -- the two old words are words
+    pub read-name : (p a b before : ℕ) → read ≡ last.Renamed p a b before → (a < 65536) × (b < 65536)
+    read-name p a b before e = let l = case-of (last.Renamed p a b before) e in (l .within .0, l .within .1)
+
+    pub read-renamed : (p a b before : ℕ) → read ≡ last.Renamed p a b before → (r : Edited) (after : List ℕ) →
+        Reversed dim file used (renamed p a b) before r after → Stepped dim s undo-call r after journal
+    read-renamed p a b before e r after v = let l = case-of (last.Renamed p a b before) e in read-back (renamed p a b) 2 p before r after (l .is) (l .within .2) v
+
+    pub read-inserted : (h p before : ℕ) → read ≡ last.Inserted h p before → (r : Edited) (after : List ℕ) →
+        Reversed dim file used (inserted (placeOf h) p) before r after → Stepped dim s undo-call r after journal
+    read-inserted h p before e r after v =
+        let l = case-of (last.Inserted h p before) e in
+        read-back (inserted (placeOf h) p) 0 p before r after (l .is) (l .within .1) v
+
+    module _ (h p n before : ℕ) (e : read ≡ last.Removed h p n before) where
+      -- the words removed stand within the used journal
+      pub read-within : before + 2 * n ≤ length journal
+      read-within =
+          let w = case-of (last.Removed h p n before) e .within .1 .room in
+          let k = length-take jused journal in
+          omega arith
+
+      pub read-even : length (take (before + 2 * n - before) (drop before journal)) % 2 ≡ 0
+      read-even =
+          let w = read-within in
+          let l : length (take (before + 2 * n - before) (drop before journal)) ≡ 2 * n = simp (length-take, length-drop) (omega arith) in
+          omega arith
+
+      pub read-removed : (r : Edited) (after : List ℕ) →
+          Reversed dim file used (removed (placeOf h) p (words (take (before + 2 * n - before) (drop before journal)))) before r after → Stepped dim s undo-call r after journal
+      read-removed r after v =
+          let l = case-of (last.Removed h p n before) e in
+          let w = l .within .1 in
+          let room = w .room in
+          let k = length-take jused journal in
+          let x : words (take (before + 2 * n - before) (drop before journal)) ≡ take n (drop (before / 2) js) =
+          part-words journal jused before (before + 2 * n) n (w .even) refl (omega arith) in
+          read-back (removed (placeOf h) p (take n (drop (before / 2) js))) n p before r after (l .is) w
+          (subst (λ y. Reversed dim file used (removed (placeOf h) p y) before r after) x v)

@@ -1,0 +1,22 @@
+use mathlib.Core.Path.{sym}
+use native.Mathlib.Omega.{arith}
+use lib.Seq.{length-take-le}
+use borrow.Author.Needs.{needs}
+use Rattle.undoing.proofs.record_by.Statement.{statement}
+use Rattle.undoing.proofs.record_by.Tie as tie
+
+slice-aggregate-last-record : tie.Need-slice-aggregate-last-record
+slice-aggregate-last-record c = sym (length-take-le _ _ (c .before .if1 .taken))
+
+last-record-requires : tie.Need-last-record-requires
+last-record-requires c κs = search needs
+
+returns : tie.Need-returns
+returns c = λ h. (c .last-record .ensures)
+
+returns-2 : tie.Need-returns-2
+returns-2 c = λ h. absurd (let l = (c .if1 .left) in omega arith)
+
+pub record-by-spec : {M : Type 1} → statement M
+record-by-spec =
+    tie.close (tie.spec slice-aggregate-last-record last-record-requires returns returns-2)

@@ -1,0 +1,128 @@
+use mathlib.Core.Path.{ap}
+use native.Mathlib.Omega.{arith}
+use Rattle.undoing.specs.Undoing.{placeIn}
+use Rattle.undoing.proofs.Ways.{open-file}
+use Rattle.steps.proofs.Opened.{journal-most}
+use Rattle.steps.proofs.Steps.{answered}
+use Rattle.undoing.proofs.Ways.{undo-nothing}
+use Rattle.undoing.proofs.Reversals.{read-bad, read-flag, read-name, read-renamed, read-inserted, read-within, read-even, read-removed}
+use borrow.Author.Needs.{needs}
+use Rattle.undoing.proofs.undo_opened.Statement.{statement}
+use Rattle.undoing.proofs.undo_opened.Tie as tie
+
+refused-requires : tie.Need-refused-requires
+refused-requires c κs = search needs
+
+returns : tie.Need-returns
+returns c = answered (c .refused .ensures) (undo-nothing _ _ (c .before .before .before .before .pre .0 .ready) (c .before .if1 .taken))
+
+enum-told : tie.Need-enum-told
+enum-told c = search needs
+
+refused-requires-2 : tie.Need-refused-requires-2
+refused-requires-2 c κs = search needs
+
+enum-known-last : tie.Need-enum-known-last
+enum-known-last c = search needs
+
+undo-flag-requires : tie.Need-undo-flag-requires
+undo-flag-requires c κs = (open-file (c .before .before .before .before .before .before .before .args .dim) (c .before .before .before .before .before .before .before .args .file .now) (c .before .before .before .before .before .before .before .args .used) (c .before .before .before .before .before .before .before .args .journal .now) (c .before .before .before .before .before .before .before .args .jused) _ _ _ (ap placeIn (c .before .before .last .given .1)) (c .before .before .before .before .before .before .before .pre .0), (c .before .before .before .before .before .before .before .pre .1 .0))
+
+enum-known-last-2 : tie.Need-enum-known-last-2
+enum-known-last-2 c = search needs
+
+cast-undo-renamed : tie.Need-cast-undo-renamed
+cast-undo-renamed c = record { fits = read-name _ _ _ _ _ (c .before .before .before .before .before .before .before .pre .0 .ready) (c .before .before .before .before .if1 .left) _ (c .before .before .before .before .before .before .before .pre .1 .1) _ _ _ _ ((c .before .before .last2 .given .1)) .0 }
+
+cast-undo-renamed-2 : tie.Need-cast-undo-renamed-2
+cast-undo-renamed-2 c = record { fits = read-name _ _ _ _ _ (c .before .before .before .before .before .before .before .pre .0 .ready) (c .before .before .before .before .if1 .left) _ (c .before .before .before .before .before .before .before .pre .1 .1) _ _ _ _ ((c .before .before .last2 .given .1)) .1 }
+
+undo-renamed-requires : tie.Need-undo-renamed-requires
+undo-renamed-requires c κs = (open-file (c .before .before .before .before .before .before .before .args .dim) (c .before .before .before .before .before .before .before .args .file .now) (c .before .before .before .before .before .before .before .args .used) (c .before .before .before .before .before .before .before .args .journal .now) (c .before .before .before .before .before .before .before .args .jused) _ _ _ (ap placeIn (c .before .before .last2 .given .1)) (c .before .before .before .before .before .before .before .pre .0), (c .before .before .before .before .before .before .before .pre .1 .0))
+
+enum-known-last-3 : tie.Need-enum-known-last-3
+enum-known-last-3 c = search needs
+
+undo-inserted-requires : tie.Need-undo-inserted-requires
+undo-inserted-requires c κs = open-file (c .before .before .before .before .before .before .before .args .dim) (c .before .before .before .before .before .before .before .args .file .now) (c .before .before .before .before .before .before .before .args .used) (c .before .before .before .before .before .before .before .args .journal .now) (c .before .before .before .before .before .before .before .args .jused) _ _ _ (ap placeIn (c .before .before .last3 .given .1)) (c .before .before .before .before .before .before .before .pre .0)
+
+enum-known-last-4 : tie.Need-enum-known-last-4
+enum-known-last-4 c = search needs
+
+mul-undo-removed : tie.Need-mul-undo-removed
+mul-undo-removed c = omega (arith, read-within _ _ _ _ _ (c .before .before .before .before .before .before .before .pre .0 .ready) (c .before .before .before .before .if1 .left) _ (c .before .before .before .before .before .before .before .pre .1 .1) _ _ _ _ (c .before .before .last4 .given .1), journal-most (c .before .before .before .before .before .before .before .pre .0))
+
+add-undo-removed : tie.Need-add-undo-removed
+add-undo-removed c = omega (arith, read-within _ _ _ _ _ (c .before .before .before .before .before .before .before .pre .0 .ready) (c .before .before .before .before .if1 .left) _ (c .before .before .before .before .before .before .before .pre .1 .1) _ _ _ _ (c .before .before .last4 .given .1), journal-most (c .before .before .before .before .before .before .before .pre .0))
+
+sub-undo-removed : tie.Need-sub-undo-removed
+sub-undo-removed c = search needs
+
+part-undo-removed-start : tie.Need-part-undo-removed-start
+part-undo-removed-start c = search needs
+
+part-undo-removed-end : tie.Need-part-undo-removed-end
+part-undo-removed-end c = read-within _ _ _ _ _ (c .before .before .before .before .before .before .before .pre .0 .ready) (c .before .before .before .before .if1 .left) _ (c .before .before .before .before .before .before .before .pre .1 .1) _ _ _ _ (c .before .before .last4 .given .1)
+
+undo-removed-requires : tie.Need-undo-removed-requires
+undo-removed-requires c κs = (open-file (c .before .before .before .before .before .before .before .before .args .dim) (c .before .before .before .before .before .before .before .before .args .file .now) (c .before .before .before .before .before .before .before .before .args .used) (c .before .before .before .before .before .before .before .before .args .journal .now) (c .before .before .before .before .before .before .before .before .args .jused) _ _ _ (ap placeIn (c .before .before .before .last4 .given .1)) (c .before .before .before .before .before .before .before .before .pre .0), ((c .before .before .before .before .before .before .before .before .pre .1 .0), read-even _ _ _ _ _ (c .before .before .before .before .before .before .before .before .pre .0 .ready) (c .before .before .before .before .before .if1 .left) _ (c .before .before .before .before .before .before .before .before .pre .1 .1) _ _ _ _ (c .before .before .before .last4 .given .1)))
+
+returns-2 : tie.Need-returns-2
+returns-2 c = answered (c .refused2 .ensures) (read-bad _ _ _ _ _ (c .before .before .before .before .before .before .pre .0 .ready) (c .before .before .before .if1 .left) _ (c .before .before .before .before .before .before .pre .1 .1) (c .before .enum-told .given .1))
+
+same-length : tie.Need-same-length
+same-length c = search needs
+
+returns-3 : tie.Need-returns-3
+returns-3 c = read-flag _ _ _ _ _ (c .before .before .before .before .before .before .before .before .before .before .pre .0 .ready) (c .before .before .before .before .before .before .before .if1 .left) _ (c .before .before .before .before .before .before .before .before .before .before .pre .1 .1) _ _ (c .before .before .before .before .before .last .given .1) _ _ (c .before .before .undo-flag .ensures)
+
+same-length-2 : tie.Need-same-length-2
+same-length-2 c = search needs
+
+returns-4 : tie.Need-returns-4
+returns-4 c = read-renamed _ _ _ _ _ (c .before .before .before .before .before .before .before .before .before .before .pre .0 .ready) (c .before .before .before .before .before .before .before .if1 .left) _ (c .before .before .before .before .before .before .before .before .before .before .pre .1 .1) _ _ _ _ (c .before .before .before .before .before .last2 .given .1) _ _ (c .before .before .undo-renamed .ensures)
+
+same-length-3 : tie.Need-same-length-3
+same-length-3 c = search needs
+
+returns-5 : tie.Need-returns-5
+returns-5 c = read-inserted _ _ _ _ _ (c .before .before .before .before .before .before .before .before .before .before .pre .0 .ready) (c .before .before .before .before .before .before .before .if1 .left) _ (c .before .before .before .before .before .before .before .before .before .before .pre .1 .1) _ _ _ (c .before .before .before .before .before .last3 .given .1) _ _ (c .before .before .undo-inserted .ensures)
+
+same-length-4 : tie.Need-same-length-4
+same-length-4 c = search needs
+
+returns-6 : tie.Need-returns-6
+returns-6 c = read-removed _ _ _ _ _ (c .before .before .before .before .before .before .before .before .before .before .before .pre .0 .ready) (c .before .before .before .before .before .before .before .before .if1 .left) _ (c .before .before .before .before .before .before .before .before .before .before .before .pre .1 .1) _ _ _ _ (c .before .before .before .before .before .before .last4 .given .1) _ _ (c .before .before .undo-removed .ensures)
+
+pub undo-opened-spec : {M : Type 1} → statement M
+undo-opened-spec =
+    tie.close
+    (tie.spec
+    refused-requires
+    returns
+    enum-told
+    refused-requires-2
+    enum-known-last
+    undo-flag-requires
+    enum-known-last-2
+    cast-undo-renamed
+    cast-undo-renamed-2
+    undo-renamed-requires
+    enum-known-last-3
+    undo-inserted-requires
+    enum-known-last-4
+    mul-undo-removed
+    add-undo-removed
+    sub-undo-removed
+    part-undo-removed-start
+    part-undo-removed-end
+    undo-removed-requires
+    returns-2
+    same-length
+    returns-3
+    same-length-2
+    returns-4
+    same-length-3
+    returns-5
+    same-length-4
+    returns-6)

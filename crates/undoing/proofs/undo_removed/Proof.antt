@@ -1,0 +1,74 @@
+use mathlib.Core.Path.{sym, _∙_}
+use lib.Seq.{length-take-le}
+use borrow.Author.Tests.{not-true, not-false}
+use Rattle.words.proofs.Laws.{lent-below}
+use Rattle.undoing.proofs.Ways.{answered-back}
+use Rattle.undoing.proofs.Reversals.{out-refused, out-room, out-done}
+use borrow.Author.Needs.{needs}
+use Rattle.undoing.proofs.undo_removed.Statement.{statement}
+use Rattle.undoing.proofs.undo_removed.Tie as tie
+
+header-at-requires : tie.Need-header-at-requires
+header-at-requires c κs = search needs
+
+slice-reshare-prefix-reversible : tie.Need-slice-reshare-prefix-reversible
+slice-reshare-prefix-reversible c = search needs
+
+slice-aggregate-reversible : tie.Need-slice-aggregate-reversible
+slice-aggregate-reversible c = sym (length-take-le _ _ ((c .before .before .before .before .pre .0 .within)))
+
+reversible-requires : tie.Need-reversible-requires
+reversible-requires c κs = search needs
+
+refused-requires : tie.Need-refused-requires
+refused-requires c κs = search needs
+
+same-length : tie.Need-same-length
+same-length c = search needs
+
+returns : tie.Need-returns
+returns c = answered-back ((c .refused .ensures)) (out-refused _ _ _ _ _ ((c .before .before .before .before .before .before .before .pre .0)) (lent-below ((c .before .before .before .before .before .before .before .args .file .now)) ((c .before .before .before .before .before .before .slice-known .given))) _ _ ((c .before .before .before .before .before .before .before .pre .1 .0)) ((c .before .before .before .before .before .before .before .args .header)) ((c .before .before .before .before .before .before .before .args .piece .now)) ((c .before .before .before .before .before .before .before .pre .1 .1)) _ ((c .before .before .before .before .header-at .ensures)) (sym ((c .before .before .reversible .ensures)) ∙ not-true _ ((c .before .if1 .taken))))
+
+sub-if2 : tie.Need-sub-if2
+sub-if2 c = search needs
+
+refused-requires-2 : tie.Need-refused-requires-2
+refused-requires-2 c κs = search needs
+
+same-length-2 : tie.Need-same-length-2
+same-length-2 c = search needs
+
+returns-2 : tie.Need-returns-2
+returns-2 c = answered-back ((c .refused2 .ensures)) (out-room _ _ _ _ _ ((c .before .before .before .before .before .before .before .before .pre .0)) (lent-below ((c .before .before .before .before .before .before .before .before .args .file .now)) ((c .before .before .before .before .before .before .before .slice-known .given))) _ _ ((c .before .before .before .before .before .before .before .before .pre .1 .0)) ((c .before .before .before .before .before .before .before .before .args .header)) ((c .before .before .before .before .before .before .before .before .args .piece .now)) ((c .before .before .before .before .before .before .before .before .pre .1 .1)) _ ((c .before .before .before .before .before .header-at .ensures)) (sym ((c .before .before .before .reversible .ensures)) ∙ not-false _ ((c .before .before .if1 .left))) ((c .before .if2 .taken)))
+
+insert-piece-requires : tie.Need-insert-piece-requires
+insert-piece-requires c κs = search needs
+
+add-t16 : tie.Need-add-t16
+add-t16 c = search needs
+
+same-length-3 : tie.Need-same-length-3
+same-length-3 c = search needs
+
+returns-3 : tie.Need-returns-3
+returns-3 c = out-done _ _ _ _ _ ((c .before .before .before .before .before .before .before .before .before .before .before .pre .0)) (lent-below ((c .before .before .before .before .before .before .before .before .before .before .before .args .file .now)) ((c .before .before .before .before .before .before .before .before .before .before .slice-known .given))) _ _ ((c .before .before .before .before .before .before .before .before .before .before .before .pre .1 .0)) ((c .before .before .before .before .before .before .before .before .before .before .before .args .header)) ((c .before .before .before .before .before .before .before .before .before .before .before .args .piece .now)) ((c .before .before .before .before .before .before .before .before .before .before .before .pre .1 .1)) _ ((c .before .before .before .before .before .before .before .before .header-at .ensures)) (sym ((c .before .before .before .before .before .before .reversible .ensures)) ∙ not-false _ ((c .before .before .before .before .before .if1 .left))) ((c .before .before .before .before .if2 .left)) _ ((c .before .before .insert-piece .ensures))
+
+pub undo-removed-spec : {M : Type 1} → statement M
+undo-removed-spec =
+    tie.close
+    (tie.spec
+    header-at-requires
+    slice-reshare-prefix-reversible
+    slice-aggregate-reversible
+    reversible-requires
+    refused-requires
+    same-length
+    returns
+    sub-if2
+    refused-requires-2
+    same-length-2
+    returns-2
+    insert-piece-requires
+    add-t16
+    same-length-3
+    returns-3)

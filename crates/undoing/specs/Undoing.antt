@@ -1,0 +1,57 @@
+-- What an undo reads, and what the reversal of one record owes.
+use Prim.Native.Nat.{ℕ, _+_, _*_, _%_, _≤_}
+use mathlib.Core.Path.{_≡_}
+use mathlib.Core.List.{List}
+use lib.ListN.{length, take}
+use lib.Dec.{leb}
+use Rattle.files.specs.Judge.{judgeOf}
+use Rattle.files.specs.declared.Judged.the-variants as judged
+use Rattle.reading.specs.declared.Spotted.{Spotted}
+use Rattle.reading.specs.Descent.{locateOf}
+use Rattle.edits.specs.declared.Edited.{Edited}
+use Rattle.edits.specs.declared.Edited.the-variants.{Made, Refused}
+use Rattle.edits.specs.Edits.{apply}
+use Rattle.edits.specs.Allowed.{Fault?, fine, fault, orElse, unless}
+use Rattle.edits.specs.Records.{Rec, reversal, reversible}
+use Rattle.edits.specs.Calls.{usedWords, stored}
+use Rattle.buffers.specs.declared.Last.{Last}
+use Rattle.buffers.specs.declared.Last.the-variants as last
+use Rattle.steps.specs.Steps.{lastPlace}
+
+-- the file of a session that opens, with what starts at the place p of it
+pub record OpenFile (dim : ℕ) (file : List ℕ) (used p : ℕ) (found : Spotted) : Type 0 where
+  pub elements : ℕ
+  pub deepest : ℕ
+  pub judged : judgeOf dim (take used file) ≡ judged.Accepted elements deepest (lastPlace file used)
+  pub last : lastPlace file used + 1 ≡ length (usedWords file used)
+  pub even : used % 2 ≡ 0
+  pub within : used ≤ length file
+  pub found-is : found ≡ locateOf (usedWords file used) p (lastPlace file used)
+
+-- the place that a record names, 0 where it is ill-formed
+abbrev pub placeIn : Last → ℕ
+placeIn last.Bad = 0
+placeIn (last.Flag p before) = p
+placeIn (last.Renamed p a b before) = p
+placeIn (last.Inserted h p before) = p
+placeIn (last.Removed h p n before) = p
+
+-- a refusal, or what is made
+abbrev pub answerBy : Fault? → ℕ → ℕ → Edited
+answerBy fine used jused = Made used jused
+answerBy (fault n p) used jused = Refused n p
+
+abbrev pub fileBy : Fault? → List ℕ → List ℕ → List ℕ
+fileBy fine after before = after
+fileBy (fault n p) after before = before
+
+-- 19 and 15 of a record's reversal on a file's buffer
+abbrev pub reversalFault : ℕ → List ℕ → ℕ → Rec → Fault?
+reversalFault dim file used rec =
+    orElse (unless (reversible dim (usedWords file used) rec) 19)
+    (unless (leb (2 * length (apply dim (usedWords file used) (reversal (usedWords file used) rec))) (length file)) 15)
+
+-- what reversing a record answers and leaves, where the journal's used length before the record is `before`
+pub record Reversed (dim : ℕ) (file : List ℕ) (used : ℕ) (rec : Rec) (before : ℕ) (r : Edited) (after : List ℕ) : Type 0 where
+  pub answer : r ≡ answerBy (reversalFault dim file used rec) (2 * length (apply dim (usedWords file used) (reversal (usedWords file used) rec))) before
+  pub file-is : after ≡ fileBy (reversalFault dim file used rec) (stored file used (apply dim (usedWords file used) (reversal (usedWords file used) rec))) file
