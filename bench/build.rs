@@ -1,5 +1,5 @@
-// Links the archive of the proved library, which `rt staticlib dgn` writes, and that of the C judge, the hops and the move,
-// which bench/run makes.
+// Links the archive of the proved library, which the script archive writes, and that of the C judge, the hops and the
+// move, which bench/run makes.
 fn main() {
     let root = std::env::var("CARGO_MANIFEST_DIR").unwrap() + "/..";
     for (folder, name) in [("staticlib", "dgn"), ("bench", "plain")] {

@@ -36,9 +36,9 @@ else
 fi
 
 # the proved library as an archive
-rt staticlib dgn > "$work/archive" 2>&1
+./archive > "$work/archive" 2>&1
 status=$?
-[ $status -eq 0 ] || cat "$work/archive"
+[ $status -eq 0 ] || cat "$work/archive" target/archive.log
 count $status 1
 
 # both readers on the same inputs

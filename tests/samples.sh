@@ -1,6 +1,6 @@
 #!/usr/bin/env bash
-# The sample files and the script list: samples/make.c makes the stored files byte for byte; list prints the stored
-# outputs, and README.md shows them. The last line is "N passed, M failed".
+# The sample files and the scripts archive and list: samples/make.c makes the stored files byte for byte; list prints the
+# stored outputs, and README.md shows them. The last line is "N passed, M failed".
 set -u
 cd "$(dirname "$0")/.." || exit 1
 top=$PWD
@@ -33,13 +33,11 @@ said() { grep -q "$1" "$work/err"; }
 # shows COMMAND OUT: whether README.md has the command, and below it all that OUT has
 shows() { [[ $(cat README.md) == *$'\n$ '"$1"$'\n'"$(cat "$2")"$'\n'* ]]; }
 
-# the library as an archive, where it is missing or older than its sources
+# the library as an archive
 archive=target/staticlib/libdgn.a
-newer() { find crates.txt crates -name must-fail -prune -o -newer "$archive" -print -quit; }
-if [ ! -e "$archive" ] || [ -n "$(newer)" ]; then
-    rt staticlib dgn > "$work/archive" 2>&1 || cat "$work/archive"
-fi
-check "the archive is not built" test -e "$archive"
+check "the archive is not built" ./archive
+(cd "$work" && "$top/archive") > "$work/err" 2>&1
+check "the archive is built again" quiet
 
 # the stored files
 check "make.c does not build" gcc -std=c99 -pedantic -O2 -Wall -Wextra -Werror -o "$work/make" samples/make.c "$archive"
@@ -82,7 +80,7 @@ check "two files" lists 2 /dev/null samples/nested.dgn samples/empty.dgn
 
 # the first run, in a copy where nothing is built, with a stand-in for rt: one that fails, then one that builds
 mkdir -p "$work/copy/crates" "$work/copy/samples" "$work/bin"
-cp list crates.txt "$work/copy"
+cp list archive crates.txt "$work/copy"
 cp samples/seals.cel "$work/copy/samples"
 first() { PATH=$work/bin:$PATH "$work/copy/list" > "$work/out" 2> "$work/err"; }
 printf '#!/bin/sh\necho "rt: words NOT PROVED (exit 1, 1 s)"\nexit 1\n' > "$work/bin/rt"
@@ -91,6 +89,9 @@ first
 check "a build that fails: status" test $? -eq 2
 check "a build that fails: output" test ! -s "$work/out"
 check "a build that fails: what rt says" said "NOT PROVED"
+PATH=$work/bin:$PATH "$work/copy/archive" > "$work/out" 2> "$work/err"
+check "an archive that is not proved: status" test $? -eq 2
+check "an archive that is not proved: where it is said why" said "target/archive.log"
 {
     printf '#!/bin/sh\necho "rt: words proved (1 s)"\necho "fn words::word: proved"\nmkdir -p target/bin target/stamp\n'
     printf 'cp "%s" target/bin/celllist\ntouch target/stamp/celllist\n' "$top/target/bin/celllist"

@@ -1,4 +1,4 @@
-// Links the archive of the proved library, which `rt staticlib dgn` writes.
+// Links the archive of the proved library, which the script archive writes.
 fn main() {
     let root = std::env::var("CARGO_MANIFEST_DIR").unwrap() + "/../../target/staticlib";
     println!("cargo:rustc-link-search=native={root}");

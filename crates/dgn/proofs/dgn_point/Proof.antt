@@ -5,7 +5,7 @@ use lib.ListN.{length-set}
 use mir.Syntax.{w64}
 use mir.ValLaws.{toZ-ofZ, toZ-pos}
 use Rattle.dgn.specs.Answers.{pointReply}
-use Rattle.dgn.proofs.Laws.{too-short, answered}
+use Rattle.answers.proofs.Laws.{too-short, answered}
 use Rattle.dgn.proofs.Places.{point-inside}
 use borrow.Author.Needs.{needs}
 use Rattle.dgn.proofs.dgn_point.Statement.{statement}

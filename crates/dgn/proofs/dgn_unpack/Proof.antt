@@ -2,7 +2,8 @@
 use native.Mathlib.Omega.{arith}
 use mathlib.Core.Path.{sym, ap, _∙_}
 use Rattle.dgn.specs.Answers.{unpackReply, textReply}
-use Rattle.dgn.proofs.Laws.{too-short, answered, no-name-place}
+use Rattle.answers.proofs.Laws.{too-short, answered}
+use Rattle.dgn.proofs.Laws.{no-name-place}
 use borrow.Author.Needs.{needs}
 use Rattle.dgn.proofs.dgn_unpack.Statement.{statement}
 use Rattle.dgn.proofs.dgn_unpack.Tie as tie

@@ -12,6 +12,7 @@ pub mod large;
 pub mod places;
 pub mod random;
 pub mod sessions;
+mod targets;
 pub mod texts;
 pub mod tree;
 pub mod writes;

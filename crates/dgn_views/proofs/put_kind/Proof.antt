@@ -1,0 +1,84 @@
+-- Each part is put behind the one before it (`kind-put`).
+use native.Mathlib.Omega.{arith}
+use lib.ListN.{length-set}
+use Rattle.dgn_views.proofs.Laws.{kind-put}
+use borrow.Author.Needs.{needs}
+use Rattle.dgn_views.proofs.put_kind.Statement.{statement}
+use Rattle.dgn_views.proofs.put_kind.Tie as tie
+
+display-numbers-requires : tie.Need-display-numbers-requires
+display-numbers-requires c κs = search needs
+
+slice-aggregate-put-numbers : tie.Need-slice-aggregate-put-numbers
+slice-aggregate-put-numbers c = search needs
+
+put-numbers-requires : tie.Need-put-numbers-requires
+put-numbers-requires c κs = search needs
+
+number-numbers-requires : tie.Need-number-numbers-requires
+number-numbers-requires c κs = search needs
+
+slice-aggregate-put-numbers-2 : tie.Need-slice-aggregate-put-numbers-2
+slice-aggregate-put-numbers-2 c = search needs
+
+put-numbers-requires-2 : tie.Need-put-numbers-requires-2
+put-numbers-requires-2 c κs = search needs
+
+name-numbers-requires : tie.Need-name-numbers-requires
+name-numbers-requires c κs = search needs
+
+slice-aggregate-put-numbers-3 : tie.Need-slice-aggregate-put-numbers-3
+slice-aggregate-put-numbers-3 c = search needs
+
+put-numbers-requires-3 : tie.Need-put-numbers-requires-3
+put-numbers-requires-3 c κs = search needs
+
+number-numbers-requires-2 : tie.Need-number-numbers-requires-2
+number-numbers-requires-2 c κs = search needs
+
+slice-aggregate-put-numbers-4 : tie.Need-slice-aggregate-put-numbers-4
+slice-aggregate-put-numbers-4 c = search needs
+
+put-numbers-requires-4 : tie.Need-put-numbers-requires-4
+put-numbers-requires-4 c κs = search needs
+
+number-numbers-requires-3 : tie.Need-number-numbers-requires-3
+number-numbers-requires-3 c κs = search needs
+
+slice-aggregate-put-numbers-5 : tie.Need-slice-aggregate-put-numbers-5
+slice-aggregate-put-numbers-5 c = search needs
+
+put-numbers-requires-5 : tie.Need-put-numbers-requires-5
+put-numbers-requires-5 c κs = search needs
+
+slice-write-out : tie.Need-slice-write-out
+slice-write-out c = omega (arith, (c .before .before .before .before .before .before .before .before .before .before .before .before .before .before .before .before .before .before .before .before .before .before .before .before .before .before .put-numbers .kept), (c .before .before .before .before .before .before .before .before .before .before .before .before .before .before .before .before .before .before .before .before .put-numbers2 .kept), (c .before .before .before .before .before .before .before .before .before .before .before .before .before .before .put-numbers3 .kept), (c .before .before .before .before .before .before .before .before .put-numbers4 .kept), (c .before .before .put-numbers5 .kept), (c .before .before .before .before .before .before .before .before .before .before .before .before .before .before .before .before .before .before .before .before .before .before .before .before .before .before .before .before .before .before .before .pre))
+
+same-length : tie.Need-same-length
+same-length c = simp length-set (omega (arith, (c .before .before .before .before .before .before .before .before .before .before .before .before .before .before .before .before .before .before .before .before .before .before .before .before .before .before .put-numbers .kept), (c .before .before .before .before .before .before .before .before .before .before .before .before .before .before .before .before .before .before .before .before .put-numbers2 .kept), (c .before .before .before .before .before .before .before .before .before .before .before .before .before .before .put-numbers3 .kept), (c .before .before .before .before .before .before .before .before .put-numbers4 .kept), (c .before .before .put-numbers5 .kept)))
+
+returns : tie.Need-returns
+returns c = cc ((c .before .before .before .before .before .before .before .before .before .before .before .before .before .before .before .before .before .before .before .before .before .before .before .before .before .before .before .before .display-numbers .ensures), (c .before .before .before .before .before .before .before .before .before .before .before .before .before .before .before .before .before .before .before .before .before .before .before .before .before .before .put-numbers .ensures), (c .before .before .before .before .before .before .before .before .before .before .before .before .before .before .before .before .before .before .before .before .before .before .number-numbers .ensures), (c .before .before .before .before .before .before .before .before .before .before .before .before .before .before .before .before .before .before .before .before .put-numbers2 .ensures), (c .before .before .before .before .before .before .before .before .before .before .before .before .before .before .before .before .name-numbers .ensures), (c .before .before .before .before .before .before .before .before .before .before .before .before .before .before .put-numbers3 .ensures), (c .before .before .before .before .before .before .before .before .before .before .number-numbers2 .ensures), (c .before .before .before .before .before .before .before .before .put-numbers4 .ensures), (c .before .before .before .before .number-numbers3 .ensures), (c .before .before .put-numbers5 .ensures), kind-put ((c .before .before .before .before .before .before .before .before .before .before .before .before .before .before .before .before .before .before .before .before .before .before .before .before .before .before .before .before .before .before .before .args .out .now)) ((c .before .before .before .before .before .before .before .before .before .before .before .before .before .before .before .before .before .before .before .before .before .before .before .before .before .before .before .before .before .before .before .args .element)))
+
+pub put-kind-spec : {M : Type 1} → statement M
+put-kind-spec =
+    tie.close
+    (tie.spec
+    display-numbers-requires
+    slice-aggregate-put-numbers
+    put-numbers-requires
+    number-numbers-requires
+    slice-aggregate-put-numbers-2
+    put-numbers-requires-2
+    name-numbers-requires
+    slice-aggregate-put-numbers-3
+    put-numbers-requires-3
+    number-numbers-requires-2
+    slice-aggregate-put-numbers-4
+    put-numbers-requires-4
+    number-numbers-requires-3
+    slice-aggregate-put-numbers-5
+    put-numbers-requires-5
+    slice-write-out
+    same-length
+    returns)

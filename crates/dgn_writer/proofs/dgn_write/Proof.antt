@@ -1,0 +1,81 @@
+-- No room for the answer, no header fields, or the writer's own answer (proofs/Writing).
+use mathlib.Core.Path.{ap}
+use Rattle.elements.proofs.Laws.{refused, accepted}
+use Rattle.dgn_writer.specs.Writing.{writeReply}
+use Rattle.dgn_writer.proofs.Writing.{given-sixteen, not-answered, not-given, written}
+use borrow.Author.Needs.{needs}
+use Rattle.dgn_writer.proofs.dgn_write.Statement.{statement}
+use Rattle.dgn_writer.proofs.dgn_write.Tie as tie
+
+returns : tie.Need-returns
+returns c = not-answered _ _ _ _ _ _ ((c .if1 .taken))
+
+fields-given-requires : tie.Need-fields-given-requires
+fields-given-requires c κs = search needs
+
+slice-write-out : tie.Need-slice-write-out
+slice-write-out c = search needs
+
+same-length : tie.Need-same-length
+same-length c = search needs
+
+returns-2 : tie.Need-returns-2
+returns-2 c = not-given _ _ _ _ _ _ (refused ((c .before .fields-given .ensures)) ((c .if2 .taken))) ((c .before .before .if1 .left))
+
+fields-of-requires : tie.Need-fields-of-requires
+fields-of-requires c κs = given-sixteen _ (accepted ((c .before .fields-given .ensures)) ((c .if2 .left)))
+
+write-requires : tie.Need-write-requires
+write-requires c κs = search needs
+
+enum-known-words : tie.Need-enum-known-words
+enum-known-words c = search needs
+
+slice-write-out-2 : tie.Need-slice-write-out-2
+slice-write-out-2 c = search needs
+
+enum-known-number : tie.Need-enum-known-number
+enum-known-number c = search needs
+
+slice-write-out-3 : tie.Need-slice-write-out-3
+slice-write-out-3 c = search needs
+
+same-length-2 : tie.Need-same-length-2
+same-length-2 c = search needs
+
+same-length-3 : tie.Need-same-length-3
+same-length-3 c = search needs
+
+returns-3 : tie.Need-returns-3
+returns-3 c = written _ _ _ _ _ _ ((c .before .before .before .before .before .write .result)) _ _ (accepted ((c .before .before .before .before .before .before .before .before .before .fields-given .ensures)) ((c .before .before .before .before .before .before .before .before .if2 .left))) ((c .before .before .before .before .before .before .before .before .before .before .if1 .left)) (rw ((c .before .before .before .before .before .before .before .fields-of .ensures)) at ((c .before .before .before .before .before .write .ensures))) (ap writeReply ((c .before .words .given .1)))
+
+same-length-4 : tie.Need-same-length-4
+same-length-4 c = search needs
+
+same-length-5 : tie.Need-same-length-5
+same-length-5 c = search needs
+
+returns-4 : tie.Need-returns-4
+returns-4 c = written _ _ _ _ _ _ ((c .before .before .before .before .before .write .result)) _ _ (accepted ((c .before .before .before .before .before .before .before .before .before .fields-given .ensures)) ((c .before .before .before .before .before .before .before .before .if2 .left))) ((c .before .before .before .before .before .before .before .before .before .before .if1 .left)) (rw ((c .before .before .before .before .before .before .before .fields-of .ensures)) at ((c .before .before .before .before .before .write .ensures))) (ap writeReply ((c .before .number .given .1)))
+
+pub dgn-write-spec : {M : Type 1} → statement M
+dgn-write-spec =
+    tie.close
+    (tie.spec
+    returns
+    fields-given-requires
+    slice-write-out
+    same-length
+    returns-2
+    fields-of-requires
+    write-requires
+    enum-known-words
+    slice-write-out-2
+    enum-known-number
+    slice-write-out-3
+    same-length-2
+    same-length-3
+    returns-3
+    same-length-4
+    same-length-5
+    returns-4)
