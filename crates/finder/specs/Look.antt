@@ -6,7 +6,7 @@ use mathlib.Core.List.{List, [], _∷_}
 use lib.ListN.{length}
 use Rattle.words.specs.Words.{words}
 use Rattle.elements.specs.Header.{typeAt, sizeAt}
-use Rattle.elements.specs.Kinds.{isHeader}
+use Rattle.kinds.specs.Kinds.{isHeader}
 use Rattle.files.specs.Spots.{Spot}
 use Rattle.finder.specs.declared.Found.{Found}
 use Rattle.finder.specs.Finder.{firstNamed}

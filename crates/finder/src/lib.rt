@@ -107,7 +107,7 @@ fn look_through(
     requires { ⌜ OneExtent (now file) before from to ⌝ }
     ensures { λ r. ⌜ FirstFrom (words (now (file .entry))) first second before from to r ⌝ }
 {
-    if elements::is_header(elements::type_at(file, from)) {
+    if kinds::is_header(elements::type_at(file, from)) {
         return look(file, from, to, before, first, second);
     }
     Found::Refused {
@@ -217,7 +217,7 @@ fn opens_list(s: &[u8], at: usize, depth: usize) -> bool
     if 8 <= depth {
         return false;
     }
-    if elements::is_header(elements::type_at(s, at)) {
+    if kinds::is_header(elements::type_at(s, at)) {
         return elements::size_at(s, at) < extent_at(s, at);
     }
     false

@@ -1,7 +1,7 @@
 -- An element that is no header is one, without a name (`look-plain`).
 use mathlib.Core.Path.{sym, ap, _∙_}
 use native.Mathlib.Omega.{arith}
-use Rattle.elements.specs.Kinds.{isHeader}
+use Rattle.kinds.specs.Kinds.{isHeader}
 use Rattle.finder.proofs.Looks.{look-plain}
 use borrow.Author.Needs.{needs}
 use Rattle.finder.proofs.look_through.Statement.{statement}
