@@ -6,7 +6,7 @@ use mathlib.Core.List.{List, [], _∷_}
 use lib.ListN.{length, set, length-set}
 use Rattle.words.specs.Words.{wordAt}
 use Rattle.elements.specs.Header.{typeAt}
-use Rattle.elements.specs.Kinds.{isCounted}
+use Rattle.kinds.specs.Kinds.{isCounted}
 use Rattle.edits.specs.Edits.{moved, countMoved, corrected, isLast, raise}
 
 length-corrected : (up : Bool) (n : ℕ) (direct : Bool) (q : ℕ) (ws : List ℕ) → length (corrected up n direct q ws) ≡ length ws

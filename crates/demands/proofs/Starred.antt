@@ -3,7 +3,7 @@ use mathlib.Core.Path.{_≡_, refl}
 use mathlib.Core.Bool.{true}
 use Rattle.names.specs.Names.{codeOf, letterOf, wordAt, packed, wordOk, nameOk, textIn, answerOf, unpacked}
 use Rattle.linkages.specs.Linkages.{linkageWords, fillFrom, linkagesFill}
-use Rattle.elements.specs.Kinds.{fixedPart, mayStand}
+use Rattle.kinds.specs.Kinds.{fixedPart, mayStand}
 use Rattle.elements.specs.Attributes.{attributesOk, linkagesOk}
 use Rattle.elements.specs.Rules.{reservedOk, placeOk, fixedOk, extentOk, storedNameOk, faultOf, headOf, countOk}
 use Rattle.files.specs.Judge.{stopOf, elementFrom, listFrom, topOf, callOk, judgeOf}

@@ -8,7 +8,7 @@ use lib.IntN.{ℤ, pos, negsuc}
 use lib.ListN.{replicate}
 use Rattle.words.specs.Words.{words, bytes, longAt, signed}
 use Rattle.names.specs.Names.{packed, packedNumbers, unpacked, answerNumbers}
-use Rattle.elements.specs.Kinds.{fixedPart}
+use Rattle.kinds.specs.Kinds.{fixedPart}
 use Rattle.files.specs.Judge.{judgeOf, judgedNumbers}
 
 -- a worked case: the numbers that the definitions give, and the numbers of document 01

@@ -62,7 +62,7 @@ pub extern "C" fn dgn_mark(
         out[0] = 0;
         return 1;
     }
-    let answer = sessions::mark(file, used, journal, jused, dim, place, deleted == 1);
+    let answer = marking::mark(file, used, journal, jused, dim, place, deleted == 1);
     put_edited(out, answer)
 }
 
@@ -82,7 +82,7 @@ pub extern "C" fn dgn_rename(
     if out.len() < 2 {
         return 1;
     }
-    let answer = sessions::rename(file, used, journal, jused, dim, place, text);
+    let answer = marking::rename(file, used, journal, jused, dim, place, text);
     put_edited(out, answer)
 }
 
@@ -104,7 +104,7 @@ pub extern "C" fn dgn_insert(
         return 1;
     }
     let above = header_given(header);
-    let answer = sessions::insert(file, used, journal, jused, dim, above, place, piece);
+    let answer = moving::insert(file, used, journal, jused, dim, above, place, piece);
     put_edited(out, answer)
 }
 
@@ -123,7 +123,7 @@ pub extern "C" fn dgn_remove(
     if out.len() < 2 {
         return 1;
     }
-    let answer = sessions::remove(file, used, journal, jused, dim, place);
+    let answer = moving::remove(file, used, journal, jused, dim, place);
     put_edited(out, answer)
 }
 
@@ -141,6 +141,6 @@ pub extern "C" fn dgn_undo(
     if out.len() < 2 {
         return 1;
     }
-    let answer = sessions::undo(file, used, journal, jused, dim);
+    let answer = undoing::undo(file, used, journal, jused, dim);
     put_edited(out, answer)
 }

@@ -12,11 +12,12 @@ use lib.Dec.{eqb}
 use borrow.Author.Tests.{eqb-true, eq-eqb, ne-eqb}
 use Rattle.words.specs.Words.{Below, wordAt}
 use Rattle.names.specs.Names.{nameOk}
-use Rattle.elements.specs.Header.{reservedOf, cOf, typeOf, deletedOf, typeAt, pointsAt}
-use Rattle.elements.specs.Kinds.{isHeader, isCounted, isPointed, isLinked, fixedPart}
+use Rattle.kinds.specs.FirstWord.{reservedOf, cOf, typeOf, deletedOf}
+use Rattle.elements.specs.Header.{typeAt, pointsAt}
+use Rattle.kinds.specs.Kinds.{isHeader, isCounted, isPointed, isLinked, fixedPart}
 use Rattle.elements.specs.Rules.{storedNameOk, countOk}
 use Rattle.grammar.specs.Grammar.{Own, Extent}
-use Rattle.elements.proofs.Types.{linked-long}
+use Rattle.kinds.proofs.Types.{linked-long}
 use Rattle.grammar.proofs.Types.{cell-long}
 use Rattle.edits.specs.Edits.{flagged}
 use Rattle.edits.specs.Allowed.{flagDiffers, isCell}

@@ -10,8 +10,9 @@ use mathlib.Core.Option.{Option, none, some}
 use lib.ListN.{length, length-append}
 use lib.Dec.{eqb}
 use borrow.Author.Tests.{eqb-true, eq-eqb}
-use Rattle.elements.specs.Header.{typeOf, typeAt}
-use Rattle.elements.specs.Kinds.{isHeader}
+use Rattle.kinds.specs.FirstWord.{typeOf}
+use Rattle.elements.specs.Header.{typeAt}
+use Rattle.kinds.specs.Kinds.{isHeader}
 use Rattle.files.specs.Spots.{Spot, spotIn}
 use Rattle.grammar.proofs.Forest.{Forest, nil, node, flat, weight, Wf, spots, own-stands}
 use Rattle.grammar.proofs.Stands.{Stands, stands-first, stands-append}

@@ -12,11 +12,12 @@ use lib.Dec.{eqb}
 use borrow.Author.Tests.{eqb-true, eqb-false, eq-eqb}
 use Rattle.words.specs.Words.{Below, wordAt}
 use Rattle.names.specs.Names.{nameOk}
-use Rattle.elements.specs.Header.{reservedOf, cOf, typeOf, typeAt, pointsAt, countAt}
-use Rattle.elements.specs.Kinds.{isHeader, isCounted, isPointed}
+use Rattle.kinds.specs.FirstWord.{reservedOf, cOf, typeOf}
+use Rattle.elements.specs.Header.{typeAt, pointsAt, countAt}
+use Rattle.kinds.specs.Kinds.{isHeader, isCounted, isPointed}
 use Rattle.elements.specs.Rules.{storedNameOk, countOk}
 use Rattle.grammar.specs.Grammar.{Own, Extent}
-use Rattle.elements.proofs.Types.{each-named, header-long}
+use Rattle.kinds.proofs.Types.{each-named, header-long}
 use Rattle.edits.specs.Edits.{moved, countMoved, corrected}
 use Rattle.edits.proofs.Tests.{both-and, rule-of, of-rule}
 use Rattle.edits.proofs.Parts.{read-in, read-first, set-in}

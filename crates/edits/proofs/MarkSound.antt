@@ -7,7 +7,7 @@ use mathlib.Core.List.{List, _++_}
 use lib.ListN.{length}
 use lib.Dec.{eqb}
 use Rattle.words.specs.Words.{Below, wordAt}
-use Rattle.elements.specs.Header.{deletedOf}
+use Rattle.kinds.specs.FirstWord.{deletedOf}
 use Rattle.files.specs.Spots.{spotsOf}
 use Rattle.grammar.specs.Grammar.{Own}
 use Rattle.grammar.proofs.Forest.{Forest, node, flat, num, Wf}

@@ -12,12 +12,13 @@ use Rattle.words.specs.Words.{wordAt}
 use Rattle.names.specs.Names.{nameOk}
 use Rattle.linkages.specs.Linkages.{linkagesFill}
 use Rattle.linkages.proofs.Local.{fill-local}
-use Rattle.elements.specs.Header.{reservedOf, cOf, typeAt, sizeAt, pointsAt, attributesAt, attributePartAt}
-use Rattle.elements.specs.Kinds.{isHeader, isPointed, isLinked, fixedPart}
+use Rattle.kinds.specs.FirstWord.{reservedOf, cOf}
+use Rattle.elements.specs.Header.{typeAt, sizeAt, pointsAt, attributesAt, attributePartAt}
+use Rattle.kinds.specs.Kinds.{isHeader, isPointed, isLinked, fixedPart}
 use Rattle.elements.specs.Attributes.{hasAttributes, attributesOk, linkagesOk}
 use Rattle.elements.specs.Rules.{reservedOk, placeOk, pointsOk, fixedOk, storedNameOk, countOk}
 use Rattle.grammar.specs.Grammar.{Own, Extent}
-use Rattle.elements.proofs.Types.{fixed-any}
+use Rattle.kinds.proofs.Types.{fixed-any}
 use Rattle.elements.proofs.Laws.{fixed-least}
 use Rattle.edits.proofs.Tests.{both-and, rule-of, of-rule}
 

@@ -10,7 +10,7 @@ use lib.Dec.{leb}
 use borrow.Author.Tests.{leb-true, le-leb}
 use Rattle.words.specs.Words.{Below}
 use Rattle.elements.specs.Header.{typeAt, extentAt}
-use Rattle.elements.specs.Kinds.{isHeader}
+use Rattle.kinds.specs.Kinds.{isHeader}
 use Rattle.grammar.specs.Grammar.{Own}
 use Rattle.grammar.proofs.Forest.{Forest, nil, node, flat, num, weight, Wf, own-stands, components-stand, rest-stand}
 use Rattle.grammar.proofs.Stands.{Stands, stands-word, stands-left, stands-right}

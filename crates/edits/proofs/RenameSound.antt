@@ -8,7 +8,8 @@ use lib.ListN.{length}
 use lib.Dec.{eqb}
 use Rattle.words.specs.Words.{Below, wordAt}
 use Rattle.names.specs.Names.{nameOk}
-use Rattle.elements.specs.Header.{typeOf, typeAt}
+use Rattle.kinds.specs.FirstWord.{typeOf}
+use Rattle.elements.specs.Header.{typeAt}
 use Rattle.files.specs.Spots.{spotsOf}
 use Rattle.grammar.specs.Grammar.{Own}
 use Rattle.grammar.proofs.Forest.{Forest, node, flat, num, Wf}

@@ -8,7 +8,7 @@ use mathlib.Core.List.{List, [], _∷_, _++_, append-assoc, append-nil}
 use mathlib.Core.Option.{Option, some}
 use lib.ListN.{length, length-append}
 use Rattle.elements.specs.Header.{typeAt}
-use Rattle.elements.specs.Kinds.{isHeader}
+use Rattle.kinds.specs.Kinds.{isHeader}
 use Rattle.grammar.specs.Grammar.{Own, Extent}
 use Rattle.grammar.proofs.Forest.{Forest, node, flat, num, weight, Wf}
 use Rattle.edits.proofs.Grown.{grown, one, length-grown, type-grown, header-extent, own-up, up-back, own-down, down-back}

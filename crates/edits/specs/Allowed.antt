@@ -7,8 +7,9 @@ use lib.ListN.{length}
 use lib.Dec.{eqb, leb}
 use Rattle.words.specs.Words.{wordAt}
 use Rattle.names.specs.Names.{nameOk}
-use Rattle.elements.specs.Header.{typeAt, deletedOf, extentAt}
-use Rattle.elements.specs.Kinds.{isHeader}
+use Rattle.kinds.specs.FirstWord.{deletedOf}
+use Rattle.elements.specs.Header.{typeAt, extentAt}
+use Rattle.kinds.specs.Kinds.{isHeader}
 use Rattle.files.specs.Judge.{elementOf}
 use Rattle.files.specs.Spots.{Spot, spotsOf, spotIn}
 use Rattle.files.specs.declared.Verdict.{Verdict}

@@ -7,7 +7,7 @@ use lib.ListN.{length, take, drop, set}
 use lib.Dec.{eqb, ltb}
 use Rattle.words.specs.Words.{wordAt}
 use Rattle.elements.specs.Header.{typeAt}
-use Rattle.elements.specs.Kinds.{isCounted}
+use Rattle.kinds.specs.Kinds.{isCounted}
 use Rattle.files.specs.Spots.{Spot, spotsOf, spotIn}
 
 -- mark: place, and deleted (true) or live; rename: place and the name's two words; insert: header's place (none: the

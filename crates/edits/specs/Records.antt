@@ -7,7 +7,7 @@ use mathlib.Core.Option.{Option, none, some}
 use lib.ListN.{length, take, drop}
 use lib.Dec.{eqb, leb}
 use Rattle.words.specs.Words.{wordAt, longAt}
-use Rattle.elements.specs.Header.{deletedOf}
+use Rattle.kinds.specs.FirstWord.{deletedOf}
 use Rattle.files.specs.Spots.{Spot, spotsOf, spotIn}
 use Rattle.edits.specs.Edits.{Edit, mark, rename, insert, remove, namePlace, extentIn}
 use Rattle.edits.specs.Allowed.{Fault?, fine, fault, under?, editFault}

@@ -7,13 +7,14 @@ use native.Mathlib.Omega.{arith}
 use lib.Dec.{eqb, leb}
 use borrow.Author.Tests.{leb-true, leb-false, le-leb, lt-leb, eqb-true, eqb-false, eq-eqb, ne-eqb, not-true, not-false}
 use Rattle.words.specs.Words.{words, wordAt}
-use Rattle.elements.specs.Header.{typeOf, typeAt, sizeAt, pointsAt, extentAt, attributesAt}
-use Rattle.elements.specs.Kinds.{isHeader, isLinked, isPointed, isUnread, fixedPart, mayStand}
+use Rattle.kinds.specs.FirstWord.{typeOf}
+use Rattle.elements.specs.Header.{typeAt, sizeAt, pointsAt, extentAt, attributesAt}
+use Rattle.kinds.specs.Kinds.{isHeader, isLinked, isPointed, isUnread, fixedPart, mayStand}
 use Rattle.elements.specs.Attributes.{attributesOk, linkagesOk}
 use Rattle.elements.specs.Rules.{reservedOk, placeOk, pointsOk, fixedOk, extentOk, storedNameOk, Check, check, firstFault, checks, faultOf, headOf, HeadRead}
 use Rattle.elements.specs.declared.Head.{Head}
 use Rattle.elements.specs.declared.Head.the-variants.{Bad, Plain, Complex}
-use Rattle.elements.proofs.Types.{header-long, linked-long, fixed-any, not-header, raw-pointless, raw-part, header-pointless, stands-raw}
+use Rattle.kinds.proofs.Types.{header-long, linked-long, fixed-any, not-header, raw-pointless, raw-part, header-pointless, stands-raw}
 
 -- all tests of an element pass
 pub record Checked (dim depth under : ℕ) (ws : List ℕ) (at bound : ℕ) : Type 0 where

@@ -5,7 +5,7 @@ use mathlib.Core.Bool.{Bool, not, _&&_, _||_}
 use lib.Dec.{leb}
 use Rattle.linkages.specs.Linkages.{linkagesFill}
 use Rattle.elements.specs.Header.{typeAt, sizeAt, pointsAt, attributesAt, attributePartAt}
-use Rattle.elements.specs.Kinds.{isLinked, fixedPart}
+use Rattle.kinds.specs.Kinds.{isLinked, fixedPart}
 
 -- the element has an attribute part: its type may have one, and A is set
 abbrev pub hasAttributes : List ℕ → ℕ → Bool
@@ -18,6 +18,6 @@ attributesOk dim ws at =
     && (leb (attributePartAt ws at) (sizeAt ws at)
     && linkagesFill ws (at + attributePartAt ws at) (at + sizeAt ws at))
 
--- 11: the attribute part of an element that has one
+-- 11 unless the attribute part of an element that has one is right
 unfoldable pub linkagesOk : ℕ → List ℕ → ℕ → Bool
 linkagesOk dim ws at = not (hasAttributes ws at) || attributesOk dim ws at

@@ -1,26 +1,11 @@
--- The element header (document 01, "The element header"): the fields of an element that starts at the place `at` of
--- the words `ws`. Of an element's own words alone, `at` is 0.
+-- The element header (document 01, "The element header") but for word 0: the fields of an element that starts at the
+-- place `at` of the words `ws`. Of an element's own words alone, `at` is 0.
 use Prim.Native.Nat.{ℕ, _+_, _/_, _%_}
 use mathlib.Core.List.{List}
 use mathlib.Core.Bool.{Bool}
 use lib.Dec.{eqb}
 use Rattle.words.specs.Words.{wordAt}
-
--- the fields of word 0
-abbrev pub levelOf : ℕ → ℕ
-levelOf w = w % 64
-
-abbrev pub reservedOf : ℕ → ℕ
-reservedOf w = w / 64 % 2
-
-abbrev pub cOf : ℕ → ℕ
-cOf w = w / 128 % 2
-
-abbrev pub typeOf : ℕ → ℕ
-typeOf w = w / 256 % 128
-
-abbrev pub deletedOf : ℕ → ℕ
-deletedOf w = w / 32768 % 2
+use Rattle.kinds.specs.FirstWord.{typeOf}
 
 -- the type of the element
 abbrev pub typeAt : List ℕ → ℕ → ℕ

@@ -1,4 +1,3 @@
 pub mod Header
-pub mod Kinds
 pub mod Attributes
 pub mod Rules

@@ -8,21 +8,22 @@ use mathlib.Core.Bool.{Bool, true, false, cond, not, _&&_, _||_}
 use lib.Dec.{eqb, leb}
 use Rattle.words.specs.Words.{words, wordAt}
 use Rattle.names.specs.Names.{nameOk}
-use Rattle.elements.specs.Header.{reservedOf, cOf, typeOf, typeAt, sizeAt, pointsAt, extentAt, countAt}
-use Rattle.elements.specs.Kinds.{isHeader, isCounted, isPointed, fixedPart, mayStand}
+use Rattle.kinds.specs.FirstWord.{reservedOf, cOf, typeOf}
+use Rattle.elements.specs.Header.{typeAt, sizeAt, pointsAt, extentAt, countAt}
+use Rattle.kinds.specs.Kinds.{isHeader, isCounted, isPointed, fixedPart, mayStand}
 use Rattle.elements.specs.Attributes.{linkagesOk}
 use Rattle.elements.specs.declared.Head.{Head}
 use Rattle.elements.specs.declared.Head.the-variants.{Bad, Plain, Complex}
 
--- 4: bit 6 of word 0 is zero; in type 9 it is not judged
+-- 4 unless bit 6 of word 0 is zero; in type 9 it is not judged
 unfoldable pub reservedOk : ℕ → Bool
 reservedOk w = eqb (typeOf w) 9 || eqb (reservedOf w) 0
 
--- 5: a top-level element has C clear in word 0, a component has it set; in type 9 it is not judged
+-- 5 unless a top-level element has C clear in word 0, a component has it set; in type 9 it is not judged
 unfoldable pub placeOk : ℕ → ℕ → Bool
 placeOk depth w = eqb (typeOf w) 9 || eqb (cOf w) (cond (eqb depth 0) 0 1)
 
--- 7: N is from 2 to 101, and the element is not shorter than its fixed part
+-- 7 unless N is from 2 to 101, and the element is not shorter than its fixed part
 abbrev pub pointsOk : List ℕ → ℕ → Bool
 pointsOk ws at = leb 19 (sizeAt ws at) && (leb 2 (pointsAt ws at) && leb (pointsAt ws at) 101)
 
@@ -31,15 +32,15 @@ fixedOk dim ws at =
     (not (isPointed (typeAt ws at)) || pointsOk ws at)
     && leb (fixedPart dim (typeAt ws at) (pointsAt ws at)) (sizeAt ws at)
 
--- 8: the size is at most 65,535 words; a header's extent ends neither before the header does, nor past the bound,
--- nor above 65,535 words
+-- 8 unless the size is at most 65,535 words and a header's extent ends neither before the header does, nor past the
+-- bound, nor above 65,535 words
 unfoldable pub extentOk : List ℕ → ℕ → ℕ → Bool
 extentOk ws at room =
     leb (sizeAt ws at) 65535
     && (not (isHeader (typeAt ws at))
     || (leb (sizeAt ws at) (extentAt ws at) && (leb (extentAt ws at) room && leb (extentAt ws at) 65535)))
 
--- 12: the stored name of a type 1 or 2
+-- 12 unless the stored name of a type 1 or 2 is right
 unfoldable pub storedNameOk : List ℕ → ℕ → Bool
 storedNameOk ws at =
     (not (eqb (typeAt ws at) 1) || nameOk (wordAt ws (at + 16)) (wordAt ws (at + 17)))
@@ -90,7 +91,7 @@ headOf dim depth under ws at bound =
     (cond (isHeader (typeAt ws at)) (Complex (at + sizeAt ws at) (at + extentAt ws at)) (Plain (at + sizeAt ws at)))
     (Bad (faultOf dim depth under ws at bound))
 
--- 9, after the components: the count of a header that has one is that of its direct components
+-- 9, after the components, unless the count of a header that has one is that of its direct components
 unfoldable pub countOk : List ℕ → ℕ → ℕ → Bool
 countOk ws at direct = not (isCounted (typeAt ws at)) || eqb (countAt ws at) direct
 

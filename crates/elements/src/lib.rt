@@ -1,13 +1,13 @@
 // One element alone: the fields of its header, its type, and all rules that do not look at its components. The
-// definitions are in specs/: Header (fields), Kinds (types), Attributes, Rules (the order of checks).
+// definitions are in specs/: Header (fields), Attributes, Rules (the order of checks); those of the types are in kinds.
 ghost use mathlib.Core.Path.{_≡_};
-ghost use mathlib.Core.Bool.{true, false, cond, not, _&&_, _||_};
+ghost use mathlib.Core.Bool.{true, false, not, _&&_, _||_};
 ghost use mathlib.Core.List.{[], _∷_};
 ghost use Prim.Native.Nat.{ℕ, _+_, _<_, _≤_, _^_};
 ghost use lib.Dec.{eqb, leb};
 ghost use Rattle.words.specs.Words.{words};
-ghost use Rattle.elements.specs.Header.{typeOf, typeAt, sizeAt, pointsAt, extentAt, attributesAt};
-ghost use Rattle.elements.specs.Kinds.{isHeader, isCounted, isPointed, isLinked, isUnread, isRead, fixedPart, underOk, mayStand};
+ghost use Rattle.kinds.specs.Kinds.{isHeader, isPointed, isLinked, isUnread, fixedPart, mayStand};
+ghost use Rattle.elements.specs.Header.{typeAt, sizeAt, pointsAt, extentAt, attributesAt};
 ghost use Rattle.elements.specs.Attributes.{attributesOk, linkagesOk};
 ghost use Rattle.elements.specs.Rules.{reservedOk, placeOk, pointsOk, fixedOk, storedNameOk, check, firstFault, contentChecks, HeadRead, countOk};
 
@@ -19,18 +19,11 @@ pub enum Head {
     Complex { inner: usize, end: usize },
 }
 
-// The type in word 0.
-pub fn type_of(w: usize) -> usize
-    ensures { λ r. ⌜ r ≡ typeOf w ⌝ }
-{
-    w / 256 % 128
-}
-
 // The type of the element at a place.
 pub fn type_at(s: &[u8], at: usize) -> usize
     ensures { λ r. ⌜ r ≡ typeAt (words (now (s .entry))) at ⌝ }
 {
-    type_of(words::word(s, at))
+    kinds::type_of(words::word(s, at))
 }
 
 // The size of the element at a place, in words.
@@ -44,119 +37,14 @@ pub fn size_at(s: &[u8], at: usize) -> usize
     }
 }
 
-// The headers. Here and below numbers that follow one another stand in different arms: in one arm they would be
-// compared as a range.
-pub fn is_header(t: usize) -> bool
-    ensures { λ r. ⌜ r ≡ isHeader t ⌝ }
-{
-    match t {
-        1 | 7 | 12 | 14 | 18 => true,
-        2 | 19 => true,
-        _ => false,
-    }
-}
-
-// The headers with a count.
-pub fn is_counted(t: usize) -> bool
-    ensures { λ r. ⌜ r ≡ isCounted t ⌝ }
-{
-    match t {
-        7 | 12 | 14 | 18 => true,
-        19 => true,
-        _ => false,
-    }
-}
-
-// The types with N points.
-pub fn is_pointed(t: usize) -> bool
-    ensures { λ r. ⌜ r ≡ isPointed t ⌝ }
-{
-    match t {
-        4 | 6 | 11 | 21 => true,
-        _ => false,
-    }
-}
-
-// The types that may have attributes.
-pub fn is_linked(t: usize) -> bool
-    ensures { λ r. ⌜ r ≡ isLinked t ⌝ }
-{
-    match t {
-        2 | 4 | 6 | 11 | 14 | 17 | 19 | 21 => true,
-        3 | 7 | 12 | 18 => true,
-        _ => false,
-    }
-}
-
-// One of two numbers.
-fn pick(first: bool, a: usize, b: usize) -> usize
-    ensures { λ r. ⌜ r ≡ cond first a b ⌝ }
-{
-    if first { a } else { b }
-}
-
-// The fixed part of a type, in words, with N points where the type has points.
-pub fn fixed_part(dim: usize, t: usize, n: u16) -> usize
-    ensures { λ r. ⌜ r ≡ fixedPart dim t n ⌝ }
-{
-    let n = n as usize;
-    match t {
-        1 => 35,
-        2 => pick(dim == 2, 46, 62),
-        3 => pick(dim == 2, 26, 30),
-        4 | 6 | 11 | 21 => pick(dim == 2, 19 + 4 * n, 19 + 6 * n),
-        7 => pick(dim == 2, 35, 43),
-        12 | 14 => 20,
-        17 => 18,
-        18 => 21,
-        19 => 21,
-        _ => 2,
-    }
-}
-
-// The types that are read.
-fn is_read(dim: usize, t: usize) -> bool
-    ensures { λ r. ⌜ r ≡ isRead dim t ⌝ }
-{
-    match t {
-        24 | 27 | 87 => false,
-        18 => dim != 2,
-        19 => dim != 2,
-        _ => true,
-    }
-}
-
-// What may stand under a header of type `under`, 0 at the top.
-fn under_ok(under: usize, t: usize) -> bool
-    ensures { λ r. ⌜ r ≡ underOk under t ⌝ }
-{
-    match under {
-        0 => true,
-        7 => t == 17,
-        12 | 14 | 18 => !is_header(t),
-        19 => !is_header(t),
-        _ => t != 1,
-    }
-}
-
-// Whether a type may stand under a header of type `under` (0 at the top), and is read.
-pub fn may_stand(dim: usize, under: usize, t: usize) -> bool
-    ensures { λ r. ⌜ r ≡ mayStand dim under t ⌝ }
-{
-    if is_read(dim, t) {
-        return under_ok(under, t);
-    }
-    false
-}
-
 // 4 and 5: bits 6 and 7 of word 0, as one number.
 fn flags_ok(w: usize, depth: usize) -> bool
     ensures { λ r. ⌜ r ≡ (reservedOk w && placeOk depth w) ⌝ }
 {
-    if w / 64 % 4 == pick(depth == 0, 0, 2) {
+    if w / 64 % 4 == kinds::pick(depth == 0, 0, 2) {
         return true;
     }
-    type_of(w) == 9
+    kinds::type_of(w) == 9
 }
 
 // The number of the first fault in bits 6 and 7 of word 0 and in the depth, 0 where there is none.
@@ -164,7 +52,7 @@ fn flag_fault(w: usize, depth: usize) -> usize
     ensures { λ r. ⌜ r ≡ firstFault (check (reservedOk w) 4 ∷ check (placeOk depth w) 5 ∷ check (leb depth 8) 10 ∷ []) ⌝ }
 {
     if !flags_ok(w, depth) {
-        return pick(w / 64 % 2 == 0, 5, 4);
+        return kinds::pick(w / 64 % 2 == 0, 5, 4);
     }
     if 8 < depth {
         return 10;
@@ -189,16 +77,6 @@ fn text_ok(under: usize, t: usize) -> bool
     true
 }
 
-// The types that are refused wherever they stand.
-fn is_unread(t: usize) -> bool
-    ensures { λ r. ⌜ r ≡ isUnread t ⌝ }
-{
-    match t {
-        24 | 27 | 87 => true,
-        _ => false,
-    }
-}
-
 // The number of the first fault of a raw element, 0 where there is none.
 fn raw_fault(t: usize, size: usize, under: usize) -> usize
     ensures { λ r. ⌜ r ≡ firstFault (check (not (eqb under 7)) 6 ∷ check (not (isUnread t)) 6 ∷ check (leb size 65535) 8 ∷ []) ⌝ }
@@ -206,7 +84,7 @@ fn raw_fault(t: usize, size: usize, under: usize) -> usize
     if under == 7 {
         return 6;
     }
-    if is_unread(t) {
+    if kinds::is_unread(t) {
         return 6;
     }
     if !size_ok(size) {
@@ -220,7 +98,7 @@ fn points_ok(s: &[u8], at: usize, t: usize, size: usize) -> bool
     requires { ⌜ (size ≡ sizeAt (words (now s)) at) × (at + size < 2 ^ 64) ⌝ }
     ensures { λ r. ⌜ r ≡ (not (isPointed t) || pointsOk (words (now (s .entry))) at) ⌝ }
 {
-    if !is_pointed(t) {
+    if !kinds::is_pointed(t) {
         return true;
     }
     if size < 19 {
@@ -240,13 +118,13 @@ fn plain_part(s: &[u8], at: usize, t: usize, dim: usize) -> usize
     ensures { λ r. ⌜ r ≡ fixedPart dim t (pointsAt (words (now (s .entry))) at) ⌝ }
 {
     if t == 3 {
-        return pick(dim == 2, 26, 30);
+        return kinds::pick(dim == 2, 26, 30);
     }
     if t == 17 {
         return 18;
     }
     let n = words::word(s, at + 18);
-    pick(dim == 2, 19 + 4 * n, 19 + 6 * n)
+    kinds::pick(dim == 2, 19 + 4 * n, 19 + 6 * n)
 }
 
 // The attribute part, where A is set: where it begins, and that linkages fill it. The fixed part is given.
@@ -299,7 +177,7 @@ fn simple_fault(s: &[u8], at: usize, t: usize, size: usize, under: usize, dim: u
     requires { ⌜ (isHeader t ≡ false) × (at + size < 2 ^ 64) ⌝ }
     ensures { λ r. ⌜ r ≡ firstFault (check (mayStand dim under t) 6 ∷ check (fixedOk dim (words (now (s .entry))) at) 7 ∷ check (leb size 65535) 8 ∷ check (linkagesOk dim (words (now (s .entry))) at) 11 ∷ []) ⌝ }
 {
-    if is_linked(t) {
+    if kinds::is_linked(t) {
         return plain_fault(s, at, t, size, under, dim);
     }
     raw_fault(t, size, under)
@@ -360,10 +238,10 @@ fn header_fault(
     requires { ⌜ (isHeader t ≡ true) × (at + size < 2 ^ 64) ⌝ }
     ensures { λ r. ⌜ r ≡ firstFault (check (mayStand dim under t) 6 ∷ contentChecks dim (words (now (s .entry))) at room) ⌝ }
 {
-    if !may_stand(dim, under, t) {
+    if !kinds::may_stand(dim, under, t) {
         return 6;
     }
-    let fixed = fixed_part(dim, t, 0);
+    let fixed = kinds::fixed_part(dim, t, 0);
     if size < fixed {
         return 7;
     }
@@ -400,9 +278,9 @@ pub fn head_at(s: &[u8], at: usize, bound: usize, depth: usize, under: usize, di
     if flagged != 0 {
         return Head::Bad { number: flagged };
     }
-    let t = type_of(w);
+    let t = kinds::type_of(w);
     let next = at + size;
-    if is_header(t) {
+    if kinds::is_header(t) {
         let wrong = header_fault(s, at, t, size, room, under, dim);
         if wrong != 0 {
             return Head::Bad { number: wrong };
@@ -425,7 +303,7 @@ pub fn count_ok(s: &[u8], at: usize, direct: usize) -> bool
     if s.len() <= at {
         return true;
     }
-    if is_counted(type_at(s, at)) {
+    if kinds::is_counted(type_at(s, at)) {
         return words::word(s, at + 19) == direct;
     }
     true

@@ -9,7 +9,7 @@ use lib.ListN.{length}
 use lib.Dec.{eqb, leb, ltb}
 use borrow.Author.Tests.{ltb-true, ltb-false, leb-true, leb-false, eqb-true, eqb-false}
 use Rattle.elements.specs.Header.{typeAt, sizeAt}
-use Rattle.elements.specs.Kinds.{isHeader}
+use Rattle.kinds.specs.Kinds.{isHeader}
 use Rattle.reading.specs.declared.Above.{Above}
 use Rattle.reading.specs.declared.Above.the-variants.{Top, Under}
 use Rattle.reading.specs.declared.Spotted.{Spotted}

@@ -11,8 +11,9 @@ use lib.Dec.{eqb}
 use borrow.Author.Tests.{eqb-true, eqb-false, eq-eqb, ne-eqb}
 use Rattle.words.specs.Words.{words, Below, wordAt}
 use Rattle.names.specs.Names.{nameOk}
-use Rattle.elements.specs.Header.{typeAt, deletedOf}
-use Rattle.elements.specs.Kinds.{isHeader}
+use Rattle.kinds.specs.FirstWord.{deletedOf}
+use Rattle.elements.specs.Header.{typeAt}
+use Rattle.kinds.specs.Kinds.{isHeader}
 use Rattle.elements.specs.Rules.{check, firstFault}
 use Rattle.words.proofs.Laws.{words-below}
 use Rattle.files.specs.Judge.{topOf, callOk, answer, judgeOf}

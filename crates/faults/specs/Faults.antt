@@ -10,7 +10,7 @@ use lib.Dec.{eqb}
 use Rattle.words.specs.Words.{words, wordAt}
 use Rattle.names.specs.Names.{nameOk}
 use Rattle.elements.specs.Header.{typeAt}
-use Rattle.elements.specs.Kinds.{isHeader}
+use Rattle.kinds.specs.Kinds.{isHeader}
 use Rattle.elements.specs.Rules.{check, firstFault}
 use Rattle.files.specs.Judge.{elementOf}
 use Rattle.reading.specs.declared.Above.{Above}

@@ -237,7 +237,7 @@ fn components_under(used: &[u8], marker: usize, header: usize) -> Components
             above: _,
         } => {
             let under = elements::type_at(used, header);
-            if elements::is_header(under) {
+            if kinds::is_header(under) {
                 return Components::Listed {
                     end,
                     depth: depth + 1,

@@ -6,7 +6,7 @@ use mathlib.Core.List.{List}
 use lib.Dec.{eqb, ltb}
 use Rattle.words.specs.Words.{words}
 use Rattle.elements.specs.Header.{typeAt}
-use Rattle.elements.specs.Kinds.{isHeader}
+use Rattle.kinds.specs.Kinds.{isHeader}
 use Rattle.elements.specs.Rules.{headOf}
 use Rattle.elements.specs.declared.Head.the-variants.{Bad}
 use Rattle.files.specs.declared.Stop.the-variants.{More}

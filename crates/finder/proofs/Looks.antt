@@ -13,7 +13,7 @@ use borrow.Author.Tests.{leb-true}
 use Rattle.elements.proofs.Laws.{both-true}
 use Rattle.words.specs.Words.{words}
 use Rattle.elements.specs.Header.{typeAt, sizeAt}
-use Rattle.elements.specs.Kinds.{isHeader}
+use Rattle.kinds.specs.Kinds.{isHeader}
 use Rattle.names.specs.Names.{packed}
 use Rattle.names.specs.declared.Packed.the-variants as text
 use Rattle.files.specs.Judge.{stopOf, elementOf, callOk, judgeOf}

@@ -9,7 +9,7 @@ use lib.ListN.{length, getD, List·getD-eq-default}
 use lib.Dec.{ltb}
 use borrow.Author.Tests.{ltb-true, lt-ltb, le-ltb, eq-eqb, ne-eqb}
 use Rattle.elements.specs.Header.{typeAt, sizeAt, extentAt}
-use Rattle.elements.specs.Kinds.{isHeader}
+use Rattle.kinds.specs.Kinds.{isHeader}
 use Rattle.finder.specs.declared.Walk.{Walk}
 use Rattle.finder.specs.Walk.{closedTo, opens, stepIn, stepOver, nextOf}
 

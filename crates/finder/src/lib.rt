@@ -218,7 +218,7 @@ fn opens_list(s: &[u8], at: usize, depth: usize) -> bool
     if 8 <= depth {
         return false;
     }
-    if elements::is_header(elements::type_at(s, at)) {
+    if kinds::is_header(elements::type_at(s, at)) {
         return elements::size_at(s, at) < extent_at(s, at);
     }
     false

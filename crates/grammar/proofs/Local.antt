@@ -10,12 +10,13 @@ use lib.Dec.{eqb, leb}
 use borrow.Author.Tests.{eqb-true, leb-true}
 use Rattle.words.specs.Words.{wordAt}
 use Rattle.linkages.specs.Linkages.{linkagesFill}
-use Rattle.elements.specs.Header.{typeOf, typeAt, sizeAt, pointsAt, extentAt, attributesAt, attributePartAt}
-use Rattle.elements.specs.Kinds.{oneOf, isHeader, isCounted, isPointed, isLinked, fixedPart}
+use Rattle.kinds.specs.FirstWord.{typeOf}
+use Rattle.elements.specs.Header.{typeAt, sizeAt, pointsAt, extentAt, attributesAt, attributePartAt}
+use Rattle.kinds.specs.Kinds.{oneOf, isHeader, isCounted, isPointed, isLinked, fixedPart}
 use Rattle.elements.specs.Attributes.{attributesOk, linkagesOk}
 use Rattle.elements.specs.Rules.{fixedOk, storedNameOk, countOk}
 use Rattle.grammar.proofs.Stands.{Stands, stands-word, stands-first}
-use Rattle.elements.proofs.Types.{header-long, linked-long, fixed-any}
+use Rattle.kinds.proofs.Types.{header-long, linked-long, fixed-any}
 use Rattle.elements.proofs.Laws.{fixed-least}
 use Rattle.grammar.proofs.Types.{counted-header, pointed-long, cell-long}
 use Rattle.linkages.proofs.Local.{fill-local}

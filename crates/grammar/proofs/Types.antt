@@ -5,8 +5,8 @@ use mathlib.Core.List.{[], _∷_}
 use mathlib.Core.Bool.{Bool, true, false, false≢true}
 use native.Mathlib.Omega.{arith}
 use lib.Dec.{eqb}
-use Rattle.elements.specs.Kinds.{oneOf, isHeader, isCounted, isPointed, fixedPart}
-use Rattle.elements.proofs.Types.{each-named, both}
+use Rattle.kinds.specs.Kinds.{oneOf, isHeader, isCounted, isPointed, fixedPart}
+use Rattle.kinds.proofs.Types.{each-named, both}
 
 -- a header that has a count is a header
 pub counted-header : (t : ℕ) → isCounted t ≡ true → isHeader t ≡ true

@@ -9,7 +9,7 @@ use mathlib.Core.Option.{Option, none, some}
 use lib.ListN.{length}
 use Rattle.words.specs.Words.{wordAt}
 use Rattle.elements.specs.Header.{typeAt, sizeAt, extentAt}
-use Rattle.elements.specs.Kinds.{isHeader, mayStand}
+use Rattle.kinds.specs.Kinds.{isHeader, mayStand}
 use Rattle.elements.specs.Attributes.{linkagesOk}
 use Rattle.elements.specs.Rules.{reservedOk, placeOk, fixedOk, storedNameOk, countOk}
 use Rattle.files.specs.Spots.{Spot}

@@ -10,7 +10,8 @@ use Rattle.names.specs.Names.{unpacked}
 use Rattle.names.specs.declared.Answer.{Answer}
 use Rattle.names.specs.declared.Answer.the-variants.{Text, Refused}
 use Rattle.names.specs.declared.Unpacked.{Unpacked}
-use Rattle.elements.specs.Header.{typeAt, sizeAt, deletedOf}
+use Rattle.kinds.specs.FirstWord.{deletedOf}
+use Rattle.elements.specs.Header.{typeAt, sizeAt}
 
 -- a number in decimal digits; the first number bounds how many there are
 unfoldable pub digitsFrom : ℕ → ℕ → List ℕ

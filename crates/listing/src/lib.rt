@@ -158,7 +158,7 @@ pub fn line(file: &[u8], at: usize, depth: usize, buf: &mut [u8]) -> usize
     ensures { λ r. ⌜ Writes (now (buf .entry)) (lineOf (words (now (file .entry))) at depth) (now (buf .exit)) r ⌝ }
 {
     let first = words::word(file, at);
-    let kind = elements::type_of(first);
+    let kind = kinds::type_of(first);
     let size = word_of(file, at, 1) + 2;
     let deleted = first / 32768 % 2 == 1;
     let name = name_of(file, at, kind);

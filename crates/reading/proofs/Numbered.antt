@@ -18,7 +18,7 @@ use Rattle.words.proofs.Laws.{words-below}
 use Rattle.words.proofs.Signed.{signed-small}
 use Rattle.linkages.specs.Linkages.{linkageIn}
 use Rattle.elements.specs.Header.{typeAt, sizeAt, pointsAt}
-use Rattle.elements.specs.Kinds.{isPointed}
+use Rattle.kinds.specs.Kinds.{isPointed}
 use Rattle.elements.specs.Attributes.{hasAttributes}
 use Rattle.files.specs.Judge.{callOk}
 use Rattle.reading.specs.declared.Above.{Above}

@@ -7,7 +7,7 @@ use mathlib.Core.Bool.{cond, _&&_}
 use lib.ListN.{length}
 use lib.Dec.{eqb, leb, ltb}
 use Rattle.elements.specs.Header.{typeAt, sizeAt, extentAt}
-use Rattle.elements.specs.Kinds.{isHeader}
+use Rattle.kinds.specs.Kinds.{isHeader}
 use Rattle.reading.specs.declared.Above.{Above}
 use Rattle.reading.specs.declared.Above.the-variants.{Top, Under}
 use Rattle.reading.specs.declared.Spotted.{Spotted}

@@ -8,8 +8,9 @@ use Rattle.words.specs.Words.{words, wordAt, longAt, signed}
 use Rattle.linkages.specs.Linkages.{linkageIn}
 use Rattle.linkages.specs.declared.Linkage.{Linkage}
 use Rattle.linkages.specs.declared.Linkage.the-variants as linked
-use Rattle.elements.specs.Header.{levelOf, cOf, typeAt, deletedOf, sizeAt, pointsAt, countAt, attributePartAt}
-use Rattle.elements.specs.Kinds.{isHeader, isCounted, isPointed, isLinked}
+use Rattle.kinds.specs.FirstWord.{levelOf, cOf, deletedOf}
+use Rattle.elements.specs.Header.{typeAt, sizeAt, pointsAt, countAt, attributePartAt}
+use Rattle.kinds.specs.Kinds.{isHeader, isCounted, isPointed, isLinked}
 use Rattle.elements.specs.Attributes.{hasAttributes}
 use Rattle.reading.specs.Places.{spottedAt}
 use Rattle.reading.specs.declared.Above.{Above}

@@ -14,7 +14,7 @@ fn has_attributes(file: &[u8], at: usize) -> bool
     requires { ⌜ at < length (now file) / 2 ⌝ }
     ensures { λ r. ⌜ r ≡ hasAttributes (words (now (file .entry))) at ⌝ }
 {
-    if elements::is_linked(elements::type_at(file, at)) {
+    if kinds::is_linked(elements::type_at(file, at)) {
         return words::word(file, at + 16) / 2048 % 2 == 1;
     }
     false

@@ -131,7 +131,7 @@ fn extent_words(file: &[u8], at: usize) -> usize
     requires { ⌜ at < length (now file) / 2 ⌝ }
     ensures { λ r. ⌜ r ≡ extentWords (words (now (file .entry))) at ⌝ }
 {
-    if elements::is_header(elements::type_at(file, at)) {
+    if kinds::is_header(elements::type_at(file, at)) {
         return 19 + words::word(file, at + 18);
     }
     elements::size_at(file, at)
@@ -151,7 +151,7 @@ fn descend(file: &[u8], top: usize, place: usize) -> Spotted
         if end <= place {
             here = end;
         } else {
-            if !elements::is_header(elements::type_at(file, here)) {
+            if !kinds::is_header(elements::type_at(file, here)) {
                 return Spotted::Refused {
                     number: 13,
                     place: 0,

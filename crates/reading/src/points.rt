@@ -17,7 +17,7 @@ fn point_count(file: &[u8], at: usize) -> usize
     if t == 3 {
         return 2;
     }
-    if elements::is_pointed(t) {
+    if kinds::is_pointed(t) {
         return words::word(file, at + 18);
     }
     0

@@ -37,7 +37,7 @@ fn display_at(file: &[u8], at: usize) -> Display
     requires { ⌜ at < length (now file) / 2 ⌝ }
     ensures { λ r. ⌜ r ≡ displayOf (words (now (file .entry))) at ⌝ }
 {
-    if elements::is_linked(elements::type_at(file, at)) {
+    if kinds::is_linked(elements::type_at(file, at)) {
         let symbology = words::word(file, at + 17);
         return Display::Words {
             group: words::word(file, at + 14),
@@ -100,10 +100,10 @@ fn element_at(file: &[u8], at: usize, depth: usize, above: Above) -> Element
         above,
         range: range_at(file, at),
         display: display_at(file, at),
-        points: number_if(elements::is_pointed(t), word_18),
+        points: number_if(kinds::is_pointed(t), word_18),
         name: name_at(file, at),
-        total: number_if(elements::is_header(t), word_18),
-        count: number_if(elements::is_counted(t), words::word(file, at + 19)),
+        total: number_if(kinds::is_header(t), word_18),
+        count: number_if(kinds::is_counted(t), words::word(file, at + 19)),
     }
 }
 

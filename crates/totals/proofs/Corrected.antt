@@ -11,7 +11,7 @@ use lib.Dec.{ltb}
 use Rattle.words.specs.Words.{words, Below, wordAt, putBy, putWord}
 use Rattle.words.proofs.Laws.{length-put, words-put}
 use Rattle.elements.specs.Header.{typeAt}
-use Rattle.elements.specs.Kinds.{isHeader, isCounted}
+use Rattle.kinds.specs.Kinds.{isHeader, isCounted}
 use Rattle.grammar.specs.Grammar.{Own}
 use Rattle.grammar.proofs.Forest.{Forest, nil, node, flat, num, Wf}
 use Rattle.grammar.proofs.Stands.{Stands, stands-word}

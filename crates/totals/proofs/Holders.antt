@@ -9,7 +9,7 @@ use mathlib.Core.List.{List}
 use lib.Dec.{eqb, leb}
 use borrow.Author.Tests.{eq-eqb, ne-eqb, le-leb, lt-leb, leb-true, leb-false}
 use Rattle.elements.specs.Header.{typeAt, sizeAt, extentAt}
-use Rattle.elements.specs.Kinds.{isHeader}
+use Rattle.kinds.specs.Kinds.{isHeader}
 use Rattle.totals.specs.Totals.{extentOf, holderAt, holderFrom, holderOf}
 use Rattle.totals.specs.declared.Holder.{Holder}
 use Rattle.totals.specs.declared.Holder.the-variants.{Nowhere, Itself, Inside}

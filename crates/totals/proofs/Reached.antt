@@ -7,7 +7,7 @@ use mathlib.Core.Bool.{Bool, true, false}
 use mathlib.Core.List.{List}
 use lib.ListN.{length, length-append}
 use Rattle.elements.specs.Header.{typeAt}
-use Rattle.elements.specs.Kinds.{isHeader}
+use Rattle.kinds.specs.Kinds.{isHeader}
 use Rattle.grammar.specs.Grammar.{Own, Extent}
 use Rattle.grammar.proofs.Forest.{Forest, node, flat, num, weight, Wf, own-stands}
 use Rattle.grammar.proofs.Stands.{Stands}

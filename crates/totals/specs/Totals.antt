@@ -7,7 +7,7 @@ use lib.ListN.{length}
 use lib.Dec.{eqb, ltb, leb}
 use Rattle.words.specs.Words.{words, wordAt, putWord}
 use Rattle.elements.specs.Header.{typeAt, sizeAt, extentAt}
-use Rattle.elements.specs.Kinds.{isHeader, isCounted}
+use Rattle.kinds.specs.Kinds.{isHeader, isCounted}
 use Rattle.edits.specs.Edits.{moved}
 use Rattle.edits.specs.Allowed.{Fault?, fine, fault}
 use Rattle.totals.specs.declared.Holder.{Holder}

@@ -31,7 +31,7 @@ fn extent_at(file: &[u8], at: usize) -> usize
     if file.len() <= at {
         return 2;
     }
-    if elements::is_header(elements::type_at(file, at)) {
+    if kinds::is_header(elements::type_at(file, at)) {
         return 19 + words::word(file, at + 18);
     }
     elements::size_at(file, at)
@@ -97,7 +97,7 @@ fn correct_header(file: &mut [u8], place: usize, up: bool, n: usize, direct: boo
     requires { ⌜ place < length (now file) ⌝ }
     ensures { λ _. ⌜ now (file .exit) ≡ headerPut up n direct place (now (file .entry)) ⌝ }
 {
-    let counted = elements::is_counted(elements::type_at(file, place));
+    let counted = kinds::is_counted(elements::type_at(file, place));
     move_word(file, place + 18, up, n);
     if direct {
         if counted {

@@ -8,7 +8,7 @@ use native.Mathlib.Omega.{arith}
 use lib.ListN.{length, take, drop, length-take, length-drop}
 use lib.Dec.{eqb}
 use Rattle.words.specs.Words.{words, Below, wordAt}
-use Rattle.elements.specs.Header.{deletedOf}
+use Rattle.kinds.specs.FirstWord.{deletedOf}
 use Rattle.files.specs.Spots.{spotsOf}
 use Rattle.reading.specs.declared.Above.{Above}
 use Rattle.reading.specs.declared.Above.the-variants.{Top}

@@ -7,8 +7,8 @@ use native.Mathlib.Omega.{arith}
 use lib.ListN.{length}
 use lib.Dec.{eqb, leb}
 use borrow.Author.Tests.{leb-true, le-leb, eqb-true, eq-eqb}
-use Rattle.elements.specs.Kinds.{oneOf, isPointed, fixedPart}
-use Rattle.elements.proofs.Types.{Each, each-named}
+use Rattle.kinds.specs.Kinds.{oneOf, isPointed, fixedPart}
+use Rattle.kinds.proofs.Types.{Each, each-named}
 use Rattle.writer.specs.Words.{rangeOf, countWords}
 use Rattle.writer.specs.Writing.{eachAtMost, isWritten, wordsOk, symbologyOk, fieldsOk, pointsFit, callOk, countOk}
 use Rattle.writer.specs.declared.Fields.{Fields}

@@ -16,7 +16,7 @@ use Rattle.words.proofs.Laws.{length-words}
 use Rattle.linkages.specs.Linkages.{linkagesFill}
 use Rattle.linkages.proofs.Local.{fill-local}
 use Rattle.elements.specs.Header.{typeAt, sizeAt, pointsAt, attributesAt, attributePartAt}
-use Rattle.elements.specs.Kinds.{isLinked, fixedPart}
+use Rattle.kinds.specs.Kinds.{isLinked, fixedPart}
 use Rattle.elements.specs.Attributes.{attributesOk, linkagesOk}
 use Rattle.writer.specs.Words.{longs, bit, firstWord, headerWords, countWords, pointCount, sizeOf, elementWords}
 use Rattle.writer.specs.Writing.{isWritten}

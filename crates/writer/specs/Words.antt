@@ -6,7 +6,7 @@ use mathlib.Core.List.{List, [], _∷_, _++_, map}
 use lib.ListN.{length}
 use lib.IntN.{ℤ}
 use Rattle.words.specs.Words.{words, unsigned}
-use Rattle.elements.specs.Kinds.{isPointed, fixedPart}
+use Rattle.kinds.specs.Kinds.{isPointed, fixedPart}
 use Rattle.writer.specs.declared.Fields.{Fields}
 
 -- longs as words, high word first

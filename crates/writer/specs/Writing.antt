@@ -7,7 +7,7 @@ use lib.ListN.{length, take, drop}
 use lib.Dec.{eqb, leb}
 use lib.IntN.{ℤ}
 use Rattle.words.specs.Words.{bytes}
-use Rattle.elements.specs.Kinds.{oneOf, isPointed}
+use Rattle.kinds.specs.Kinds.{oneOf, isPointed}
 use Rattle.elements.specs.Attributes.{linkagesOk}
 use Rattle.elements.specs.Rules.{Check, check, firstFault}
 use Rattle.writer.specs.Words.{rangeOf, pointCount, sizeOf, elementWords}

@@ -6,7 +6,7 @@ ghost use mathlib.Core.List.{[], _∷_, map};
 ghost use Prim.Native.Nat.{_+_, _*_, _/_, _<_, _≤_};
 ghost use lib.ListN.{length};
 ghost use Rattle.words.specs.Words.{words, unsigned};
-ghost use Rattle.elements.specs.Kinds.{oneOf};
+ghost use Rattle.kinds.specs.Kinds.{oneOf};
 ghost use Rattle.elements.specs.Attributes.{linkagesOk};
 ghost use Rattle.writer.specs.Words.{longs, bit, firstWord, symbology, rangeOf, displayWords, headerWords, countWords, pointCount, sizeOf, elementWords};
 ghost use Rattle.writer.specs.Writing.{eachAtMost, isWritten, wordsOk, symbologyOk, fieldsOk, pointsFit, callOk, countOk, writeFault, laid, Writes};
@@ -166,7 +166,7 @@ fn call_ok(dim: usize, fields: Fields, points: usize, tail: usize) -> bool
 fn count_ok(kind: usize, n: usize) -> bool
     ensures { λ r. ⌜ r ≡ countOk kind n ⌝ }
 {
-    if !elements::is_pointed(kind) {
+    if !kinds::is_pointed(kind) {
         return true;
     }
     if n < 2 {
@@ -182,7 +182,7 @@ fn size_of(dim: usize, fields: Fields, points: &[i32], tail: &[u8]) -> usize
     ensures { λ r. ⌜ r ≡ sizeOf dim fields (now (points .entry)) (now (tail .entry)) ⌝ }
 {
     let n = points.len() / dim;
-    elements::fixed_part(dim, fields.kind, n as u16) + tail.len() / 2
+    kinds::fixed_part(dim, fields.kind, n as u16) + tail.len() / 2
 }
 
 // 11: the attribute part, where A is set. It begins not before the tail nor after its end, and linkages fill it.
@@ -195,7 +195,7 @@ fn tail_ok(dim: usize, fields: Fields, points: &[i32], tail: &[u8]) -> bool
         return true;
     }
     let n = points.len() / dim;
-    let fixed = elements::fixed_part(dim, fields.kind, n as u16);
+    let fixed = kinds::fixed_part(dim, fields.kind, n as u16);
     let part = 16 + fields.index;
     if part < fixed {
         return false;
@@ -288,7 +288,7 @@ fn put_count(out: &mut [u8], kind: usize, n: usize) -> usize
     ensures place { λ r. ⌜ r ≡ 18 + length (countWords kind n) ⌝ }
     ensures bytes { λ _. ⌜ now (out .exit) ≡ laid (now (out .entry)) 18 (countWords kind n) ⌝ }
 {
-    if elements::is_pointed(kind) {
+    if kinds::is_pointed(kind) {
         words::put_word(out, 18, n as u16);
         return 19;
     }

@@ -13,7 +13,7 @@ use borrow.Author.Tests.{eq-eqb, le-leb}
 use Rattle.words.specs.Words.{words, bytes, Below, wordAt}
 use Rattle.words.proofs.Laws.{length-bytes, words-bytes, words-below}
 use Rattle.elements.specs.Header.{typeAt}
-use Rattle.elements.specs.Kinds.{isCounted}
+use Rattle.kinds.specs.Kinds.{isCounted}
 use Rattle.files.specs.Judge.{callOk, judgeOf}
 use Rattle.files.specs.Spots.{Spot, spotsOf, spotIn}
 use Rattle.grammar.proofs.Forest.{flat}

@@ -13,7 +13,7 @@ use lib.Dec.{ltb}
 use borrow.Author.Tests.{ltb-true, ltb-false}
 use Rattle.words.specs.Words.{words, Below, longAt, signed, unsigned}
 use Rattle.words.proofs.Signed.{unsigned-signed}
-use Rattle.elements.specs.Kinds.{oneOf}
+use Rattle.kinds.specs.Kinds.{oneOf}
 use Rattle.reading.specs.declared.Above.{Above}
 use Rattle.reading.specs.declared.Spotted.the-variants as spotted
 use Rattle.reading.specs.declared.Point.the-variants as point

@@ -11,7 +11,7 @@ use borrow.Author.Tests.{eqb-true}
 use Rattle.words.specs.Words.{words, bytes, Below}
 use Rattle.words.proofs.Laws.{length-words, bytes-words, words-take, words-drop}
 use Rattle.elements.specs.Header.{typeAt, sizeAt}
-use Rattle.elements.specs.Kinds.{isHeader}
+use Rattle.kinds.specs.Kinds.{isHeader}
 use Rattle.files.specs.Judge.{judgeOf}
 use Rattle.files.specs.declared.Judged.the-variants.{Accepted}
 use Rattle.reading.specs.declared.Above.{Above}

@@ -9,8 +9,9 @@ use lib.ListN.{length}
 use lib.Dec.{eqb}
 use borrow.Author.Tests.{le-leb, eqb-true, eqb-false}
 use Rattle.words.specs.Words.{Below, wordAt, longAt}
-use Rattle.elements.specs.Header.{levelOf, reservedOf, cOf, typeOf, typeAt, deletedOf, sizeAt}
-use Rattle.elements.specs.Kinds.{isLinked}
+use Rattle.kinds.specs.FirstWord.{levelOf, reservedOf, cOf, typeOf, deletedOf}
+use Rattle.elements.specs.Header.{typeAt, sizeAt}
+use Rattle.kinds.specs.Kinds.{isLinked}
 use Rattle.elements.specs.Rules.{reservedOk}
 use Rattle.grammar.proofs.Stands.{Stands, stands-nil, stands-join}
 use Rattle.reading.specs.declared.Above.{Above}

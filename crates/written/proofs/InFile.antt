@@ -13,7 +13,7 @@ use lib.Dec.{eqb}
 use borrow.Author.Tests.{ne-eqb}
 use Rattle.words.specs.Words.{words, bytes}
 use Rattle.words.proofs.Laws.{length-bytes, words-bytes}
-use Rattle.elements.specs.Kinds.{mayStand}
+use Rattle.kinds.specs.Kinds.{mayStand}
 use Rattle.files.specs.Spots.{Spot, spotsOf, spotIn}
 use Rattle.grammar.proofs.Forest.{nil}
 use Rattle.grammar.proofs.Stands.{Stands}

@@ -14,8 +14,9 @@ use Rattle.words.specs.Words.{words, bytes, Below, wordAt, longAt, unsigned}
 use Rattle.words.proofs.Laws.{length-words, length-bytes, bytes-words}
 use Rattle.linkages.specs.Linkages.{linkageIn}
 use Rattle.linkages.proofs.Local.{walk-local}
-use Rattle.elements.specs.Header.{levelOf, cOf, typeOf, typeAt, deletedOf, sizeAt, attributePartAt}
-use Rattle.elements.specs.Kinds.{isHeader, isPointed, isLinked}
+use Rattle.kinds.specs.FirstWord.{levelOf, cOf, typeOf, deletedOf}
+use Rattle.elements.specs.Header.{typeAt, sizeAt, attributePartAt}
+use Rattle.kinds.specs.Kinds.{isHeader, isPointed, isLinked}
 use Rattle.grammar.proofs.Stands.{Stands, stands-word, stands-first, stands-left, stands-right}
 use Rattle.reading.specs.declared.Above.{Above}
 use Rattle.reading.specs.declared.Spotted.the-variants as spotted

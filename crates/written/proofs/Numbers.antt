@@ -8,7 +8,7 @@ use lib.ListN.{length}
 use lib.IntN.{ℤ}
 use Rattle.words.specs.Words.{words, longAt, signed, unsigned}
 use Rattle.words.proofs.Signed.{signed-unsigned}
-use Rattle.elements.specs.Kinds.{oneOf}
+use Rattle.kinds.specs.Kinds.{oneOf}
 use Rattle.grammar.proofs.Stands.{Stands, stands-word, stands-first, stands-right}
 use Rattle.reading.specs.Views.{pointAt, pointOf}
 use Rattle.writer.specs.Words.{longs}

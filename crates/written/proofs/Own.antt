@@ -13,10 +13,11 @@ use Rattle.words.specs.Words.{words, Below, wordAt, unsigned}
 use Rattle.words.proofs.Laws.{words-below}
 use Rattle.words.proofs.Signed.{unsigned-small}
 use Rattle.names.specs.Names.{nameOk}
-use Rattle.elements.specs.Header.{levelOf, reservedOf, cOf, typeOf, typeAt, deletedOf, sizeAt, pointsAt, countAt}
-use Rattle.elements.specs.Kinds.{isHeader, isCounted, isPointed, fixedPart, mayStand}
+use Rattle.kinds.specs.FirstWord.{levelOf, reservedOf, cOf, typeOf, deletedOf}
+use Rattle.elements.specs.Header.{typeAt, sizeAt, pointsAt, countAt}
+use Rattle.kinds.specs.Kinds.{isHeader, isCounted, isPointed, fixedPart, mayStand}
 use Rattle.elements.specs.Rules.{reservedOk, placeOk, pointsOk, fixedOk, storedNameOk, countOk}
-use Rattle.elements.proofs.Types.{Each}
+use Rattle.kinds.proofs.Types.{Each}
 use Rattle.grammar.specs.Grammar.{Own}
 use Rattle.edits.proofs.Tests.{both-and, or-right}
 use Rattle.edits.proofs.Bounds.{below-nil, below-cons, below-append}

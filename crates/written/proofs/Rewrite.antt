@@ -14,7 +14,7 @@ use borrow.Author.Tests.{leb-true, eq-eqb}
 use Rattle.words.specs.Words.{words, bytes, Below, wordAt, unsigned}
 use Rattle.words.proofs.Laws.{length-bytes, words-bytes, words-drop, words-below}
 use Rattle.elements.specs.Header.{typeAt, sizeAt, pointsAt}
-use Rattle.elements.specs.Kinds.{oneOf, isHeader, isPointed, isLinked, fixedPart}
+use Rattle.kinds.specs.Kinds.{oneOf, isHeader, isPointed, isLinked, fixedPart}
 use Rattle.elements.specs.Rules.{pointsOk, fixedOk}
 use Rattle.elements.proofs.Laws.{Checked, fixed-least, linked-size}
 use Rattle.grammar.proofs.Stands.{Stands, stands-nil, stands-part, stands-join, stands-right}

@@ -9,7 +9,7 @@ use native.Mathlib.Omega.{arith}
 use lib.ListN.{length}
 use lib.Dec.{eqb}
 use Rattle.words.specs.Words.{words}
-use Rattle.elements.specs.Kinds.{oneOf}
+use Rattle.kinds.specs.Kinds.{oneOf}
 use Rattle.elements.proofs.Laws.{Checked}
 use Rattle.files.specs.Judge.{judgeOf, callOk}
 use Rattle.files.specs.Spots.{Spot, spotsOf, spotIn}

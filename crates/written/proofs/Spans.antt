@@ -7,7 +7,7 @@ use native.Mathlib.Numerals.{add-one}
 use lib.ListN.{length, take}
 use lib.Seq.{drop-cons}
 use Rattle.words.specs.Words.{Below, wordAt, longAt}
-use Rattle.elements.proofs.Types.{Each}
+use Rattle.kinds.proofs.Types.{Each}
 use Rattle.grammar.proofs.Stands.{Stands, stands-nil}
 use Rattle.writer.specs.Words.{longs}
 

@@ -11,7 +11,7 @@ use Rattle.words.specs.Words.{words}
 use Rattle.linkages.specs.Linkages.{linkageIn}
 use Rattle.linkages.specs.declared.Linkage.{Linkage}
 use Rattle.linkages.specs.declared.Linkage.the-variants as linked
-use Rattle.elements.specs.Kinds.{fixedPart}
+use Rattle.kinds.specs.Kinds.{fixedPart}
 use Rattle.reading.specs.declared.Range.the-variants as range
 use Rattle.reading.specs.declared.Display.the-variants as display
 use Rattle.reading.specs.declared.Element.{Element}

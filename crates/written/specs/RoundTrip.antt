@@ -9,7 +9,7 @@ use lib.ListN.{length, take, drop}
 use lib.IntN.{ℤ}
 use lib.Signed.{mag}
 use Rattle.words.specs.Words.{words, bytes, Below}
-use Rattle.elements.specs.Kinds.{mayStand}
+use Rattle.kinds.specs.Kinds.{mayStand}
 use Rattle.files.specs.Judge.{judgeOf}
 use Rattle.files.specs.Spots.{spotsOf}
 use Rattle.files.specs.declared.Judged.the-variants.{Accepted}

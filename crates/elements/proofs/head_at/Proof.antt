@@ -9,7 +9,7 @@ use lib.Dec.{leb}
 use borrow.Author.Tests.{le-leb, lt-leb}
 use Rattle.words.specs.Words.{words, wordAt}
 use Rattle.elements.specs.Header.{typeAt, sizeAt}
-use Rattle.elements.specs.Kinds.{isHeader, mayStand}
+use Rattle.kinds.specs.Kinds.{isHeader, mayStand}
 use Rattle.elements.specs.Attributes.{linkagesOk}
 use Rattle.elements.specs.Rules.{reservedOk, placeOk, fixedOk, Check, check, firstFault, contentChecks, checks, faultOf, HeadRead}
 use Rattle.elements.specs.declared.Head.the-variants.{Bad}

@@ -6,7 +6,7 @@ use mathlib.Core.Path.{_≡_, refl, sym, _∙_}
 use native.Mathlib.Omega.{arith}
 use lib.ListN.{drop}
 use Rattle.words.specs.Words.{words}
-use Rattle.elements.specs.Kinds.{mayStand}
+use Rattle.kinds.specs.Kinds.{mayStand}
 use Rattle.elements.specs.Attributes.{linkagesOk}
 use Rattle.elements.specs.Rules.{fixedOk, extentOk, Check, check, contentChecks}
 use Rattle.elements.proofs.Laws.{refused, accepted, header-size, header-short, header-fixed, header-part, extent-header, First, pass, stop, tail, first}

@@ -2,7 +2,7 @@
 use mathlib.Core.Path.{sym, _∙_}
 use borrow.Author.Tests.{ne-eqb}
 use Rattle.words.specs.Words.{words}
-use Rattle.elements.proofs.Types.{header-linked}
+use Rattle.kinds.proofs.Types.{header-linked}
 use Rattle.elements.proofs.Laws.{linkages-linked, linkages-none}
 use Rattle.elements.proofs.linkages_ok.Statement.{statement}
 use Rattle.elements.proofs.linkages_ok.Tie as tie

@@ -7,7 +7,7 @@ use native.Mathlib.Omega.{arith}
 use lib.Dec.{eqb, leb}
 use lib.ListN.{drop}
 use Rattle.words.specs.Words.{words}
-use Rattle.elements.specs.Kinds.{isPointed}
+use Rattle.kinds.specs.Kinds.{isPointed}
 use Rattle.elements.specs.Attributes.{linkagesOk}
 use Rattle.elements.specs.Rules.{pointsOk, fixedOk, Check, check}
 use Rattle.elements.proofs.Laws.{refused, accepted, linked-size, points-size, fixed-points, plain-short, plain-long, linkages-linked, First, pass, stop, tail, first}

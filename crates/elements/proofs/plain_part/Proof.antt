@@ -5,8 +5,8 @@ use native.Mathlib.Omega.{arith}
 use borrow.Author.Tests.{ne-eqb}
 use Rattle.words.specs.Words.{words}
 use Rattle.elements.specs.Header.{pointsAt}
-use Rattle.elements.specs.Kinds.{isPointed, fixedPart}
-use Rattle.elements.proofs.Types.{plain-pointed, pointed-part}
+use Rattle.kinds.specs.Kinds.{isPointed, fixedPart}
+use Rattle.kinds.proofs.Types.{plain-pointed, pointed-part}
 use Rattle.elements.proofs.plain_part.Statement.{statement}
 use Rattle.elements.proofs.plain_part.Tie as tie
 

@@ -4,7 +4,7 @@ use mathlib.Core.List.{List, [], _∷_}
 use mathlib.Core.Path.{refl, sym, ap, _∙_}
 use lib.Dec.{eqb, leb}
 use borrow.Author.Tests.{ne-eqb}
-use Rattle.elements.specs.Kinds.{isUnread}
+use Rattle.kinds.specs.Kinds.{isUnread}
 use Rattle.elements.specs.Rules.{Check, check}
 use Rattle.elements.proofs.Laws.{refused, accepted, pass, stop, tail, first}
 use Rattle.elements.proofs.raw_fault.Statement.{statement}

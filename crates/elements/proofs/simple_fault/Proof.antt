@@ -1,7 +1,7 @@
 -- A known type, or a raw type, which leaves fewer checks.
 use mathlib.Core.Path.{sym, _∙_}
 use Rattle.words.specs.Words.{words}
-use Rattle.elements.proofs.Types.{stands-plain}
+use Rattle.kinds.proofs.Types.{stands-plain}
 use Rattle.elements.proofs.Laws.{raw-same}
 use Rattle.elements.proofs.simple_fault.Statement.{statement}
 use Rattle.elements.proofs.simple_fault.Tie as tie

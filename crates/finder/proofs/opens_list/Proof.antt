@@ -1,6 +1,6 @@
 -- `opens_list` answers `opens`, by the depth and by whether the element is a header.
 use mathlib.Core.Path.{sym, ap, _∙_}
-use Rattle.elements.specs.Kinds.{isHeader}
+use Rattle.kinds.specs.Kinds.{isHeader}
 use Rattle.finder.proofs.Steps.{opens-deep, opens-by}
 use borrow.Author.Needs.{needs}
 use Rattle.finder.proofs.opens_list.Statement.{statement}

@@ -6,7 +6,7 @@ use borrow.Author.Needs.{needs}
 use borrow.Author.Tests.{not-true, not-false}
 use Rattle.words.specs.Words.{words}
 use Rattle.words.proofs.Laws.{lent-below}
-use Rattle.elements.specs.Kinds.{isHeader}
+use Rattle.kinds.specs.Kinds.{isHeader}
 use Rattle.reading.specs.declared.Spotted.{Spotted}
 use Rattle.reading.specs.declared.Above.the-variants.{Top}
 use Rattle.reading.specs.Descent.{IsLocated}

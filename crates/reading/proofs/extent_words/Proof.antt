@@ -1,7 +1,7 @@
 -- A header's extent is 19 and its total (`words-header`), any other's is its size (`words-plain`).
 use Prim.Native.Nat.{_+_}
 use mathlib.Core.Path.{sym, ap, _∙_}
-use Rattle.elements.specs.Kinds.{isHeader}
+use Rattle.kinds.specs.Kinds.{isHeader}
 use Rattle.reading.proofs.Descent.{words-header, words-plain}
 use borrow.Author.Needs.{needs}
 use Rattle.reading.proofs.extent_words.Statement.{statement}

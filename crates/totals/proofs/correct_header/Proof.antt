@@ -1,7 +1,7 @@
 -- The count is corrected where it is asked for and the type has one; each way out is a law of proofs/Descent.
 use mathlib.Core.Path.{sym, ap, _∙_}
 use borrow.Author.Needs.{needs}
-use Rattle.elements.specs.Kinds.{isCounted}
+use Rattle.kinds.specs.Kinds.{isCounted}
 use Rattle.totals.specs.Totals.{wordMoved}
 use Rattle.totals.proofs.Descent.{put-counted, put-uncounted, put-around}
 use Rattle.totals.proofs.correct_header.Statement.{statement}

@@ -4,7 +4,7 @@ use mathlib.Core.Path.{sym, ap, _∙_}
 use native.Mathlib.Omega.{arith}
 use borrow.Author.Needs.{needs}
 use Rattle.words.proofs.Laws.{word-out}
-use Rattle.elements.specs.Kinds.{isHeader}
+use Rattle.kinds.specs.Kinds.{isHeader}
 use Rattle.totals.specs.Totals.{extentOf}
 use Rattle.totals.proofs.Holders.{extent-header, extent-plain}
 use Rattle.totals.proofs.extent_at.Statement.{statement}

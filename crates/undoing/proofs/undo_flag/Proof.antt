@@ -3,7 +3,7 @@ use lib.Seq.{length-take-le}
 use lib.Dec.{eqb}
 use borrow.Author.Tests.{not-true, not-false}
 use Rattle.words.proofs.Laws.{lent-below}
-use Rattle.elements.specs.Header.{deletedOf}
+use Rattle.kinds.specs.FirstWord.{deletedOf}
 use Rattle.undoing.proofs.Ways.{answered-back}
 use Rattle.undoing.proofs.Reversals.{flag-refused, flag-done}
 use borrow.Author.Needs.{needs}

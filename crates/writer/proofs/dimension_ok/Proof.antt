@@ -1,8 +1,8 @@
 use mathlib.Core.Path.{_≡_, refl, sym}
 use mathlib.Core.List.{[], _∷_}
 use mathlib.Core.Bool.{true}
-use Rattle.elements.specs.Kinds.{oneOf}
-use Rattle.elements.proofs.Types.{in-arm, none-in}
+use Rattle.kinds.specs.Kinds.{oneOf}
+use Rattle.kinds.proofs.Types.{in-arm, none-in}
 use Rattle.writer.proofs.dimension_ok.Statement.{statement}
 use Rattle.writer.proofs.dimension_ok.Tie as tie
 

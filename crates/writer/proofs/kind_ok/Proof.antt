@@ -1,7 +1,7 @@
 use mathlib.Core.Path.{_≡_, refl, sym}
 use mathlib.Core.List.{[], _∷_}
 use mathlib.Core.Bool.{true}
-use Rattle.elements.proofs.Types.{in-arm, none-in}
+use Rattle.kinds.proofs.Types.{in-arm, none-in}
 use Rattle.writer.specs.Writing.{isWritten}
 use Rattle.writer.proofs.kind_ok.Statement.{statement}
 use Rattle.writer.proofs.kind_ok.Tie as tie

@@ -1,6 +1,6 @@
 -- The type, then bit 11 of the properties, as in `hasAttributes`.
 use mathlib.Core.Path.{sym, ap, _∙_}
-use Rattle.elements.specs.Kinds.{isLinked}
+use Rattle.kinds.specs.Kinds.{isLinked}
 use borrow.Author.Needs.{needs}
 use Rattle.reading.proofs.attributes.has_attributes.Statement.{statement}
 use Rattle.reading.proofs.attributes.has_attributes.Tie as tie

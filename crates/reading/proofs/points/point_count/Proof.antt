@@ -1,7 +1,7 @@
 -- The type decides as in `pointCount`.
 use mathlib.Core.Path.{sym, ap, _∙_}
 use borrow.Author.Tests.{eq-eqb, ne-eqb}
-use Rattle.elements.specs.Kinds.{isPointed}
+use Rattle.kinds.specs.Kinds.{isPointed}
 use borrow.Author.Needs.{needs}
 use Rattle.reading.proofs.points.point_count.Statement.{statement}
 use Rattle.reading.proofs.points.point_count.Tie as tie

@@ -1,6 +1,6 @@
 -- The type decides as in `displayOf`, and each word is read at its place.
 use mathlib.Core.Path.{sym, ap, _∙_}
-use Rattle.elements.specs.Kinds.{isLinked}
+use Rattle.kinds.specs.Kinds.{isLinked}
 use Rattle.reading.specs.Views.{displayOf}
 use borrow.Author.Needs.{needs}
 use Rattle.reading.proofs.views.display_at.Statement.{statement}

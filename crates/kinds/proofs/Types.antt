@@ -1,0 +1,198 @@
+-- Laws of the types: what an arm of a `match` says of a type, and how long the fixed part of a known type is at least.
+use Prim.Native.Nat.{ℕ, _+_, _*_, _≤_}
+use mathlib.Core.Path.{_≡_, refl, sym, ap, subst⁻¹, _∙_}
+use mathlib.Core.Logic.{⊎-elim, inl, inr}
+use mathlib.Core.List.{List, [], _∷_}
+use mathlib.Core.Bool.{Bool, true, false, cond, not, _&&_, _||_, false≢true, or-false, and-true, and-false, and-eq-true-iff}
+use native.Mathlib.Omega.{arith}
+use borrow.Author.Tests.{ne-eqb, eqb-true}
+use types.Run.{OneOf}
+use lib.Dec.{eqb}
+use Rattle.kinds.specs.Kinds.{oneOf, isHeader, isPointed, isLinked, isUnread, fixedPart, underOk, mayStand}
+
+-- a property of each number of a list
+abbrev pub Each : (ℕ → Type 0) → List ℕ → Type 0
+Each P [] = Unit
+Each P (k ∷ ks) = P k × Each P ks
+
+-- what holds of each number of an arm holds of the type there
+pub in-arm : (P : ℕ → Type 0) (ks : List ℕ) (t : ℕ) → Each P ks → OneOf ks t → P t
+in-arm P [] t p h = absurd h
+in-arm P (k ∷ []) t p h = subst⁻¹ P h (p .0)
+in-arm P (k ∷ k′ ∷ ks) t p h = ⊎-elim (λ e. subst⁻¹ P e (p .0)) (λ r. in-arm P (k′ ∷ ks) t (p .1) r) h
+
+-- a type that an arm does not name is none of the arm's list
+pub none-of : (ks : List ℕ) (t : ℕ) → (OneOf ks t → ⊥) → oneOf ks t ≡ false
+none-of [] t h = refl
+none-of (k ∷ []) t h = simp (ne-eqb t k h)
+none-of (k ∷ k′ ∷ ks) t h = simp (ne-eqb t k (λ e. h (inl e)), none-of (k′ ∷ ks) t (λ r. h (inr r)))
+
+-- a list of types in two arms: each of the list is in one of the arms
+abbrev pub covered : List ℕ → List ℕ → List ℕ → Bool
+covered xs ys [] = true
+covered xs ys (k ∷ ks) = (oneOf xs k || oneOf ys k) && covered xs ys ks
+
+-- a type that neither arm names is none of the list
+pub none-in : (xs ys ks : List ℕ) (t : ℕ) → (OneOf xs t → ⊥) → (OneOf ys t → ⊥) → covered xs ys ks ≡ true → oneOf ks t ≡ false
+none-in xs ys [] t p q c = refl
+none-in xs ys (k ∷ ks) t p q c =
+    let both = and-eq-true-iff (oneOf xs k || oneOf ys k) (covered xs ys ks) .0 c in
+    let other : t ≡ k → ⊥ = λ e. false≢true (rw (rw e at (none-of xs t p), rw e at (none-of ys t q)) at (both .0)) in
+    simp (ne-eqb t k other, none-in xs ys ks t p q (both .1))
+
+-- from either of two tests
+or-else : {A : Type 0} (b c : Bool) → (b ≡ true → A) → (c ≡ true → A) → (b || c) ≡ true → A
+or-else true c f g e = f refl
+or-else false c f g e = g e
+
+-- what holds of each type of a list holds of a type that the list names
+pub each-named : (P : ℕ → Type 0) (ks : List ℕ) (t : ℕ) → Each P ks → oneOf ks t ≡ true → P t
+each-named P [] t p e = absurd (false≢true e)
+each-named P (k ∷ ks) t p e =
+    or-else (eqb t k) (oneOf ks t)
+    (λ h. subst⁻¹ P (eqb-true t k h) (p .0))
+    (λ h. each-named P ks t (p .1) h)
+    e
+
+-- a bound below both dimensions' numbers
+pub both : (m x y : ℕ) → m ≤ x → m ≤ y → (b : Bool) → m ≤ cond b x y
+both m x y p q true = p
+both m x y p q false = q
+
+-- a header has at least 20 words
+pub header-long : (dim t n : ℕ) → isHeader t ≡ true → 20 ≤ fixedPart dim t n
+unfolding fixedPart
+header-long dim t n =
+    let two = both 20 46 62 (omega arith) (omega arith) (eqb dim 2) in
+    let seven = both 20 35 43 (omega arith) (omega arith) (eqb dim 2) in
+    each-named (λ (t : ℕ). 20 ≤ fixedPart dim t n) (1 ∷ 2 ∷ 7 ∷ 12 ∷ 14 ∷ 18 ∷ 19 ∷ []) t
+    (omega arith, (two, (seven, (omega arith, (omega arith, (omega arith, (omega arith, tt)))))))
+
+-- an element that may have attributes has at least 18 words
+pub linked-long : (dim t n : ℕ) → isLinked t ≡ true → 18 ≤ fixedPart dim t n
+unfolding fixedPart
+linked-long dim t n =
+    let two = both 18 46 62 (omega arith) (omega arith) (eqb dim 2) in
+    let three = both 18 26 30 (omega arith) (omega arith) (eqb dim 2) in
+    let points = both 18 (19 + 4 * n) (19 + 6 * n) (omega arith) (omega arith) (eqb dim 2) in
+    let seven = both 18 35 43 (omega arith) (omega arith) (eqb dim 2) in
+    each-named (λ (t : ℕ). 18 ≤ fixedPart dim t n) (2 ∷ 3 ∷ 4 ∷ 6 ∷ 7 ∷ 11 ∷ 12 ∷ 14 ∷ 17 ∷ 18 ∷ 19 ∷ 21 ∷ []) t
+    (two, (three, (points, (points, (seven, (points, (omega arith, (omega arith, (omega arith, (omega arith, (omega arith, (points, tt))))))))))))
+
+-- N has no part in the fixed part of a type without points
+pub fixed-any : (dim t m n : ℕ) → isPointed t ≡ false → fixedPart dim t m ≡ fixedPart dim t n
+unfolding fixedPart
+fixed-any dim t m n e = rw e
+
+-- under 7 the test for type 17 is enough: type 17 is not type 1
+pub only-text : (t : ℕ) → eqb t 17 ≡ underOk 7 t
+only-text t = go (eqb t 17) refl
+  where
+    go : (b : Bool) → eqb t 17 ≡ b → b ≡ (not (eqb t 1 && true) && (not (not b) && true))
+    go true e = rw (eqb-true t 17 e)
+    go false e = simp and-false
+
+-- where no header may stand the test for headers is enough: type 1 is one
+no-header-by : (b c : Bool) → not (b || c) ≡ (not (b && true) && not (b || c))
+no-header-by true c = refl
+no-header-by false c = refl
+
+pub no-header : (t : ℕ) → not (isHeader t) ≡ (not (eqb t 1 && true) && not (isHeader t))
+no-header t = no-header-by (eqb t 1) (oneOf (2 ∷ 7 ∷ 12 ∷ 14 ∷ 18 ∷ 19 ∷ []) t)
+
+---- the three kinds of types: headers, other known types, raw types
+
+-- a type that a list does not name is none of its types
+apart : (ks : List ℕ) (t k : ℕ) → oneOf ks t ≡ false → oneOf ks k ≡ true → eqb t k ≡ false
+apart ks t k out named = ne-eqb t k (λ e. false≢true (sym (rw e at out) ∙ named))
+
+pub not-header : (t k : ℕ) → isHeader t ≡ false → isHeader k ≡ true → eqb t k ≡ false
+not-header t k = apart (1 ∷ 2 ∷ 7 ∷ 12 ∷ 14 ∷ 18 ∷ 19 ∷ []) t k
+
+not-linked : (t k : ℕ) → isLinked t ≡ false → isLinked k ≡ true → eqb t k ≡ false
+not-linked t k = apart (2 ∷ 3 ∷ 4 ∷ 6 ∷ 7 ∷ 11 ∷ 12 ∷ 14 ∷ 17 ∷ 18 ∷ 19 ∷ 21 ∷ []) t k
+
+-- where a type that is no header may stand
+under-seven : (u t : Bool) → not (u && not t) ≡ (not u || t)
+under-seven true true = refl
+under-seven true false = refl
+under-seven false t = refl
+
+stands : (dim under t : ℕ) → isHeader t ≡ false → mayStand dim under t ≡ (not (isUnread t) && (not (eqb under 7) || eqb t 17))
+unfolding mayStand
+stands dim under t h =
+    simp (
+      not-header t 1 h refl,
+      not-header t 2 h refl,
+      not-header t 7 h refl,
+      not-header t 12 h refl,
+      not-header t 14 h refl,
+      not-header t 18 h refl,
+      not-header t 19 h refl,
+      and-false,
+      and-true,
+      under-seven (eqb under 7) (eqb t 17),
+    )
+
+-- a known type is read
+linked-read : (t : ℕ) → isLinked t ≡ true → isUnread t ≡ false
+linked-read t k = each-named (λ (t : ℕ). isUnread t ≡ false) (2 ∷ 3 ∷ 4 ∷ 6 ∷ 7 ∷ 11 ∷ 12 ∷ 14 ∷ 17 ∷ 18 ∷ 19 ∷ 21 ∷ []) t (refl, (refl, (refl, (refl, (refl, (refl, (refl, (refl, (refl, (refl, (refl, (refl, tt)))))))))))) k
+
+pub stands-plain : (dim under t : ℕ) → isHeader t ≡ false → isLinked t ≡ true → mayStand dim under t ≡ (not (eqb under 7) || eqb t 17)
+stands-plain dim under t h k = stands dim under t h ∙ ap (λ (b : Bool). not b && (not (eqb under 7) || eqb t 17)) (linked-read t k)
+
+pub stands-raw : (dim under t : ℕ) → isHeader t ≡ false → isLinked t ≡ false → mayStand dim under t ≡ (not (isUnread t) && not (eqb under 7))
+stands-raw dim under t h k =
+    stands dim under t h
+    ∙ ap (λ (b : Bool). not (isUnread t) && (not (eqb under 7) || b)) (not-linked t 17 k refl)
+    ∙ ap (λ (b : Bool). not (isUnread t) && b) (or-false (not (eqb under 7)))
+
+other : {P : Type 0} → true ≡ false → P
+other e = absurd (false≢true (sym e))
+
+-- a known type that is no header, 3 or 17 has points
+pub plain-pointed : (t : ℕ) → isLinked t ≡ true → isHeader t ≡ false → eqb t 3 ≡ false → eqb t 17 ≡ false → isPointed t ≡ true
+plain-pointed t =
+    each-named (λ (t : ℕ). isHeader t ≡ false → eqb t 3 ≡ false → eqb t 17 ≡ false → isPointed t ≡ true) (2 ∷ 3 ∷ 4 ∷ 6 ∷ 7 ∷ 11 ∷ 12 ∷ 14 ∷ 17 ∷ 18 ∷ 19 ∷ 21 ∷ []) t (
+      λ h a b. other h,
+      (
+        λ h a b. other a,
+        (λ h a b. refl, (λ h a b. refl, (λ h a b. other h, (λ h a b. refl, (λ h a b. other h, (λ h a b. other h, (λ h a b. other b, (λ h a b. other h, (λ h a b. other h, (λ h a b. refl, tt)))))))))),
+      ),
+    )
+
+pub pointed-part : (dim t n : ℕ) → isPointed t ≡ true → fixedPart dim t n ≡ cond (eqb dim 2) (19 + 4 * n) (19 + 6 * n)
+unfolding fixedPart
+pointed-part dim t n = each-named (λ (t : ℕ). fixedPart dim t n ≡ cond (eqb dim 2) (19 + 4 * n) (19 + 6 * n)) (4 ∷ 6 ∷ 11 ∷ 21 ∷ []) t (refl, (refl, (refl, (refl, tt))))
+
+-- a raw type has no points, and a fixed part of two words
+pub raw-pointless : (t : ℕ) → isLinked t ≡ false → isPointed t ≡ false
+raw-pointless t k = simp (not-linked t 4 k refl, not-linked t 6 k refl, not-linked t 11 k refl, not-linked t 21 k refl)
+
+pub raw-part : (dim t n : ℕ) → isHeader t ≡ false → isLinked t ≡ false → fixedPart dim t n ≡ 2
+unfolding fixedPart
+raw-part dim t n h k =
+    simp (
+      not-header t 1 h refl,
+      not-linked t 2 k refl,
+      not-linked t 3 k refl,
+      not-linked t 4 k refl,
+      not-linked t 6 k refl,
+      not-linked t 7 k refl,
+      not-linked t 11 k refl,
+      not-linked t 12 k refl,
+      not-linked t 14 k refl,
+      not-linked t 17 k refl,
+      not-linked t 18 k refl,
+      not-linked t 19 k refl,
+      not-linked t 21 k refl,
+    )
+
+-- a header has no points, and attributes unless it is of type 1
+pub header-pointless : (t : ℕ) → isHeader t ≡ true → isPointed t ≡ false
+header-pointless t = each-named (λ (t : ℕ). isPointed t ≡ false) (1 ∷ 2 ∷ 7 ∷ 12 ∷ 14 ∷ 18 ∷ 19 ∷ []) t (refl, (refl, (refl, (refl, (refl, (refl, (refl, tt)))))))
+
+pub header-linked : (t : ℕ) → isHeader t ≡ true → eqb t 1 ≡ false → isLinked t ≡ true
+header-linked t =
+    each-named (λ (t : ℕ). eqb t 1 ≡ false → isLinked t ≡ true) (1 ∷ 2 ∷ 7 ∷ 12 ∷ 14 ∷ 18 ∷ 19 ∷ []) t
+    (other, (λ e. refl, (λ e. refl, (λ e. refl, (λ e. refl, (λ e. refl, (λ e. refl, tt)))))))

@@ -1,0 +1,130 @@
+// The types of elements: which are headers, which have a count, points or attributes, how long their fixed parts are,
+// and where they may stand. The definitions are in specs/: FirstWord (where the type stands), Kinds (the types).
+ghost use mathlib.Core.Path.{_≡_};
+ghost use mathlib.Core.Bool.{cond};
+ghost use Rattle.kinds.specs.FirstWord.{typeOf};
+ghost use Rattle.kinds.specs.Kinds.{isHeader, isCounted, isPointed, isLinked, isUnread, isRead, fixedPart, underOk, mayStand};
+
+// The type in word 0.
+pub fn type_of(w: usize) -> usize
+    ensures { λ r. ⌜ r ≡ typeOf w ⌝ }
+{
+    w / 256 % 128
+}
+
+// The headers. Here and below numbers that follow one another stand in different arms: in one arm they would be
+// compared as a range.
+pub fn is_header(t: usize) -> bool
+    ensures { λ r. ⌜ r ≡ isHeader t ⌝ }
+{
+    match t {
+        1 | 7 | 12 | 14 | 18 => true,
+        2 | 19 => true,
+        _ => false,
+    }
+}
+
+// The headers with a count.
+pub fn is_counted(t: usize) -> bool
+    ensures { λ r. ⌜ r ≡ isCounted t ⌝ }
+{
+    match t {
+        7 | 12 | 14 | 18 => true,
+        19 => true,
+        _ => false,
+    }
+}
+
+// The types with N points.
+pub fn is_pointed(t: usize) -> bool
+    ensures { λ r. ⌜ r ≡ isPointed t ⌝ }
+{
+    match t {
+        4 | 6 | 11 | 21 => true,
+        _ => false,
+    }
+}
+
+// The types that may have attributes.
+pub fn is_linked(t: usize) -> bool
+    ensures { λ r. ⌜ r ≡ isLinked t ⌝ }
+{
+    match t {
+        2 | 4 | 6 | 11 | 14 | 17 | 19 | 21 => true,
+        3 | 7 | 12 | 18 => true,
+        _ => false,
+    }
+}
+
+// The types that are refused wherever they stand.
+pub fn is_unread(t: usize) -> bool
+    ensures { λ r. ⌜ r ≡ isUnread t ⌝ }
+{
+    match t {
+        24 | 27 | 87 => true,
+        _ => false,
+    }
+}
+
+// One of two numbers, by a test.
+pub fn pick(first: bool, a: usize, b: usize) -> usize
+    ensures { λ r. ⌜ r ≡ cond first a b ⌝ }
+{
+    if first { a } else { b }
+}
+
+// The fixed part of a type, in words, with N points where the type has points.
+pub fn fixed_part(dim: usize, t: usize, n: u16) -> usize
+    ensures { λ r. ⌜ r ≡ fixedPart dim t n ⌝ }
+{
+    let n = n as usize;
+    match t {
+        1 => 35,
+        2 => pick(dim == 2, 46, 62),
+        3 => pick(dim == 2, 26, 30),
+        4 | 6 | 11 | 21 => pick(dim == 2, 19 + 4 * n, 19 + 6 * n),
+        7 => pick(dim == 2, 35, 43),
+        12 | 14 => 20,
+        17 => 18,
+        18 => 21,
+        19 => 21,
+        _ => 2,
+    }
+}
+
+// The types that are read.
+fn is_read(dim: usize, t: usize) -> bool
+    ensures { λ r. ⌜ r ≡ isRead dim t ⌝ }
+{
+    if is_unread(t) {
+        return false;
+    }
+    match t {
+        18 => dim != 2,
+        19 => dim != 2,
+        _ => true,
+    }
+}
+
+// What may stand under a header of type `under`, 0 at the top.
+fn under_ok(under: usize, t: usize) -> bool
+    ensures { λ r. ⌜ r ≡ underOk under t ⌝ }
+{
+    match under {
+        0 => true,
+        7 => t == 17,
+        12 | 14 | 18 => !is_header(t),
+        19 => !is_header(t),
+        _ => t != 1,
+    }
+}
+
+// Whether a type may stand under a header of type `under` (0 at the top), and is read.
+pub fn may_stand(dim: usize, under: usize, t: usize) -> bool
+    ensures { λ r. ⌜ r ≡ mayStand dim under t ⌝ }
+{
+    if is_read(dim, t) {
+        return under_ok(under, t);
+    }
+    false
+}
