@@ -39,7 +39,3 @@ descentTo ws p = locateFrom (suc p) ws 0 0 Top p
 -- the same for a place before the marker and within the words
 unfoldable pub locateOf : List ℕ → ℕ → ℕ → Spotted
 locateOf ws p marker = cond (ltb p marker && ltb p (length ws)) (descentTo ws p) (spotted.Refused 13 0)
-
--- where a descent to p may begin, of two elements at the top: at the later one, `here`, where that is not after p
-abbrev pub lastBy : ℕ → ℕ → ℕ → ℕ
-lastBy top here p = cond (leb here p) here top

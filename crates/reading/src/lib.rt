@@ -6,7 +6,7 @@ ghost use lib.ListN.{length};
 ghost use Rattle.words.specs.Words.{words};
 ghost use Rattle.reading.specs.declared.Above.the-variants.{Top};
 ghost use Rattle.reading.specs.Places.{placedAt, spottedAt, extentAnswer, extentBytes};
-ghost use Rattle.reading.specs.Descent.{extentWords, IsLocated, lastBy, locateOf};
+ghost use Rattle.reading.specs.Descent.{extentWords, IsLocated, locateOf};
 
 pub mod attributes;
 pub mod points;
@@ -187,16 +187,8 @@ pub fn locate(file: &[u8], place: usize, marker: usize) -> Spotted
     }
 }
 
-// Where the descent to a place may begin, of two elements at the top: at the later one, `here`, where that is not after
-// the place.
-fn last_by(top: usize, here: usize, place: usize) -> usize
-    ensures { λ r. ⌜ r ≡ lastBy top here place ⌝ }
-{
-    if here <= place { here } else { top }
-}
-
 // What a file is judged to be, 1 and its own refusals first, and the element that starts at a place. The elements at the
-// top are judged one after another; the last that starts by the place is where the descent begins.
+// top are judged up to the first that ends after the place, where the descent begins, and then the others.
 pub fn placed_at(file: &[u8], dim: usize, place: usize) -> Placed
     ensures { λ r. ⌜ r ≡ placedAt dim (now (file .entry)) place ⌝ }
 {
@@ -207,54 +199,53 @@ pub fn placed_at(file: &[u8], dim: usize, place: usize) -> Placed
         };
     }
     let bound = file.len() / 2;
-    let mut here = 0;
-    let mut top = 0;
-    loop {
-        match files::stop_at(file, here, bound, 0) {
-            files::Stop::Done => {
-                if place < here {
-                    let found = descend(file, top, place);
-                    return Placed::Judged {
-                        marker: here,
-                        found,
-                    };
-                }
-                let found = Spotted::Refused {
-                    number: 13,
-                    place: 0,
-                };
-                return Placed::Judged {
-                    marker: here,
-                    found,
-                };
-            }
-            files::Stop::Lacking => {
-                return Placed::Refused {
-                    number: 2,
-                    place: here,
-                };
-            }
-            files::Stop::More => match files::element(file, here, bound, 0, 0, dim) {
-                files::Verdict::Fault {
-                    number,
-                    place: fault,
-                } => {
-                    return Placed::Refused {
-                        number,
-                        place: fault,
-                    };
-                }
-                files::Verdict::Good {
-                    next,
-                    elements: _,
-                    deepest: _,
-                    direct: _,
-                } => {
-                    top = last_by(top, here, place);
-                    here = next;
-                }
-            },
+    match files::reach(file, 0, bound, dim, place, false) {
+        files::Reached::Fault {
+            number,
+            place: fault,
+        } => Placed::Refused {
+            number,
+            place: fault,
+        },
+        files::Reached::End {
+            place: marker,
+            before: _,
+        } => {
+            let found = Spotted::Refused {
+                number: 13,
+                place: 0,
+            };
+            Placed::Judged { marker, found }
         }
+        files::Reached::Element {
+            start: top,
+            end,
+            before: _,
+        } => match files::reach(file, end, bound, dim, bound, false) {
+            files::Reached::Fault {
+                number,
+                place: fault,
+            } => Placed::Refused {
+                number,
+                place: fault,
+            },
+            files::Reached::End {
+                place: marker,
+                before: _,
+            } => {
+                let found = descend(file, top, place);
+                Placed::Judged { marker, found }
+            }
+            // no element ends after the bound
+            files::Reached::Element {
+                start: _,
+                end: other,
+                before: _,
+            } => Placed::Refused {
+                number: 3,
+                place: other,
+            },
+        },
     }
 }
 
