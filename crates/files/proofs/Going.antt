@@ -1,4 +1,4 @@
--- Each way on and out of judge_on keeps its contract, by the laws of judging.
+-- Each way on and out of judge_element and judge_list keeps its contract, by the laws of judging.
 use Prim.Native.Nat.{ℕ, zero, suc, _+_, _-_, _≤_, _<_, max}
 use mathlib.Core.Path.{_≡_, refl, sym, ap, _∙_, subst}
 use mathlib.Core.Bool.{Bool, true, false, cond, _&&_, _||_, false≢true}
@@ -18,7 +18,7 @@ use Rattle.files.specs.declared.Verdict.{Verdict}
 use Rattle.files.specs.declared.Verdict.the-variants.{Good, Fault}
 use Rattle.files.specs.declared.Progress.the-variants.{Stopped, Halted, Broken}
 use Rattle.files.specs.Judge.{stopOf}
-use Rattle.files.specs.Progress.{IsElement, ListJudged, GoodAt, stopsAfter, Steps, depthOf, Gone, Progressed}
+use Rattle.files.specs.Progress.{IsElement, ElementJudged, ListJudged, GoodAt, stopsAfter, Steps, depthOf, Gone, Progressed}
 use Rattle.files.proofs.Laws.{passed-none, passed-more, element-plain, element-complex, element-counted, element-miscounted}
 
 ---- what stands at an element's head
@@ -52,25 +52,28 @@ module _ {dim depth under : ℕ} {s : List ℕ} {at bound : ℕ} {h : Head} (hea
       let q = sym (head .is) ∙ e in
       record { more = stop-head _ _ _ _ _ _ (head-means dim depth under (words s) at bound _ q .0); good = element-plain _ _ _ _ _ _ _ q; on = omega arith; by = omega arith }
 
-  module _ {inner end type : ℕ} {v : Verdict} (e : h ≡ Complex inner end) (t : type ≡ typeAt (words s) at) (l : ListJudged dim (depth + 1) type s inner end v) where
-    pub more-complex : stopOf depth (words s) at bound ≡ More
-    more-complex = stop-head _ _ _ _ _ _ (head-means dim depth under (words s) at bound _ (sym (head .is) ∙ e) .0)
+  pub more-complex : {inner end : ℕ} → h ≡ Complex inner end → stopOf depth (words s) at bound ≡ More
+  more-complex e = stop-head _ _ _ _ _ _ (head-means dim depth under (words s) at bound _ (sym (head .is) ∙ e) .0)
 
+  module _ {inner end type : ℕ} {v : Verdict} (e : h ≡ Complex inner end) (t : type ≡ typeAt (words s) at) (l : ListJudged dim (depth + 1) type s inner end v) where
     pub fault-beneath : {n p : ℕ} → v ≡ Fault n p → IsElement dim depth under (words s) at bound (Fault n p)
     fault-beneath f =
         let w = rw e at (head .within) in
         element-complex _ _ _ _ _ _ _ _ _ (sym (head .is) ∙ e) (omega arith) (rw (f, t) at (l .is))
 
     module _ {next elements deepest direct : ℕ} {b : Bool} (g : v ≡ Good next elements deepest direct) (o : b ≡ countOk (words s) at direct) where
-      pub good-complex : b ≡ true → GoodAt dim depth under (words s) bound at end (1 + elements) (max depth deepest)
-      good-complex y =
+      pub good-complex : {m : ℕ} → b ≡ true → m ≡ max depth deepest → ElementJudged dim depth under s at bound (Good end (1 + elements) m 1)
+      good-complex y q =
           let w = rw e at (head .within) in
-          record {
-            more = more-complex;
-            good = element-counted _ _ _ _ _ _ _ _ _ _ _ _ (sym (head .is) ∙ e) (omega arith) (rw (g, t) at (l .is)) (sym o ∙ y);
-            on = omega arith;
-            by = omega arith;
-          }
+          let u = rw g at (l .within) in (
+            rw q (record {
+              more = more-complex e;
+              good = element-counted _ _ _ _ _ _ _ _ _ _ _ _ (sym (head .is) ∙ e) (omega arith) (rw (g, t) at (l .is)) (sym o ∙ y);
+              on = omega arith;
+              by = omega arith;
+            }),
+            (refl, (omega arith, (omega arith, omega arith))),
+          )
 
       pub fault-count : b ≡ false → IsElement dim depth under (words s) at bound (Fault 9 at)
       fault-count y =
@@ -173,5 +176,5 @@ module _ {dim depth under : ℕ} {s : List ℕ} {at bound until : ℕ} {each : B
   pub depth-plain : {m : ℕ} → m ≡ max depth deepest → m ≡ max (depthOf direct depth deepest) depth
   depth-plain q = let w = depth-more direct depth deepest 0 (g .fresh) in omega arith
 
-  pub depth-complex : {m : ℕ} (d : ℕ) → m ≡ max deepest d → max depth m ≡ max (depthOf direct depth deepest) (max depth d)
-  depth-complex d q = let w = depth-more direct depth deepest d (g .fresh) in omega arith
+  pub depth-complex : {m : ℕ} (d : ℕ) → depth ≤ d → m ≡ max deepest d → max depth m ≡ max (depthOf direct depth deepest) d
+  depth-complex d l q = let w = depth-more direct depth deepest d (g .fresh) in omega arith

@@ -1,4 +1,4 @@
--- The inner contract of judging: how far the elements of one list were judged, one after another.
+-- The inner contracts of judging: of an element, and of how far the elements of one list were judged, one after another.
 use Prim.Native.Nat.{ℕ, zero, suc, _+_, _-_, _*_, _<_, _≤_, max}
 use mathlib.Core.Path.{_≡_}
 use mathlib.Core.Bool.{Bool, true, false, cond, _&&_, _||_}
@@ -45,6 +45,12 @@ pub record GoodAt (dim depth under : ℕ) (ws : List ℕ) (bound at next e d : �
   pub good : IsElement dim depth under ws at bound (Good next e d 1)
   pub on : at < next
   pub by : next ≤ bound
+
+-- what judging an element answers: it is good, with at least itself and a word for each of its elements, or refused
+abbrev pub ElementJudged : ℕ → ℕ → ℕ → List ℕ → ℕ → ℕ → Verdict → Type 0
+ElementJudged dim depth under s at bound (Good next e d k) =
+    GoodAt dim depth under (words s) bound at next e d × ((k ≡ 1) × ((1 ≤ e) × ((depth ≤ d) × (at + e ≤ next))))
+ElementJudged dim depth under s at bound (Fault n p) = IsElement dim depth under (words s) at bound (Fault n p)
 
 -- whether judging stops after the element from `at` to `next`: it ends after `until`, or where `each` holds is a header
 unfoldable pub stopsAfter : List ℕ → ℕ → Bool → ℕ → ℕ → Bool

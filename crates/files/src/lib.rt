@@ -1,14 +1,16 @@
-// Judging a whole file: the elements of one list are a loop, and a header's components are judged by a call, so that the
-// depth of calls is that of nesting. The rules of one element are elements::head_at. Definitions: specs/Judge, specs/Reach;
-// the inner contract of the loop is in specs/Progress.
+// Judging a whole file: judging an element that is a header and judging a list of components call each other; the elements
+// of one list are a loop, so that the depth of calls is that of nesting. The rules of one element's own words are
+// elements::head_at. Definitions: specs/Judge, specs/Reach; the inner contracts of the two are in specs/Progress.
 ghost use mathlib.Core.Path.{_≡_};
 ghost use mathlib.Core.Bool.{false, _||_};
-ghost use Prim.Native.Nat.{ℕ, max};
+ghost use Prim.Native.Nat.{ℕ, _≤_, _<_, max};
 ghost use lib.Dec.{ltb};
 ghost use Rattle.words.specs.Words.{words};
+ghost use Rattle.elements.specs.Rules.{HeadRead};
+ghost use Rattle.elements.specs.declared.Head.the-variants.{Complex};
 ghost use Rattle.files.specs.Judge.{stopOf, elementOf, callOk, judgeOf};
 ghost use Rattle.files.specs.Reach.{reachedOf};
-ghost use Rattle.files.specs.Progress.{depthOf, ListJudged, Progressed};
+ghost use Rattle.files.specs.Progress.{depthOf, ElementJudged, ListJudged, Progressed};
 
 // What an element or a list of elements is judged to be: where it ends, its elements at all depths, the greatest
 // depth and how many of them stand in the list itself; or a number and a place.
@@ -171,10 +173,41 @@ fn closed(s: &[u8], bound: usize, depth: usize, progress: Progress) -> Verdict
     }
 }
 
-// The elements of a list in order, up to and with the first that ends after `until`, or where `each` holds is a header. A
-// header's components are a list of their own, judged before its count. No head stands at the marker or at the list's bound,
-// so what stands there is asked only where there is none.
-fn judge_on(
+// An element that its own words are read as a header: its components, a list of their own, then its count.
+fn judge_element(s: &[u8], at: usize, inner: usize, end: usize, depth: usize, dim: usize) -> Verdict
+    requires { ⌜ (at < inner) × ((inner ≤ end) × (depth ≤ 8)) ⌝ }
+    ensures { λ r. ⌜ ((under bound : ℕ) → HeadRead dim depth under (now (s .entry)) at bound (Complex inner end) → ElementJudged dim depth under (now (s .entry)) at bound r) ⌝ }
+{
+    let t = elements::type_at(s, at);
+    let components = judge_list(s, inner, end, depth + 1, t, dim, end, false);
+    match closed(s, end, depth + 1, components) {
+        Verdict::Fault { number, place } => Verdict::Fault { number, place },
+        Verdict::Good {
+            next: _,
+            elements,
+            deepest,
+            direct,
+        } => {
+            if elements::count_ok(s, at, direct) {
+                Verdict::Good {
+                    next: end,
+                    elements: 1 + elements,
+                    deepest: larger(depth, deepest),
+                    direct: 1,
+                }
+            } else {
+                Verdict::Fault {
+                    number: 9,
+                    place: at,
+                }
+            }
+        }
+    }
+}
+
+// The elements of a list in order, up to and with the first that ends after `until`, or where `each` holds is a header. No
+// head stands at the marker or at the list's bound, so what stands there is asked only where there is none.
+fn judge_list(
     s: &[u8],
     at: usize,
     bound: usize,
@@ -217,38 +250,30 @@ fn judge_on(
                 here = next;
             }
             elements::Head::Complex { inner, end } => {
-                let t = elements::type_at(s, here);
-                let components = judge_on(s, inner, end, depth + 1, t, dim, end, false);
-                match closed(s, end, depth + 1, components) {
+                match judge_element(s, here, inner, end, depth, dim) {
                     Verdict::Fault { number, place } => {
                         return Progress::Broken { number, place };
                     }
                     Verdict::Good {
-                        next: _,
+                        next,
                         elements: e,
                         deepest: d,
-                        direct: k,
+                        direct: _,
                     } => {
-                        if !elements::count_ok(s, here, k) {
-                            return Progress::Broken {
-                                number: 9,
-                                place: here,
-                            };
-                        }
                         direct += 1;
-                        below += e;
+                        below += e - 1;
                         deepest = larger(deepest, d);
-                        if stops(each, until, end) {
+                        if stops(each, until, next) {
                             let d = larger(depth, deepest);
                             return Progress::Stopped {
-                                next: end,
+                                next,
                                 last: here,
                                 elements: direct + below,
                                 deepest: d,
                                 direct,
                             };
                         }
-                        here = end;
+                        here = next;
                     }
                 }
             }
@@ -257,10 +282,10 @@ fn judge_on(
 }
 
 // The elements of one list in order, to its end or to the first fault.
-fn judge_list(s: &[u8], at: usize, bound: usize, depth: usize, under: usize, dim: usize) -> Verdict
+fn judge_all(s: &[u8], at: usize, bound: usize, depth: usize, under: usize, dim: usize) -> Verdict
     ensures { λ r. ⌜ ListJudged dim depth under (now (s .entry)) at bound r ⌝ }
 {
-    let progress = judge_on(s, at, bound, depth, under, dim, bound, false);
+    let progress = judge_list(s, at, bound, depth, under, dim, bound, false);
     closed(s, bound, depth, progress)
 }
 
@@ -268,7 +293,7 @@ fn judge_list(s: &[u8], at: usize, bound: usize, depth: usize, under: usize, dim
 pub fn reach(s: &[u8], at: usize, bound: usize, dim: usize, until: usize, each: bool) -> Reached
     ensures { λ r. ⌜ r ≡ reachedOf dim (words (now (s .entry))) at bound until each ⌝ }
 {
-    match judge_on(s, at, bound, 0, 0, dim, until, each) {
+    match judge_list(s, at, bound, 0, 0, dim, until, each) {
         Progress::Stopped {
             next,
             last,
@@ -302,7 +327,7 @@ pub fn reach(s: &[u8], at: usize, bound: usize, dim: usize, until: usize, each: 
 pub fn element(s: &[u8], at: usize, bound: usize, depth: usize, under: usize, dim: usize) -> Verdict
     ensures { λ r. ⌜ r ≡ elementOf dim depth under (words (now (s .entry))) at bound ⌝ }
 {
-    match judge_on(s, at, bound, depth, under, dim, at, false) {
+    match judge_list(s, at, bound, depth, under, dim, at, false) {
         Progress::Stopped {
             next,
             last: _,
@@ -344,7 +369,7 @@ pub fn judge(file: &[u8], dim: usize) -> Judged
     ensures { λ r. ⌜ r ≡ judgeOf dim (now (file .entry)) ⌝ }
 {
     if call_ok(file, dim) {
-        match judge_list(file, 0, file.len() / 2, 0, 0, dim) {
+        match judge_all(file, 0, file.len() / 2, 0, 0, dim) {
             Verdict::Good {
                 next,
                 elements,

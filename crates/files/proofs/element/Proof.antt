@@ -3,8 +3,8 @@ use borrow.Author.Needs.{needs}
 use Rattle.files.proofs.element.Statement.{statement}
 use Rattle.files.proofs.element.Tie as tie
 
-judge-on-requires : tie.Need-judge-on-requires
-judge-on-requires c κs = search needs
+judge-list-requires : tie.Need-judge-list-requires
+judge-list-requires c κs = search needs
 
 enum-known-next : tie.Need-enum-known-next
 enum-known-next c = search needs
@@ -16,19 +16,19 @@ enum-known-number-2 : tie.Need-enum-known-number-2
 enum-known-number-2 c = search needs
 
 returns : tie.Need-returns
-returns c = stopped-element (rw ((c .before .next .given .1)) at ((c .before .before .before .judge-on .ensures)))
+returns c = stopped-element (rw ((c .before .next .given .1)) at ((c .before .before .before .judge-list .ensures)))
 
 returns-2 : tie.Need-returns-2
-returns-2 c = halted-element (rw ((c .before .number .given .1)) at ((c .before .before .before .judge-on .ensures)))
+returns-2 c = halted-element (rw ((c .before .number .given .1)) at ((c .before .before .before .judge-list .ensures)))
 
 returns-3 : tie.Need-returns-3
-returns-3 c = broken-element (rw ((c .before .number2 .given .1)) at ((c .before .before .before .judge-on .ensures)))
+returns-3 c = broken-element (rw ((c .before .number2 .given .1)) at ((c .before .before .before .judge-list .ensures)))
 
 pub element-spec : {M : Type 1} → statement M
 element-spec =
     tie.close
     (tie.spec
-    judge-on-requires
+    judge-list-requires
     enum-known-next
     enum-known-number
     enum-known-number-2

@@ -8,8 +8,8 @@ use Rattle.files.proofs.judge.Tie as tie
 call-ok-requires : tie.Need-call-ok-requires
 call-ok-requires c κs = search needs
 
-judge-list-requires : tie.Need-judge-list-requires
-judge-list-requires c κs = search needs
+judge-all-requires : tie.Need-judge-all-requires
+judge-all-requires c κs = search needs
 
 enum-known-next : tie.Need-enum-known-next
 enum-known-next c = search needs
@@ -24,7 +24,7 @@ returns c =
     (c .before .before .before .before .before .before .before .args .file .now)
     _
     (sym (c .before .before .before .before .before .call-ok .ensures) ∙ (c .before .before .before .before .if1 .taken))
-    (rw (c .before .next .given .1) at (c .before .before .before .judge-list .ensures .is))
+    (rw (c .before .next .given .1) at (c .before .before .before .judge-all .ensures .is))
 
 returns-2 : tie.Need-returns-2
 returns-2 c =
@@ -33,7 +33,7 @@ returns-2 c =
     (c .before .before .before .before .before .before .before .args .file .now)
     _
     (sym (c .before .before .before .before .before .call-ok .ensures) ∙ (c .before .before .before .before .if1 .taken))
-    (rw (c .before .number .given .1) at (c .before .before .before .judge-list .ensures .is))
+    (rw (c .before .number .given .1) at (c .before .before .before .judge-all .ensures .is))
 
 returns-3 : tie.Need-returns-3
 returns-3 c = judge-call _ _ (sym (c .before .call-ok .ensures) ∙ (c .if1 .left))
@@ -43,7 +43,7 @@ judge-spec =
     tie.close
     (tie.spec
     call-ok-requires
-    judge-list-requires
+    judge-all-requires
     enum-known-next
     enum-known-number
     returns

@@ -5,14 +5,14 @@ use borrow.Author.Needs.{needs}
 use Rattle.files.proofs.reach.Statement.{statement}
 use Rattle.files.proofs.reach.Tie as tie
 
-judge-on-requires : tie.Need-judge-on-requires
-judge-on-requires c κs = search needs
+judge-list-requires : tie.Need-judge-list-requires
+judge-list-requires c κs = search needs
 
 enum-known-next : tie.Need-enum-known-next
 enum-known-next c = search needs
 
 sub-t17 : tie.Need-sub-t17
-sub-t17 c = let x = rw ((c .before .next .given .1)) at ((c .before .before .before .judge-on .ensures)) in omega (arith, x .counted)
+sub-t17 c = let x = rw ((c .before .next .given .1)) at ((c .before .before .before .judge-list .ensures)) in omega (arith, x .counted)
 
 enum-known-number : tie.Need-enum-known-number
 enum-known-number c = search needs
@@ -33,25 +33,25 @@ enum-told-3 : tie.Need-enum-told-3
 enum-told-3 c = search needs
 
 returns : tie.Need-returns
-returns c = reach-stopped (rw ((c .before .next .given .1)) at ((c .before .before .before .judge-on .ensures)))
+returns c = reach-stopped (rw ((c .before .next .given .1)) at ((c .before .before .before .judge-list .ensures)))
 
 returns-2 : tie.Need-returns-2
-returns-2 c = reach-broken (rw ((c .before .number .given .1)) at ((c .before .before .before .judge-on .ensures)))
+returns-2 c = reach-broken (rw ((c .before .number .given .1)) at ((c .before .before .before .judge-list .ensures)))
 
 returns-3 : tie.Need-returns-3
-returns-3 c = reach-halted-done (rw ((c .before .before .before .before .number2 .given .1)) at ((c .before .before .before .before .before .before .judge-on .ensures))) (sym ((c .before .before .stop-at .ensures)) ∙ ((c .enum-told .given .1)))
+returns-3 c = reach-halted-done (rw ((c .before .before .before .before .number2 .given .1)) at ((c .before .before .before .before .before .before .judge-list .ensures))) (sym ((c .before .before .stop-at .ensures)) ∙ ((c .enum-told .given .1)))
 
 returns-4 : tie.Need-returns-4
-returns-4 c = reach-halted-lacking (rw ((c .before .before .before .before .number2 .given .1)) at ((c .before .before .before .before .before .before .judge-on .ensures))) (sym ((c .before .before .stop-at .ensures)) ∙ ((c .enum-told2 .given .1)))
+returns-4 c = reach-halted-lacking (rw ((c .before .before .before .before .number2 .given .1)) at ((c .before .before .before .before .before .before .judge-list .ensures))) (sym ((c .before .before .stop-at .ensures)) ∙ ((c .enum-told2 .given .1)))
 
 returns-5 : tie.Need-returns-5
-returns-5 c = reach-halted-more (rw ((c .before .before .before .before .number2 .given .1)) at ((c .before .before .before .before .before .before .judge-on .ensures))) (sym ((c .before .before .stop-at .ensures)) ∙ ((c .enum-told3 .given .1)))
+returns-5 c = reach-halted-more (rw ((c .before .before .before .before .number2 .given .1)) at ((c .before .before .before .before .before .before .judge-list .ensures))) (sym ((c .before .before .stop-at .ensures)) ∙ ((c .enum-told3 .given .1)))
 
 pub reach-spec : {M : Type 1} → statement M
 reach-spec =
     tie.close
     (tie.spec
-    judge-on-requires
+    judge-list-requires
     enum-known-next
     sub-t17
     enum-known-number
