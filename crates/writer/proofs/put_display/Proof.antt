@@ -1,4 +1,6 @@
+use mathlib.Core.Path.{ap, _∙_}
 use native.Mathlib.Omega.{arith}
+use Rattle.words.specs.Words.{putWord}
 use Rattle.writer.specs.Words.{symbology, displayWords}
 use Rattle.writer.proofs.Bounds.{bounds}
 use Rattle.writer.proofs.Stores.{words-laid}
@@ -47,7 +49,17 @@ same-length c = search needs
 
 returns : tie.Need-returns
 unfolding symbology
-returns c = cc ((c .before .before .before .before .before .before .before .before .before .before .before .before .before .before .before .before .put-word .ensures), (c .before .before .before .before .before .before .before .before .before .before .before .put-word2 .ensures), (c .before .before .before .before .before .before .put-word3 .ensures), (c .before .before .put-word4 .ensures), words-laid ((c .before .before .before .before .before .before .before .before .before .before .before .before .before .before .before .before .before .before .before .before .before .before .before .args .out .now)) 14 (displayWords ((c .before .before .before .before .before .before .before .before .before .before .before .before .before .before .before .before .before .before .before .before .before .before .before .args .fields))) (omega (arith, (c .before .before .before .before .before .before .before .before .before .before .before .before .before .before .before .before .before .before .before .before .before .before .before .pre .0))))
+returns c =
+    let start = c .before .before .before .before .before .before .before .before .before .before .before .before .before .before .before .before .before .before .before .before .before .before .before in
+    let f = start .args .fields in
+    c .before .before .put-word4 .ensures
+    ∙ ap (λ x. putWord x 17 (symbology f)) (
+    c .before .before .before .before .before .before .put-word3 .ensures
+    ∙ ap (λ x. putWord x 16 (f .properties)) (
+    c .before .before .before .before .before .before .before .before .before .before .before .put-word2 .ensures ∙ ap (λ x. putWord x 15 (f .index)) (c .before .before .before .before .before .before .before .before .before .before .before .before .before .before .before .before .put-word .ensures)
+    )
+    )
+    ∙ words-laid (start .args .out .now) 14 (displayWords f) (omega (arith, start .pre .0))
 
 pub put-display-spec : {M : Type 1} → statement M
 put-display-spec =
