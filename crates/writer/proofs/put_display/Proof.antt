@@ -1,3 +1,4 @@
+-- Four stores one after another lay the words 14 to 17.
 use mathlib.Core.Path.{ap, _∙_}
 use native.Mathlib.Omega.{arith}
 use Rattle.words.specs.Words.{putWord}
@@ -52,14 +53,11 @@ unfolding symbology
 returns c =
     let start = c .before .before .before .before .before .before .before .before .before .before .before .before .before .before .before .before .before .before .before .before .before .before .before in
     let f = start .args .fields in
-    c .before .before .put-word4 .ensures
-    ∙ ap (λ x. putWord x 17 (symbology f)) (
-    c .before .before .before .before .before .before .put-word3 .ensures
-    ∙ ap (λ x. putWord x 16 (f .properties)) (
-    c .before .before .before .before .before .before .before .before .before .before .before .put-word2 .ensures ∙ ap (λ x. putWord x 15 (f .index)) (c .before .before .before .before .before .before .before .before .before .before .before .before .before .before .before .before .put-word .ensures)
-    )
-    )
-    ∙ words-laid (start .args .out .now) 14 (displayWords f) (omega (arith, start .pre .0))
+    let one = c .before .before .before .before .before .before .before .before .before .before .before .before .before .before .before .before .put-word .ensures in
+    let two = c .before .before .before .before .before .before .before .before .before .before .before .put-word2 .ensures ∙ ap (λ x. putWord x 15 (f .index)) one in
+    let three = c .before .before .before .before .before .before .put-word3 .ensures ∙ ap (λ x. putWord x 16 (f .properties)) two in
+    let four = c .before .before .put-word4 .ensures ∙ ap (λ x. putWord x 17 (symbology f)) three in
+    four ∙ words-laid (start .args .out .now) 14 (displayWords f) (omega (arith, start .pre .0))
 
 pub put-display-spec : {M : Type 1} → statement M
 put-display-spec =

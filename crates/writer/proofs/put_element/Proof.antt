@@ -1,3 +1,4 @@
+-- The header, N, the points and the tail are laid one behind the other (`element-laid`).
 use Prim.Native.Nat.{_+_, _*_}
 use mathlib.Core.Path.{ap, _∙_}
 use mathlib.Core.List.{map}
@@ -47,21 +48,11 @@ returns c =
     let w = writable (start .pre) in
     let size = c .before .before .before .before .before .before .before .before .before .before .before .before .before .before .before .before .size-of .ensures in
     let count = c .before .before .before .before .before .before .before .before .before .before .put-count in
-    let points = longs (map unsigned (a .points .now)) in
-    let next = count .result + 2 * length (a .points .now) in (
-      size,
-      c .before .before .put-tail .ensures
-          ∙ ap (λ x. laid x next (words (a .tail .now))) (
-          c .before .before .before .before .before .before .put-points .ensures
-          ∙ ap (λ x. laid x (count .result) points) (
-          count .ensures .1
-          ∙ ap (λ x. laid x 18 (countWords (a .fields .kind) (pointCount (a .dim) (a .points .now)))) (
-          c .before .before .before .before .before .before .before .before .before .before .before .before .before .before .put-header .ensures ∙ ap (λ n. laid (a .out .now) 0 (headerWords (a .fields) n)) size
-          )
-          )
-          )
-          ∙ element-laid w (a .out .now) (count .result) (count .ensures .0) (w .fits),
-    )
+    let header = c .before .before .before .before .before .before .before .before .before .before .before .before .before .before .put-header .ensures ∙ ap (λ n. laid (a .out .now) 0 (headerWords (a .fields) n)) size in
+    let counted = count .ensures .1 ∙ ap (λ x. laid x 18 (countWords (a .fields .kind) (pointCount (a .dim) (a .points .now)))) header in
+    let points = c .before .before .before .before .before .before .put-points .ensures ∙ ap (λ x. laid x (count .result) (longs (map unsigned (a .points .now)))) counted in
+    let tail = c .before .before .put-tail .ensures ∙ ap (λ x. laid x (count .result + 2 * length (a .points .now)) (words (a .tail .now))) points in
+    (size, tail ∙ element-laid w (a .out .now) (count .result) (count .ensures .0) (w .fits))
 
 pub put-element-spec : {M : Type 1} → statement M
 put-element-spec =

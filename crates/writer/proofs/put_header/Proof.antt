@@ -1,3 +1,4 @@
+-- What is stored behind what was laid is laid with it (`header-laid`).
 use Prim.Native.Nat.{_-_}
 use mathlib.Core.Path.{ap, _∙_}
 use native.Mathlib.Omega.{arith}
@@ -42,15 +43,11 @@ returns : tie.Need-returns
 returns c =
     let start = c .before .before .before .before .before .before .before .before .before .before .before .before .before .before .before .before .before .before in
     let f = start .args .fields in
-    c .before .before .put-display .ensures
-    ∙ ap (λ x. laid x 14 (displayWords f)) (
-    c .before .before .before .before .before .before .put-range .ensures
-    ∙ ap (λ x. laid x 2 (longs (rangeOf f))) (
-    c .before .before .before .before .before .before .before .before .before .before .put-word2 .ensures
-    ∙ ap (λ x. putWord x 1 (start .args .size - 2)) (c .before .before .before .before .before .before .before .before .before .before .before .before .before .before .put-word .ensures ∙ ap (putWord (start .args .out .now) 0) (c .before .before .before .before .before .before .before .before .before .before .before .before .before .before .before .first-word .ensures))
-    )
-    )
-    ∙ header-laid (start .args .out .now) f (start .args .size) (start .pre .0 .0)
+    let one = c .before .before .before .before .before .before .before .before .before .before .before .before .before .before .put-word .ensures ∙ ap (putWord (start .args .out .now) 0) (c .before .before .before .before .before .before .before .before .before .before .before .before .before .before .before .first-word .ensures) in
+    let two = c .before .before .before .before .before .before .before .before .before .before .put-word2 .ensures ∙ ap (λ x. putWord x 1 (start .args .size - 2)) one in
+    let range = c .before .before .before .before .before .before .put-range .ensures ∙ ap (λ x. laid x 2 (longs (rangeOf f))) two in
+    let display = c .before .before .put-display .ensures ∙ ap (λ x. laid x 14 (displayWords f)) range in
+    display ∙ header-laid (start .args .out .now) f (start .args .size) (start .pre .0 .0)
 
 pub put-header-spec : {M : Type 1} → statement M
 put-header-spec =

@@ -1,3 +1,4 @@
+-- Six stores one after another lay the six longs of the range.
 use mathlib.Core.Path.{ap, _∙_}
 use native.Mathlib.Omega.{arith}
 use Rattle.words.specs.Words.{putLong}
@@ -51,8 +52,13 @@ returns : tie.Need-returns
 returns c =
     let start = c .before .before .before .before .before .before .before .before .before .before .before .before .before .before .before .before .before .before .before .before .before .before .before .before .before .before .before .before .before .before .before in
     let f = start .args .fields in
-    (c .before .before .put-long6 .ensures ∙ ap (λ x. putLong x 12 (f .«high_z»)) (c .before .before .before .before .before .before .before .put-long5 .ensures ∙ ap (λ x. putLong x 10 (f .«high_y»)) (c .before .before .before .before .before .before .before .before .before .before .before .before .put-long4 .ensures ∙ ap (λ x. putLong x 8 (f .«high_x»)) (c .before .before .before .before .before .before .before .before .before .before .before .before .before .before .before .before .before .put-long3 .ensures ∙ ap (λ x. putLong x 6 (f .«low_z»)) (c .before .before .before .before .before .before .before .before .before .before .before .before .before .before .before .before .before .before .before .before .before .before .put-long2 .ensures ∙ ap (λ x. putLong x 4 (f .«low_y»)) (c .before .before .before .before .before .before .before .before .before .before .before .before .before .before .before .before .before .before .before .before .before .before .before .before .before .before .before .put-long .ensures))))))
-    ∙ longs-laid (start .args .out .now) 2 (rangeOf f) (omega (arith, start .pre .0))
+    let one = c .before .before .before .before .before .before .before .before .before .before .before .before .before .before .before .before .before .before .before .before .before .before .before .before .before .before .before .put-long .ensures in
+    let two = c .before .before .before .before .before .before .before .before .before .before .before .before .before .before .before .before .before .before .before .before .before .before .put-long2 .ensures ∙ ap (λ x. putLong x 4 (f .«low_y»)) one in
+    let three = c .before .before .before .before .before .before .before .before .before .before .before .before .before .before .before .before .before .put-long3 .ensures ∙ ap (λ x. putLong x 6 (f .«low_z»)) two in
+    let four = c .before .before .before .before .before .before .before .before .before .before .before .before .put-long4 .ensures ∙ ap (λ x. putLong x 8 (f .«high_x»)) three in
+    let five = c .before .before .before .before .before .before .before .put-long5 .ensures ∙ ap (λ x. putLong x 10 (f .«high_y»)) four in
+    let six = c .before .before .put-long6 .ensures ∙ ap (λ x. putLong x 12 (f .«high_z»)) five in
+    six ∙ longs-laid (start .args .out .now) 2 (rangeOf f) (omega (arith, start .pre .0))
 
 pub put-range-spec : {M : Type 1} → statement M
 put-range-spec =
