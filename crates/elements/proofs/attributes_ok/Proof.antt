@@ -13,7 +13,7 @@ word-requires : tie.Need-word-requires
 word-requires c κs = tt
 
 returns : tie.Need-returns
-returns c = λ dim e. simp (sym ((c .before .word .ensures .is)), ne-eqb _ _ ((c .if1 .taken)))
+returns c = λ dim e. rw (sym ((c .before .word .ensures .is)), ne-eqb _ _ ((c .if1 .taken)))
 
 add-word-2 : tie.Need-add-word-2
 add-word-2 c = omega arith
@@ -26,11 +26,11 @@ add-part c = omega arith
 
 returns-2 : tie.Need-returns-2
 unfolding attributesOk
-returns-2 c = λ dim e. simp (sym ((c .before .before .before .word .ensures .is)), eq-eqb _ _ ((c .before .before .if1 .left)), sym ((c .before .word2 .ensures .is)), sym e, lt-leb _ _ ((c .if2 .taken)))
+returns-2 c = λ dim e. rw (sym ((c .before .before .before .word .ensures .is)), eq-eqb _ _ ((c .before .before .if1 .left)), sym ((c .before .word2 .ensures .is)), sym e, lt-leb _ _ ((c .if2 .taken)))
 
 returns-3 : tie.Need-returns-3
 unfolding attributesOk
-returns-3 c = λ dim e. simp (sym ((c .before .before .before .before .before .before .pre .0)), sym ((c .before .before .before .before .word .ensures .is)), eq-eqb _ _ ((c .before .before .before .if1 .left)), sym ((c .before .before .word2 .ensures .is)), sym e, le-leb _ _ ((c .before .if2 .left)), lt-leb _ _ ((c .if3 .taken)))
+returns-3 c = λ dim e. rw (sym ((c .before .before .before .before .before .before .pre .0)), sym ((c .before .before .before .before .word .ensures .is)), eq-eqb _ _ ((c .before .before .before .if1 .left)), sym ((c .before .before .word2 .ensures .is)), sym e, le-leb _ _ ((c .before .if2 .left)), lt-leb _ _ ((c .if3 .taken)))
 
 add-linkages-fill : tie.Need-add-linkages-fill
 add-linkages-fill c = omega arith
@@ -43,7 +43,7 @@ linkages-fill-requires c κs = tt
 
 returns-4 : tie.Need-returns-4
 unfolding attributesOk
-returns-4 c = λ dim e. simp (sym ((c .before .before .before .before .before .before .before .pre .0)), sym ((c .before .before .before .before .before .word .ensures .is)), eq-eqb _ _ ((c .before .before .before .before .if1 .left)), sym ((c .before .before .before .word2 .ensures .is)), sym e, le-leb _ _ ((c .before .before .if2 .left)), le-leb _ _ ((c .before .if3 .left))) ((c .linkages-fill .ensures))
+returns-4 c = λ dim e. rw (sym ((c .before .before .before .before .before .before .before .pre .0)), sym ((c .before .before .before .before .before .word .ensures .is)), eq-eqb _ _ ((c .before .before .before .before .if1 .left)), sym ((c .before .before .before .word2 .ensures .is)), sym e, le-leb _ _ ((c .before .before .if2 .left)), le-leb _ _ ((c .before .if3 .left))) ((c .linkages-fill .ensures))
 
 pub attributes-ok-spec : {M : Type 1} → statement M
 attributes-ok-spec =

@@ -48,7 +48,7 @@ returns c =
     let name = text .before .before in
     let size = name .before in
     let kind = size .before in
-    simp (
+    rw (
       sym (kind .before .word .ensures .is),
       sym (kind .type-of .ensures),
       sym (size .word-of .ensures .is),

@@ -22,7 +22,7 @@ returns c =
     let first = c .before .before in
     let test = first .before in
     named _ _ _ _ _ (c .unpack .ensures)
-    (simp (sym (test .before .before .pre), test .if1 .taken, sym (first .word-of .ensures .is), sym (c .before .word-of2 .ensures .is)))
+    (rw (sym (test .before .before .pre), test .if1 .taken, sym (first .word-of .ensures .is), sym (c .before .word-of2 .ensures .is)))
 
 word-of-requires-3 : tie.Need-word-of-requires-3
 word-of-requires-3 c κs = search needs
@@ -39,7 +39,7 @@ returns-2 c =
     let first = c .before .before in
     let test = first .before in
     named _ _ _ _ _ (c .unpack2 .ensures)
-    (simp (sym (test .before .before .before .pre), test .if2 .taken, sym (first .word-of3 .ensures .is), sym (c .before .word-of4 .ensures .is)))
+    (rw (sym (test .before .before .before .pre), test .if2 .taken, sym (first .word-of3 .ensures .is), sym (c .before .word-of4 .ensures .is)))
 
 unpack-requires-3 : tie.Need-unpack-requires-3
 unpack-requires-3 c κs = search needs
@@ -49,7 +49,7 @@ unfolding nameText
 returns-3 c =
     let test = c .before .before in
     named _ _ _ _ _ (c .unpack3 .ensures)
-    (simp (sym (test .before .before .pre), ne-eqb _ _ (test .if1 .left), ne-eqb _ _ (c .before .if2 .left)) empty-name)
+    (rw (sym (test .before .before .pre), ne-eqb _ _ (test .if1 .left), ne-eqb _ _ (c .before .if2 .left)) empty-name)
 
 pub name-of-spec : {M : Type 1} → statement M
 name-of-spec =

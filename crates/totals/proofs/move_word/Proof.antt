@@ -1,5 +1,9 @@
 -- The word that is read, raised or lowered, is stored in its place.
+use Prim.Native.Nat.{_%_}
+use mathlib.Core.Path.{ap, _∙_}
 use borrow.Author.Needs.{needs}
+use Rattle.words.specs.Words.{putWord}
+use Rattle.edits.specs.Edits.{moved}
 use Rattle.totals.specs.Totals.{wordMoved}
 use Rattle.totals.proofs.move_word.Statement.{statement}
 use Rattle.totals.proofs.move_word.Tie as tie
@@ -21,7 +25,10 @@ same-length c = search needs
 
 returns : tie.Need-returns
 unfolding wordMoved
-returns c = cc
+returns c =
+    let a = c .before .before .before .before .before .before .before .before .args in
+    c .before .before .put-word .ensures
+    ∙ ap (putWord (a .file .now) (a .i)) (c .before .before .before .moved-word .ensures ∙ ap (λ w. moved (a .up) (a .n) w % 65536) (c .before .before .before .before .before .word .ensures .is))
 
 pub move-word-spec : {M : Type 1} → statement M
 move-word-spec =

@@ -1,4 +1,7 @@
+-- Four stores one after another lay the words 14 to 17.
+use mathlib.Core.Path.{ap, _∙_}
 use native.Mathlib.Omega.{arith}
+use Rattle.words.specs.Words.{putWord}
 use Rattle.writer.specs.Words.{symbology, displayWords}
 use Rattle.writer.proofs.Bounds.{bounds}
 use Rattle.writer.proofs.Stores.{words-laid}
@@ -47,7 +50,14 @@ same-length c = search needs
 
 returns : tie.Need-returns
 unfolding symbology
-returns c = cc ((c .before .before .before .before .before .before .before .before .before .before .before .before .before .before .before .before .put-word .ensures), (c .before .before .before .before .before .before .before .before .before .before .before .put-word2 .ensures), (c .before .before .before .before .before .before .put-word3 .ensures), (c .before .before .put-word4 .ensures), words-laid ((c .before .before .before .before .before .before .before .before .before .before .before .before .before .before .before .before .before .before .before .before .before .before .before .args .out .now)) 14 (displayWords ((c .before .before .before .before .before .before .before .before .before .before .before .before .before .before .before .before .before .before .before .before .before .before .before .args .fields))) (omega (arith, (c .before .before .before .before .before .before .before .before .before .before .before .before .before .before .before .before .before .before .before .before .before .before .before .pre .0))))
+returns c =
+    let start = c .before .before .before .before .before .before .before .before .before .before .before .before .before .before .before .before .before .before .before .before .before .before .before in
+    let f = start .args .fields in
+    let one = c .before .before .before .before .before .before .before .before .before .before .before .before .before .before .before .before .put-word .ensures in
+    let two = c .before .before .before .before .before .before .before .before .before .before .before .put-word2 .ensures ∙ ap (λ x. putWord x 15 (f .index)) one in
+    let three = c .before .before .before .before .before .before .put-word3 .ensures ∙ ap (λ x. putWord x 16 (f .properties)) two in
+    let four = c .before .before .put-word4 .ensures ∙ ap (λ x. putWord x 17 (symbology f)) three in
+    four ∙ words-laid (start .args .out .now) 14 (displayWords f) (omega (arith, start .pre .0))
 
 pub put-display-spec : {M : Type 1} → statement M
 put-display-spec =

@@ -1,4 +1,12 @@
+-- The header, N, the points and the tail are laid one behind the other (`element-laid`).
+use Prim.Native.Nat.{_+_, _*_}
+use mathlib.Core.Path.{ap, _∙_}
+use mathlib.Core.List.{map}
 use native.Mathlib.Omega.{arith}
+use lib.ListN.{length}
+use Rattle.words.specs.Words.{words, unsigned}
+use Rattle.writer.specs.Words.{longs, headerWords, countWords, pointCount}
+use Rattle.writer.specs.Writing.{laid}
 use Rattle.writer.proofs.Bounds.{called-ok, dim-some}
 use Rattle.writer.proofs.Writable.{writable}
 use Rattle.writer.proofs.Laid.{count-room, points-end, element-laid}
@@ -34,7 +42,17 @@ same-length : tie.Need-same-length
 same-length c = search needs
 
 returns : tie.Need-returns
-returns c = let w = writable ((c .before .before .before .before .before .before .before .before .before .before .before .before .before .before .before .before .before .before .before .pre)) in ((c .before .before .before .before .before .before .before .before .before .before .before .before .before .before .before .before .size-of .ensures), cc ((c .before .before .before .before .before .before .before .before .before .before .before .before .before .before .before .before .size-of .ensures), (c .before .before .before .before .before .before .before .before .before .before .before .before .before .before .put-header .ensures), (c .before .before .before .before .before .before .before .before .before .before .put-count .ensures .1), (c .before .before .before .before .before .before .put-points .ensures), (c .before .before .put-tail .ensures), element-laid w ((c .before .before .before .before .before .before .before .before .before .before .before .before .before .before .before .before .before .before .before .args .out .now)) ((c .before .before .before .before .before .before .before .before .before .before .put-count .result)) ((c .before .before .before .before .before .before .before .before .before .before .put-count .ensures .0)) (w .fits)))
+returns c =
+    let start = c .before .before .before .before .before .before .before .before .before .before .before .before .before .before .before .before .before .before .before in
+    let a = start .args in
+    let w = writable (start .pre) in
+    let size = c .before .before .before .before .before .before .before .before .before .before .before .before .before .before .before .before .size-of .ensures in
+    let count = c .before .before .before .before .before .before .before .before .before .before .put-count in
+    let header = c .before .before .before .before .before .before .before .before .before .before .before .before .before .before .put-header .ensures ∙ ap (λ n. laid (a .out .now) 0 (headerWords (a .fields) n)) size in
+    let counted = count .ensures .1 ∙ ap (λ x. laid x 18 (countWords (a .fields .kind) (pointCount (a .dim) (a .points .now)))) header in
+    let points = c .before .before .before .before .before .before .put-points .ensures ∙ ap (λ x. laid x (count .result) (longs (map unsigned (a .points .now)))) counted in
+    let tail = c .before .before .put-tail .ensures ∙ ap (λ x. laid x (count .result + 2 * length (a .points .now)) (words (a .tail .now))) points in
+    (size, tail ∙ element-laid w (a .out .now) (count .result) (count .ensures .0) (w .fits))
 
 pub put-element-spec : {M : Type 1} → statement M
 put-element-spec =

@@ -1,4 +1,10 @@
+-- What is stored behind what was laid is laid with it (`header-laid`).
+use Prim.Native.Nat.{_-_}
+use mathlib.Core.Path.{ap, _∙_}
 use native.Mathlib.Omega.{arith}
+use Rattle.words.specs.Words.{putWord}
+use Rattle.writer.specs.Words.{longs, rangeOf, displayWords}
+use Rattle.writer.specs.Writing.{laid}
 use Rattle.writer.proofs.Bounds.{bounds}
 use Rattle.writer.proofs.Element.{kind-small, first-small}
 use Rattle.writer.proofs.Laid.{header-laid}
@@ -34,7 +40,14 @@ same-length : tie.Need-same-length
 same-length c = search needs
 
 returns : tie.Need-returns
-returns c = cc ((c .before .before .before .before .before .before .before .before .before .before .before .before .before .before .before .first-word .ensures), (c .before .before .before .before .before .before .before .before .before .before .before .before .before .before .put-word .ensures), (c .before .before .before .before .before .before .before .before .before .before .put-word2 .ensures), (c .before .before .before .before .before .before .put-range .ensures), (c .before .before .put-display .ensures), header-laid ((c .before .before .before .before .before .before .before .before .before .before .before .before .before .before .before .before .before .before .args .out .now)) ((c .before .before .before .before .before .before .before .before .before .before .before .before .before .before .before .before .before .before .args .fields)) ((c .before .before .before .before .before .before .before .before .before .before .before .before .before .before .before .before .before .before .args .size)) ((c .before .before .before .before .before .before .before .before .before .before .before .before .before .before .before .before .before .before .pre .0 .0)))
+returns c =
+    let start = c .before .before .before .before .before .before .before .before .before .before .before .before .before .before .before .before .before .before in
+    let f = start .args .fields in
+    let one = c .before .before .before .before .before .before .before .before .before .before .before .before .before .before .put-word .ensures ∙ ap (putWord (start .args .out .now) 0) (c .before .before .before .before .before .before .before .before .before .before .before .before .before .before .before .first-word .ensures) in
+    let two = c .before .before .before .before .before .before .before .before .before .before .put-word2 .ensures ∙ ap (λ x. putWord x 1 (start .args .size - 2)) one in
+    let range = c .before .before .before .before .before .before .put-range .ensures ∙ ap (λ x. laid x 2 (longs (rangeOf f))) two in
+    let display = c .before .before .put-display .ensures ∙ ap (λ x. laid x 14 (displayWords f)) range in
+    display ∙ header-laid (start .args .out .now) f (start .args .size) (start .pre .0 .0)
 
 pub put-header-spec : {M : Type 1} → statement M
 put-header-spec =

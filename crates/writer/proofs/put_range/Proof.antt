@@ -1,4 +1,7 @@
+-- Six stores one after another lay the six longs of the range.
+use mathlib.Core.Path.{ap, _∙_}
 use native.Mathlib.Omega.{arith}
+use Rattle.words.specs.Words.{putLong}
 use Rattle.writer.specs.Words.{rangeOf}
 use Rattle.writer.proofs.Bounds.{bounds}
 use Rattle.writer.proofs.Stores.{longs-laid}
@@ -46,7 +49,16 @@ same-length : tie.Need-same-length
 same-length c = omega (arith, (c .before .before .before .before .before .before .before .before .before .before .before .before .before .before .before .before .before .before .before .before .before .before .before .before .before .before .before .put-long .kept), (c .before .before .before .before .before .before .before .before .before .before .before .before .before .before .before .before .before .before .before .before .before .before .put-long2 .kept), (c .before .before .before .before .before .before .before .before .before .before .before .before .before .before .before .before .before .put-long3 .kept), (c .before .before .before .before .before .before .before .before .before .before .before .before .put-long4 .kept), (c .before .before .before .before .before .before .before .put-long5 .kept), (c .before .before .put-long6 .kept))
 
 returns : tie.Need-returns
-returns c = cc ((c .before .before .before .before .before .before .before .before .before .before .before .before .before .before .before .before .before .before .before .before .before .before .before .before .before .before .before .put-long .ensures), (c .before .before .before .before .before .before .before .before .before .before .before .before .before .before .before .before .before .before .before .before .before .before .put-long2 .ensures), (c .before .before .before .before .before .before .before .before .before .before .before .before .before .before .before .before .before .put-long3 .ensures), (c .before .before .before .before .before .before .before .before .before .before .before .before .put-long4 .ensures), (c .before .before .before .before .before .before .before .put-long5 .ensures), (c .before .before .put-long6 .ensures), longs-laid ((c .before .before .before .before .before .before .before .before .before .before .before .before .before .before .before .before .before .before .before .before .before .before .before .before .before .before .before .before .before .before .before .args .out .now)) 2 (rangeOf ((c .before .before .before .before .before .before .before .before .before .before .before .before .before .before .before .before .before .before .before .before .before .before .before .before .before .before .before .before .before .before .before .args .fields))) (omega (arith, (c .before .before .before .before .before .before .before .before .before .before .before .before .before .before .before .before .before .before .before .before .before .before .before .before .before .before .before .before .before .before .before .pre .0))))
+returns c =
+    let start = c .before .before .before .before .before .before .before .before .before .before .before .before .before .before .before .before .before .before .before .before .before .before .before .before .before .before .before .before .before .before .before in
+    let f = start .args .fields in
+    let one = c .before .before .before .before .before .before .before .before .before .before .before .before .before .before .before .before .before .before .before .before .before .before .before .before .before .before .before .put-long .ensures in
+    let two = c .before .before .before .before .before .before .before .before .before .before .before .before .before .before .before .before .before .before .before .before .before .before .put-long2 .ensures ∙ ap (λ x. putLong x 4 (f .«low_y»)) one in
+    let three = c .before .before .before .before .before .before .before .before .before .before .before .before .before .before .before .before .before .put-long3 .ensures ∙ ap (λ x. putLong x 6 (f .«low_z»)) two in
+    let four = c .before .before .before .before .before .before .before .before .before .before .before .before .put-long4 .ensures ∙ ap (λ x. putLong x 8 (f .«high_x»)) three in
+    let five = c .before .before .before .before .before .before .before .put-long5 .ensures ∙ ap (λ x. putLong x 10 (f .«high_y»)) four in
+    let six = c .before .before .put-long6 .ensures ∙ ap (λ x. putLong x 12 (f .«high_z»)) five in
+    six ∙ longs-laid (start .args .out .now) 2 (rangeOf f) (omega (arith, start .pre .0))
 
 pub put-range-spec : {M : Type 1} → statement M
 put-range-spec =
