@@ -127,11 +127,8 @@ name-simple ws at h = simp (not-header (typeAt ws at) 1 h refl, not-header (type
 
 -- the same of an element whose type, size and fixed part were read
 module _ (dim : ℕ) (ws : List ℕ) (at t size : ℕ) (q : t ≡ typeAt ws at) (z : size ≡ sizeAt ws at) where
-  pub plain-short : (fixed : ℕ) → fixed ≡ fixedPart dim t (pointsAt ws at) → (not (isPointed t) || pointsOk ws at) ≡ true → size < fixed → fixedOk dim ws at ≡ false
-  plain-short fixed e p h = fixed-pointed dim ws at (rw q at p) ∙ lt-leb _ _ (rw (e, q, z) at h)
-
-  pub plain-long : (fixed : ℕ) → fixed ≡ fixedPart dim t (pointsAt ws at) → (not (isPointed t) || pointsOk ws at) ≡ true → fixed ≤ size → fixedOk dim ws at ≡ true
-  plain-long fixed e p h = fixed-pointed dim ws at (rw q at p) ∙ le-leb _ _ (rw (e, q, z) at h)
+  pub plain-fixed : (fixed : ℕ) → fixed ≡ fixedPart dim t (pointsAt ws at) → (not (isPointed t) || pointsOk ws at) ≡ true → fixedOk dim ws at ≡ leb fixed size
+  plain-fixed fixed e p = fixed-pointed dim ws at (rw q at p) ∙ rw (e, q, z)
 
   pub header-short : (fixed : ℕ) → fixed ≡ fixedPart dim t 0 → isHeader t ≡ true → size < fixed → fixedOk dim ws at ≡ false
   header-short fixed e k h = fixed-pointless dim ws at (header-pointless (typeAt ws at) (rw q at k)) ∙ lt-leb _ _ (rw (e, q, z) at h)
@@ -141,10 +138,6 @@ module _ (dim : ℕ) (ws : List ℕ) (at t size : ℕ) (q : t ≡ typeAt ws at) 
 
   pub header-part : (fixed : ℕ) → fixed ≡ fixedPart dim t 0 → isHeader t ≡ true → fixed ≡ fixedPart dim (typeAt ws at) (pointsAt ws at)
   header-part fixed e k = e ∙ fixed-any dim t 0 (pointsAt ws at) (header-pointless t k) ∙ ap (λ (u : ℕ). fixedPart dim u (pointsAt ws at)) q
-
--- an element with points has its N
-pub points-size : (ws : List ℕ) (at t : ℕ) → (not (isPointed t) || pointsOk ws at) ≡ true → isPointed t ≡ true → 19 ≤ sizeAt ws at
-points-size ws at t e h = leb-true 19 (sizeAt ws at) (both-true (leb 19 (sizeAt ws at)) _ (rw h at e) .0)
 
 ---- bits 6 and 7 of word 0
 

@@ -6,10 +6,10 @@ ghost use mathlib.Core.List.{[], _∷_};
 ghost use Prim.Native.Nat.{ℕ, _+_, _<_, _≤_, _^_};
 ghost use lib.Dec.{eqb, leb};
 ghost use Rattle.words.specs.Words.{words};
-ghost use Rattle.kinds.specs.Kinds.{isHeader, isPointed, isLinked, isUnread, fixedPart, mayStand};
+ghost use Rattle.kinds.specs.Kinds.{isHeader, isLinked, isUnread, fixedPart, mayStand};
 ghost use Rattle.elements.specs.Header.{typeAt, sizeAt, pointsAt, extentAt, attributesAt};
 ghost use Rattle.elements.specs.Attributes.{attributesOk, linkagesOk};
-ghost use Rattle.elements.specs.Rules.{reservedOk, placeOk, pointsOk, fixedOk, storedNameOk, check, firstFault, contentChecks, HeadRead, countOk};
+ghost use Rattle.elements.specs.Rules.{reservedOk, placeOk, fixedOk, storedNameOk, check, firstFault, contentChecks, HeadRead, countOk};
 
 // What one element is read as: refused with a number; an element that its own words end; or a header, whose
 // components stand from `inner` to `end`.
@@ -93,29 +93,12 @@ fn raw_fault(t: usize, size: usize, under: usize) -> usize
     0
 }
 
-// 7: N of the types that have points. Word 18 is read only where it is the element's own.
-fn points_ok(s: &[u8], at: usize, t: usize, size: usize) -> bool
-    requires { ⌜ (size ≡ sizeAt (words (now s)) at) × (at + size < 2 ^ 64) ⌝ }
-    ensures { λ r. ⌜ r ≡ (not (isPointed t) || pointsOk (words (now (s .entry))) at) ⌝ }
-{
-    if !kinds::is_pointed(t) {
-        return true;
-    }
-    if size < 19 {
-        return false;
-    }
-    let n = words::word(s, at + 18);
-    if n < 2 {
-        return false;
-    }
-    n <= 101
-}
-
-// The fixed part of a known type that is no header.
-fn plain_part(s: &[u8], at: usize, t: usize, dim: usize) -> usize
-    requires { ⌜ (isLinked t ≡ true) × (isHeader t ≡ false) ⌝ }
-    requires { ⌜ (isPointed t ≡ true → at + 18 < 2 ^ 64) ⌝ }
-    ensures { λ r. ⌜ r ≡ fixedPart dim t (pointsAt (words (now (s .entry))) at) ⌝ }
+// 7, of a known type that is no header: its fixed part, or a number above every size where N is wrong. Word 18 is read
+// only where it is the element's own.
+fn plain_part(s: &[u8], at: usize, t: usize, size: usize, dim: usize) -> usize
+    requires { ⌜ (t ≡ typeAt (words (now s)) at) × (size ≡ sizeAt (words (now s)) at) ⌝ }
+    requires { ⌜ (isLinked t ≡ true) × ((isHeader t ≡ false) × (at + size < 2 ^ 64)) ⌝ }
+    ensures { λ r. ⌜ (leb r size ≡ fixedOk dim (words (now (s .entry))) at) × (fixedOk dim (words (now (s .entry))) at ≡ true → r ≡ fixedPart dim t (pointsAt (words (now (s .entry))) at)) ⌝ }
 {
     if t == 3 {
         return kinds::pick(dim == 2, 26, 30);
@@ -123,7 +106,16 @@ fn plain_part(s: &[u8], at: usize, t: usize, dim: usize) -> usize
     if t == 17 {
         return 18;
     }
+    if size < 19 {
+        return 65540;
+    }
     let n = words::word(s, at + 18);
+    if n < 2 {
+        return 65540;
+    }
+    if 101 < n {
+        return 65540;
+    }
     kinds::pick(dim == 2, 19 + 4 * n, 19 + 6 * n)
 }
 
@@ -155,10 +147,7 @@ fn plain_fault(s: &[u8], at: usize, t: usize, size: usize, under: usize, dim: us
     if !text_ok(under, t) {
         return 6;
     }
-    if !points_ok(s, at, t, size) {
-        return 7;
-    }
-    let fixed = plain_part(s, at, t, dim);
+    let fixed = plain_part(s, at, t, size, dim);
     if size < fixed {
         return 7;
     }
