@@ -9,7 +9,7 @@ ghost use Rattle.words.specs.Words.{words};
 ghost use Rattle.kinds.specs.Kinds.{isHeader, isLinked, isUnread, fixedPart, mayStand};
 ghost use Rattle.elements.specs.Header.{typeAt, sizeAt, pointsAt, extentAt, attributesAt};
 ghost use Rattle.elements.specs.Attributes.{attributesOk, linkagesOk};
-ghost use Rattle.elements.specs.Rules.{reservedOk, placeOk, fixedOk, storedNameOk, check, firstFault, contentChecks, HeadRead, countOk};
+ghost use Rattle.elements.specs.Rules.{reservedOk, placeOk, fixedOk, storedNameOk, check, firstFault, contentChecks, HeadRead};
 
 // What one element is read as: refused with a number; an element that its own words end; or a header, whose
 // components stand from `inner` to `end`.
@@ -251,13 +251,13 @@ fn header_fault(
 pub fn head_at(s: &[u8], at: usize, bound: usize, depth: usize, under: usize, dim: usize) -> Head
     ensures { λ r. ⌜ HeadRead dim depth under (now (s .entry)) at bound r ⌝ }
 {
-    if bound <= at {
+    if bound < 2 {
+        return Head::Bad { number: 3 };
+    }
+    if bound - 2 < at {
         return Head::Bad { number: 3 };
     }
     let room = bound - at;
-    if room < 2 {
-        return Head::Bad { number: 3 };
-    }
     let w = words::word(s, at);
     let size = words::word(s, at + 1) + 2;
     if room < size {
@@ -283,17 +283,4 @@ pub fn head_at(s: &[u8], at: usize, bound: usize, depth: usize, under: usize, di
         return Head::Bad { number: wrong };
     }
     Head::Plain { next }
-}
-
-// 9, after the components: the header at a place has `direct` direct components, or is of a type without a count.
-pub fn count_ok(s: &[u8], at: usize, direct: usize) -> bool
-    ensures { λ r. ⌜ r ≡ countOk (words (now (s .entry))) at direct ⌝ }
-{
-    if s.len() <= at {
-        return true;
-    }
-    if kinds::is_counted(type_at(s, at)) {
-        return words::word(s, at + 19) == direct;
-    }
-    true
 }

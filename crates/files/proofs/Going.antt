@@ -1,6 +1,6 @@
 -- Each way on and out of judge_element and judge_list keeps its contract, by the laws of judging.
 use Prim.Native.Nat.{ℕ, zero, suc, _+_, _-_, _≤_, _<_, max}
-use mathlib.Core.Path.{_≡_, refl, sym, ap, _∙_, subst}
+use mathlib.Core.Path.{_≡_, refl, sym, _∙_, subst}
 use mathlib.Core.Bool.{Bool, true, false, cond, _&&_, _||_, false≢true}
 use mathlib.Core.List.{List}
 use native.Mathlib.Omega.{arith}
@@ -9,11 +9,11 @@ use borrow.Author.Tests.{leb-true, eqb-true, ne-eqb, lt-ltb, le-ltb}
 use Rattle.words.specs.Words.{words, wordAt}
 use Rattle.elements.specs.Header.{typeAt}
 use Rattle.kinds.specs.Kinds.{isHeader}
-use Rattle.elements.specs.Rules.{reservedOk, headOf, countOk, HeadRead}
+use Rattle.elements.specs.Rules.{reservedOk, countOk, HeadRead}
 use Rattle.elements.specs.declared.Head.{Head}
 use Rattle.elements.specs.declared.Head.the-variants.{Bad, Plain, Complex}
 use Rattle.elements.proofs.Laws.{Checked, head-means}
-use Rattle.files.specs.declared.Stop.the-variants.{More, Done}
+use Rattle.files.specs.declared.Stop.the-variants.{More}
 use Rattle.files.specs.declared.Verdict.{Verdict}
 use Rattle.files.specs.declared.Verdict.the-variants.{Good, Fault}
 use Rattle.files.specs.declared.Progress.the-variants.{Stopped, Halted, Broken}

@@ -1,23 +1,20 @@
 -- What judging one list's elements came to gives the list, one element, and what is reached at the top.
-use Prim.Native.Nat.{ℕ, zero, suc, _+_, _-_, _≤_, _<_, max}
-use mathlib.Core.Path.{_≡_, refl, sym, ap, _∙_, subst}
-use mathlib.Core.Bool.{Bool, true, false, cond, _&&_, _||_, false≢true}
+use Prim.Native.Nat.{ℕ, zero, suc, _+_, _-_, _<_}
+use mathlib.Core.Path.{_≡_, refl, sym, _∙_}
+use mathlib.Core.Bool.{Bool, true, false, false≢true}
 use mathlib.Core.List.{List}
 use native.Mathlib.Omega.{arith}
 use native.Mathlib.Nat.{add-zero, zero-add, zero-max}
-use lib.Dec.{ltb}
 use borrow.Author.Tests.{ltb-true, lt-ltb}
 use Rattle.words.specs.Words.{words}
-use Rattle.elements.specs.Rules.{headOf}
-use Rattle.elements.specs.declared.Head.the-variants.{Bad}
 use Rattle.files.specs.declared.Stop.the-variants.{More, Done, Lacking}
 use Rattle.files.specs.declared.Verdict.the-variants.{Good, Fault}
 use Rattle.files.specs.declared.Progress.the-variants.{Stopped, Halted, Broken}
 use Rattle.files.specs.declared.Reached.{Reached}
 use Rattle.files.specs.declared.Reached.the-variants as reached
 use Rattle.files.specs.Judge.{stopOf, elementOf}
-use Rattle.files.specs.Reach.{reachedIf, reachedBy, reachedFrom, reachedOf}
-use Rattle.files.specs.Progress.{IsElement, ListJudged, GoodAt, stopsAfter, Steps, Gone, StoppedAt, BrokenAt, Progressed}
+use Rattle.files.specs.Reach.{reachedFrom, reachedOf}
+use Rattle.files.specs.Progress.{ListJudged, GoodAt, stopsAfter, Steps, Gone, StoppedAt, Progressed}
 use Rattle.files.proofs.Laws.{passed-done, passed-lacking, passed-refused, element-bad, element-of}
 
 ---- a whole list

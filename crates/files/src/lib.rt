@@ -3,10 +3,11 @@
 // elements::head_at. Definitions: specs/Judge, specs/Reach; the inner contracts of the two are in specs/Progress.
 ghost use mathlib.Core.Path.{_≡_};
 ghost use mathlib.Core.Bool.{false, _||_};
-ghost use Prim.Native.Nat.{ℕ, _≤_, _<_, max};
+ghost use Prim.Native.Nat.{ℕ, _+_, _≤_, _<_, _^_, max};
 ghost use lib.Dec.{ltb};
 ghost use Rattle.words.specs.Words.{words};
-ghost use Rattle.elements.specs.Rules.{HeadRead};
+ghost use Rattle.elements.specs.Header.{typeAt};
+ghost use Rattle.elements.specs.Rules.{countOk, HeadRead};
 ghost use Rattle.elements.specs.declared.Head.the-variants.{Complex};
 ghost use Rattle.files.specs.Judge.{stopOf, elementOf, callOk, judgeOf};
 ghost use Rattle.files.specs.Reach.{reachedOf};
@@ -173,9 +174,20 @@ fn closed(s: &[u8], bound: usize, depth: usize, progress: Progress) -> Verdict
     }
 }
 
+// 9, after the components: the header at a place, of type t, has `direct` direct components, or is of a type without a count.
+fn count_ok(s: &[u8], at: usize, t: usize, direct: usize) -> bool
+    requires { ⌜ (t ≡ typeAt (words (now s)) at) × (at + 19 < 2 ^ 64) ⌝ }
+    ensures { λ r. ⌜ r ≡ countOk (words (now (s .entry))) at direct ⌝ }
+{
+    if kinds::is_counted(t) {
+        return words::word(s, at + 19) == direct;
+    }
+    true
+}
+
 // An element that its own words are read as a header: its components, a list of their own, then its count.
 fn judge_element(s: &[u8], at: usize, inner: usize, end: usize, depth: usize, dim: usize) -> Verdict
-    requires { ⌜ (at < inner) × ((inner ≤ end) × (depth ≤ 8)) ⌝ }
+    requires { ⌜ (at + 20 ≤ inner) × ((inner ≤ end) × (depth ≤ 8)) ⌝ }
     ensures { λ r. ⌜ ((under bound : ℕ) → HeadRead dim depth under (now (s .entry)) at bound (Complex inner end) → ElementJudged dim depth under (now (s .entry)) at bound r) ⌝ }
 {
     let t = elements::type_at(s, at);
@@ -188,7 +200,7 @@ fn judge_element(s: &[u8], at: usize, inner: usize, end: usize, depth: usize, di
             deepest,
             direct,
         } => {
-            if elements::count_ok(s, at, direct) {
+            if count_ok(s, at, t, direct) {
                 Verdict::Good {
                     next: end,
                     elements: 1 + elements,

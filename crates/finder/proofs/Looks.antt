@@ -22,7 +22,7 @@ use Rattle.files.specs.Reach.{reachedOf}
 use Rattle.files.specs.declared.Reached.{Reached}
 use Rattle.files.specs.declared.Reached.the-variants as reached
 use Rattle.files.specs.Spots.{Spot, spotsOf}
-use Rattle.files.specs.declared.Stop.the-variants.{More, Done, Lacking}
+use Rattle.files.specs.declared.Stop.the-variants.{More, Done}
 use Rattle.files.specs.declared.Verdict.the-variants.{Good, Fault}
 use Rattle.files.specs.declared.Judged.the-variants as judged
 use Rattle.grammar.specs.Grammar.{Extent}
@@ -35,7 +35,7 @@ use Rattle.finder.specs.Finder.{hasName, hitIf, firstNamed, searchOf, fi
 use Rattle.finder.specs.Look.{InOrder, MayLook, MayPass, passedBy, FirstFrom}
 use Rattle.finder.proofs.Order.{order-append, order-room, tree-order, file-order}
 use Rattle.finder.proofs.Named.{name-none}
-use Rattle.grammar.proofs.Tops.{Judged, judged-none, judged-done, judged-lacking, judged-fault, judged-read, judged-on, judged-more, Arrived, arrived}
+use Rattle.grammar.proofs.Tops.{Judged, judged-none, judged-done, judged-read, judged-on, judged-more, Arrived, arrived}
 
 ---- a look at the elements of a part
 
@@ -132,13 +132,6 @@ module _ {dim : ℕ} {s : List ℕ} {a b here : ℕ} {r : Found} (l : Searched d
     searched-done h =
         let q = judged-done (l .judged) call h in
         rw q (l .same ∙ same-part (words s) a b 0 here 0 (l .past) (spotsOf dim (words s)) (l .order) (file-order dim s _ _ here q))
-
-    pub searched-lacking : stopOf 0 (words s) here (length s / 2) ≡ Lacking → found.Refused 2 here 0 ≡ searchOf dim s a b
-    searched-lacking h = search-refused dim s a b 2 here (judged-lacking (l .judged) call h)
-
-    pub searched-fault : (n p : ℕ) → stopOf 0 (words s) here (length s / 2) ≡ More → Fault n p ≡ elementOf dim 0 0 (words s) here (length s / 2) →
-        found.Refused n p 0 ≡ searchOf dim s a b
-    searched-fault n p h e = search-refused dim s a b n p (judged-fault (l .judged) h n p call e)
 
   -- how many were looked at, where none has the name
   count-few : {number place count : ℕ} → r ≡ found.Refused number place count → count ≤ here

@@ -12,7 +12,7 @@ use Rattle.words.proofs.Laws.{length-words}
 use Rattle.files.specs.Judge.{stopOf, elementOf, callOk}
 use Rattle.files.specs.Progress.{stopsAfter}
 use Rattle.files.specs.Reach.{reachedOf}
-use Rattle.files.specs.declared.Stop.the-variants.{More, Done}
+use Rattle.files.specs.declared.Stop.the-variants.{More}
 use Rattle.files.specs.declared.Verdict.the-variants.{Good}
 use Rattle.files.specs.declared.Reached.{Reached}
 use Rattle.files.specs.declared.Reached.the-variants as reached

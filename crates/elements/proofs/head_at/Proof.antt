@@ -50,12 +50,16 @@ from-type c = from-3 (c .before .before .before)
 refuse : (a : tie.Start) (n : ℕ) → n ≡ number a → (n ≡ 0 → ⊥) → HeadRead (a .args .dim) (a .args .depth) (a .args .under) (a .args .s .now) (a .args .at) (a .args .bound) (Bad n)
 refuse a = read-bad (a .args .dim) (a .args .depth) (a .args .under) (a .args .s .now) (a .args .at) (a .args .bound)
 
+-- two words stand before the bound
+roomy : (c : tie.Else2) → leb 2 (c .before .before .before .args .bound - c .before .before .before .args .at) ≡ true
+roomy c = le-leb 2 (c .before .before .before .args .bound - c .before .before .before .args .at) (omega (arith, c .if2 .left, c .before .if1 .left))
+
 -- where the two checks 3 passed, those after them decide
 decide : (c : tie.Else3) {n : ℕ} → n ≡ firstFault (flags (from-3 c) ++ rest (from-3 c)) → n ≡ number (from-3 c)
 unfolding faultOf
 decide c e =
     first (all (from-3 c))
-    (pass (le-leb _ _ (c .before .before .before .if2 .left))
+    (pass (roomy (c .before .before .before))
     (pass (simp (sym (c .before .word2 .ensures .is), le-leb _ _ (c .if3 .left)))
     (tail _ e)))
 
@@ -105,16 +109,16 @@ returns c =
     (first (all a) (stop (lt-leb 2 (a .args .bound - a .args .at) (omega arith))))
     (λ e. omega arith)
 
-sub-room : tie.Need-sub-room
-sub-room c = omega arith
-
 returns-2 : tie.Need-returns-2
 unfolding faultOf
 returns-2 c =
     let a = c .before .before .before in
     refuse a _
-    (first (all a) (stop (lt-leb _ _ (c .if2 .taken))))
+    (first (all a) (stop (lt-leb 2 (a .args .bound - a .args .at) (omega (arith, c .if2 .taken)))))
     (λ e. omega arith)
+
+sub-room : tie.Need-sub-room
+sub-room c = omega arith
 
 word-requires : tie.Need-word-requires
 word-requires c κs = tt
@@ -134,7 +138,7 @@ returns-3 c =
     let a = c .before .before .before .before .before .before in
     refuse a _
     (first (all a)
-    (pass (le-leb _ _ (c .before .before .before .if2 .left)) (stop (simp (sym (c .before .word2 .ensures .is), lt-leb _ _ (c .if3 .taken))))))
+    (pass (roomy (c .before .before .before)) (stop (simp (sym (c .before .word2 .ensures .is), lt-leb _ _ (c .if3 .taken))))))
     (λ e. omega arith)
 
 flag-fault-requires : tie.Need-flag-fault-requires
@@ -215,8 +219,8 @@ head-at-spec =
     tie.close
     (tie.spec
     returns
-    sub-room
     returns-2
+    sub-room
     word-requires
     add-word
     word-requires-2

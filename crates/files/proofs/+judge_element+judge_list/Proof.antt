@@ -13,7 +13,7 @@ use Rattle.files.proofs.+judge_element+judge_list.Lts-judge_element as 
 use Rattle.files.proofs.judge_list.Reads as judge-list
 use Rattle.files.proofs.judge_list.Kinds as judge-list-kinds
 use Rattle.files.proofs.+judge_element+judge_list.Lts-judge_list as judge-list-lts
-use Rattle.elements.proofs.count_ok.Reads as count-ok-reads
+use Rattle.files.proofs.count_ok.Reads as count-ok-reads
 use Rattle.elements.proofs.head_at.Reads as head-at-reads
 use Rattle.elements.proofs.type_at.Reads as type-at-reads
 use Rattle.files.proofs.closed.Reads as closed-reads
@@ -78,7 +78,7 @@ judge-element-enum-known-elements : (t : ℕ) → judge-element-lts.Need-enum-kn
 judge-element-enum-known-elements t c = search needs
 
 judge-element-count-ok-requires : (t : ℕ) → judge-element-lts.Need-count-ok-requires (element-calls t) (judge-element-at t) judge-element.Post
-judge-element-count-ok-requires t c κs = search needs
+judge-element-count-ok-requires t c κs = (c .before .before .before .before .before .type-at .ensures, omega arith)
 
 judge-element-add-t19 : (t : ℕ) → judge-element-lts.Need-add-t19 (element-calls t) (judge-element-at t) judge-element.Post
 judge-element-add-t19 t c = let l = ((c .before .before .before .before .before .closed .ensures) _ _ _ ((c .before .before .before .before .before .before .judge-list .ensures))) in omega (arith, rw ((c .before .before .before .elements .given .1)) at (l .within))
