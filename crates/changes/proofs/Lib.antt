@@ -1,5 +1,4 @@
 pub mod Steps
-pub mod Lengths
 pub mod Kept
 pub mod Found
 pub mod Made

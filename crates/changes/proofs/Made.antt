@@ -15,6 +15,7 @@ use Rattle.reading.specs.declared.Above.{Above}
 use Rattle.reading.specs.declared.Spotted.the-variants.{At}
 use Rattle.reading.specs.Descent.{locateOf}
 use Rattle.reading.proofs.Places.{spot-inside}
+use Rattle.edits.proofs.Lengths.{length-raise}
 use Rattle.edits.specs.Edits.{mark, rename, insert, remove, namePlace, around, downTo, extentIn, raise, apply}
 use Rattle.edits.specs.Allowed.{fine, orElse, unless, gapOk, pieceFault, roomFault, insertFault}
 use Rattle.edits.specs.Records.{removed, headerBy, recordOf}
@@ -31,7 +32,6 @@ use Rattle.faults.proofs.Opening.{AcceptedUsed}
 use Rattle.faults.proofs.Exact.{standing, found-is}
 use Rattle.changes.specs.Changes.{flagPut, namePut, totalsUnder, usedTotals, pieceIn, extentOut}
 use Rattle.changes.proofs.Steps.{piece-within, extent-within}
-use Rattle.changes.proofs.Lengths.{length-raise}
 use Rattle.changes.proofs.Kept.{below-under, flag-stored, name-stored, totals-stored}
 use Rattle.changes.proofs.Found.{gap-within, raised-under, Found, found-at, found-extent, lowered-under}
 

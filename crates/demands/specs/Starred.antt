@@ -1,14 +1,14 @@
--- The worked cases of document 01 that it marks with *, and its table of fixed parts, as one list. That all hold is one
--- statement of the page of demands.
+-- The worked cases of document 01 that it marks with *, its table of fixed parts and its rules of what may stand where, as
+-- one list. That all hold is one statement of the page of demands.
 use Prim.Native.Nat.{ℕ, suc, _+_, _*_, _-_}
 use mathlib.Core.List.{List, [], _∷_, _++_}
-use mathlib.Core.Bool.{Bool, true, false, _&&_}
+use mathlib.Core.Bool.{Bool, true, false, cond, _&&_}
 use lib.Dec.{eqb}
 use lib.IntN.{ℤ, pos, negsuc}
 use lib.ListN.{replicate}
 use Rattle.words.specs.Words.{words, bytes, longAt, signed}
 use Rattle.names.specs.Names.{packed, packedNumbers, unpacked, answerNumbers}
-use Rattle.kinds.specs.Kinds.{fixedPart}
+use Rattle.kinds.specs.Kinds.{fixedPart, mayStand}
 use Rattle.files.specs.Judge.{judgeOf, judgedNumbers}
 
 -- a worked case: the numbers that the definitions give, and the numbers of document 01
@@ -134,6 +134,41 @@ tableCases =
     case (fixedPart 3 19 0 ∷ judged2D (plain 0 19 21 2)) (21 ∷ 6 ∷ 0 ∷ []) ∷
     []
 
+-- which of the types 1, 2, 3, 7, 12, 17, 19 and 25 may stand in a 3D file under a header of a type (0: at the top), 1 for each
+abbrev pub standing : ℕ → ℕ → ℕ
+standing under kind = cond (mayStand 3 under kind) 1 0
+
+abbrev pub standsUnder : ℕ → List ℕ
+standsUnder under =
+    standing under 1
+    ∷ standing under 2
+    ∷ standing under 3
+    ∷ standing under 7
+    ∷ standing under 12
+    ∷ standing under 17
+    ∷ standing under 19
+    ∷ standing under 25
+    ∷ []
+
+-- type 1 stands only at the top; under 7 only 17; under 12, 14, 18 and 19 no header; 24, 27 and 87 nowhere; 18 and 19 in 3D;
+-- bits 6 and 7 of word 0 are not judged in type 9, in others 4 and 5
+abbrev pub placeCases : List Case
+placeCases =
+    case (standsUnder 0) (1 ∷ 1 ∷ 1 ∷ 1 ∷ 1 ∷ 1 ∷ 1 ∷ 1 ∷ []) ∷
+    case (standsUnder 1) (0 ∷ 1 ∷ 1 ∷ 1 ∷ 1 ∷ 1 ∷ 1 ∷ 1 ∷ []) ∷
+    case (standsUnder 2) (0 ∷ 1 ∷ 1 ∷ 1 ∷ 1 ∷ 1 ∷ 1 ∷ 1 ∷ []) ∷
+    case (standsUnder 7) (0 ∷ 0 ∷ 0 ∷ 0 ∷ 0 ∷ 1 ∷ 0 ∷ 0 ∷ []) ∷
+    case (standsUnder 12) (0 ∷ 0 ∷ 1 ∷ 0 ∷ 0 ∷ 1 ∷ 0 ∷ 1 ∷ []) ∷
+    case (standsUnder 14) (0 ∷ 0 ∷ 1 ∷ 0 ∷ 0 ∷ 1 ∷ 0 ∷ 1 ∷ []) ∷
+    case (standsUnder 18) (0 ∷ 0 ∷ 1 ∷ 0 ∷ 0 ∷ 1 ∷ 0 ∷ 1 ∷ []) ∷
+    case (standsUnder 19) (0 ∷ 0 ∷ 1 ∷ 0 ∷ 0 ∷ 1 ∷ 0 ∷ 1 ∷ []) ∷
+    case (standing 0 24 ∷ standing 0 27 ∷ standing 0 87 ∷ []) (0 ∷ 0 ∷ 0 ∷ []) ∷
+    case (judgedNumbers (judgeOf 3 (bytes (plain 0 18 21 2 ++ (65535 ∷ []))))) (0 ∷ 1 ∷ 0 ∷ 21 ∷ []) ∷
+    case (judged2D (2496 ∷ 0 ∷ [])) (0 ∷ 1 ∷ 0 ∷ 2 ∷ []) ∷
+    case (judged2D (1344 ∷ 0 ∷ [])) (4 ∷ 0 ∷ []) ∷
+    case (judged2D (1408 ∷ 0 ∷ [])) (5 ∷ 0 ∷ []) ∷
+    []
+
 -- the one list
 abbrev pub starred : List Case
-starred = longCases ++ nameCases ++ fileCases ++ lineCases ++ pointCases ++ cellCases ++ tableCases
+starred = longCases ++ nameCases ++ fileCases ++ lineCases ++ pointCases ++ cellCases ++ tableCases ++ placeCases

@@ -22,7 +22,8 @@ use Rattle.edits.proofs.Tests.{both-and, or-either, or-left, or-right}
 use Rattle.edits.proofs.OwnLaws.{own-two}
 use Rattle.edits.proofs.Ways.{Way, into, plug, direct, front, heads, headerOf, typeOver, depthOf, Heads, flat-plug, elem-of, heads-of}
 use Rattle.edits.proofs.Joined.{then, plug-then, front-then, heads-then, header-then, type-then, depth-then, Heads-then, Heads-after, direct-heads, direct-header, direct-type, direct-depth, direct-Heads, direct-rear, ending, plug-ending, front-ending, direct-ending, last-of}
-use Rattle.edits.proofs.Places.{spotOf, around-way, spot-way, Found, found-in}
+use Rattle.grammar.proofs.Places.{spotOf}
+use Rattle.edits.proofs.Places.{around-way, spot-way, Found, found-in}
 use Rattle.edits.proofs.Raised.{stands-way}
 
 ---- headers and spots by their tests

@@ -10,6 +10,7 @@ pub mod Ways
 pub mod Joined
 pub mod Places
 pub mod Raised
+pub mod Lengths
 pub mod Gaps
 pub mod Judging
 pub mod Reversed

@@ -13,16 +13,13 @@ use borrow.Author.Tests.{eqb-true, eqb-false, eq-eqb, ne-eqb, lt-ltb, le-ltb}
 use Rattle.elements.specs.Header.{typeAt}
 use Rattle.files.specs.Spots.{Spot, firstIf, spotIn}
 use Rattle.grammar.proofs.Forest.{Forest, nil, node, flat, weight, Wf, spots, length-node}
+use Rattle.grammar.proofs.Places.{spotOf, spot-else, spot-first}
 use Rattle.edits.specs.Edits.{keepIf, around}
 use Rattle.edits.proofs.OwnLaws.{own-two}
 use Rattle.edits.proofs.Ways.{Way, stop, past, into, plug, front, heads, headerOf, depthOf, flat-plug, elem-of}
 
 none-some : {x : Spot} → _≡_ {A = Option Spot} none (some x) → ⊥
 none-some e = let z : _≡_ {A = ℕ} 0 1 = cc in omega arith
-
--- an element of n words, with its extent, at a place
-abbrev pub spotOf : ℕ → ℕ → ℕ → Option ℕ → Spot
-spotOf p n depth header = record { place = p; end = p + n; depth = depth; header = header }
 
 ---- lists one after another
 
@@ -33,22 +30,6 @@ around-append (x ∷ xs) ys p = go (ltb (x .place) p && ltb p (x .end)) (around-
     go : (b : Bool) → around (xs ++ ys) p ≡ around xs p ++ around ys p → keepIf b (x .place) (around (xs ++ ys) p) ≡ keepIf b (x .place) (around xs p) ++ around ys p
     go true e = ap (λ l. x .place ∷ l) e
     go false e = e
-
-spot-else : (xs ys : List Spot) (p : ℕ) → spotIn xs p ≡ none → spotIn (xs ++ ys) p ≡ spotIn ys p
-spot-else [] ys p e = refl
-spot-else (x ∷ xs) ys p e = go (eqb (x .place) p) e (spot-else xs ys p)
-  where
-    go : (b : Bool) → firstIf b x (spotIn xs p) ≡ none → (spotIn xs p ≡ none → spotIn (xs ++ ys) p ≡ spotIn ys p) → firstIf b x (spotIn (xs ++ ys) p) ≡ spotIn ys p
-    go true e k = absurd (none-some (sym e))
-    go false e k = k e
-
-spot-first : (xs ys : List Spot) (p : ℕ) (y : Spot) → spotIn xs p ≡ some y → spotIn (xs ++ ys) p ≡ some y
-spot-first [] ys p y e = absurd (none-some e)
-spot-first (x ∷ xs) ys p y e = go (eqb (x .place) p) e (spot-first xs ys p y)
-  where
-    go : (b : Bool) → firstIf b x (spotIn xs p) ≡ some y → (spotIn xs p ≡ some y → spotIn (xs ++ ys) p ≡ some y) → firstIf b x (spotIn (xs ++ ys) p) ≡ some y
-    go true e k = e
-    go false e k = k e
 
 ---- one element and those after it
 

@@ -20,7 +20,8 @@ use Rattle.edits.proofs.Tests.{both-and}
 use Rattle.edits.proofs.Bounds.{below-append}
 use Rattle.edits.proofs.Parts.{below-left, below-right, read-in, read-first}
 use Rattle.edits.proofs.Ways.{Way, stop, past, into, plug, front, rear, headerOf, depthOf, typeOver, elem-of, wf-swap}
-use Rattle.edits.proofs.Places.{spotOf, spot-way, inside, found-in}
+use Rattle.grammar.proofs.Places.{spotOf}
+use Rattle.edits.proofs.Places.{spot-way, inside, found-in}
 use Rattle.edits.proofs.Raised.{words-of}
 use Rattle.edits.proofs.Gaps.{starts, file-long}
 use Rattle.edits.proofs.Judging.{tree-spots}

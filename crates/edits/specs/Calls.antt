@@ -75,7 +75,7 @@ sessionFault dim s =
     orElse (unless (sessionOk dim s) 1)
     (fileFault (topOf dim (usedWords (s .file) (s .used))) (length (usedWords (s .file) (s .used)) - 1))
 
--- the refusal of a call before it looks at its arguments: 1 also for its piece
+-- the refusal of a call before its other arguments count: 1 for a piece that may not be lent, then the session's
 unfoldable pub openFault : ℕ → Session → Call → Fault?
 openFault dim s c = orElse (unless (pieceOk c) 1) (sessionFault dim s)
 

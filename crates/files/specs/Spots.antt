@@ -1,5 +1,5 @@
--- The elements of a file in file order: one list, over which the element count, the views, the finder and the listing
--- are stated.
+-- The elements of a file in file order: one list, over which the views, the finder and the listing are stated, and whose
+-- length is the element count.
 use Prim.Native.Nat.{ℕ, zero, suc, _+_, max}
 use mathlib.Core.List.{List, [], _∷_, _++_}
 use mathlib.Core.Bool.{Bool, true, false}

@@ -50,7 +50,7 @@ fn fitting_words(s: &[u8], at: usize, end: usize) -> usize
     n
 }
 
-// Whether linkages fill the words from the place `at` to the place `end` exactly. At most end - at turns.
+// Whether linkages fill the words from the place `at` to the place `end` exactly.
 pub fn linkages_fill(s: &[u8], at: usize, end: usize) -> bool
     ensures { λ r. ⌜ r ≡ linkagesFill (words (now (s .entry))) at end ⌝ }
 {

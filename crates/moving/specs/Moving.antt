@@ -5,7 +5,7 @@ use Rattle.reading.specs.declared.Above.{Above}
 use Rattle.reading.specs.declared.Spotted.the-variants.{At}
 use Rattle.steps.specs.Steps.{Open}
 
--- an element starts at a place of it, its extent ends at `end`, and it stands directly under `above`
+-- in an open session's file an element starts at the place, its extent ends at `end`, and it stands directly under `above`
 pub record Stands (dim : ℕ) (file : List ℕ) (used : ℕ) (journal : List ℕ) (jused p end : ℕ) (above : Above) : Type 0 where
   pub depth : ℕ
   pub opened : Open dim file used journal jused p (At end depth above)

@@ -1,5 +1,6 @@
 -- What a call of a session owes (document 01, "Editing"): it is one step of edits' definition of a session, of which
--- demand 3 is proved. What follows serves the contracts of private functions: an open session, and header places.
+-- demand 3 is proved. After that stand an open session, which serves the contracts of private functions, and header
+-- places as numbers.
 use Prim.Native.Nat.{ℕ, _-_}
 use mathlib.Core.Path.{_≡_}
 use mathlib.Core.List.{List}

@@ -17,7 +17,8 @@ use Rattle.edits.specs.Edits.{around, downTo}
 use Rattle.edits.specs.Allowed.{startsAt, under?, endsAt, gapOk}
 use Rattle.edits.proofs.Accepted.{Accepted}
 use Rattle.edits.proofs.Ways.{Way, plug, front, heads, headerOf, depthOf, elem-of, heads-of}
-use Rattle.edits.proofs.Places.{spotOf, inside, around-way, spot-way, found-in}
+use Rattle.grammar.proofs.Places.{spotOf}
+use Rattle.edits.proofs.Places.{inside, around-way, spot-way, found-in}
 use Rattle.edits.proofs.Raised.{stands-way}
 use Rattle.edits.proofs.Gaps.{starts, file-stands, file-long, above-way}
 use Rattle.edits.proofs.Judging.{tree-spots}

@@ -2,30 +2,29 @@
 -- header at the place, and the piece's words there. And the bytes of an accepted file's words are an accepted file.
 use Prim.Native.Nat.{ℕ, _+_, _-_, _*_, _%_, _≤_}
 use mathlib.Core.Path.{_≡_, refl, ap, _∙_, subst}
-use mathlib.Core.Bool.{Bool, true, false, _&&_, _||_}
-use mathlib.Core.List.{List, [], _∷_, _++_}
+use mathlib.Core.Bool.{true, _||_}
+use mathlib.Core.List.{List, _++_}
 use mathlib.Core.Option.{Option, some}
 use native.Mathlib.Omega.{arith}
-use lib.ListN.{length, take, drop, set, length-append, length-drop, length-set}
+use lib.ListN.{length, take, drop, length-append, length-drop}
 use lib.Seq.{length-take-le}
 use lib.Dec.{eqb}
 use borrow.Author.Tests.{eq-eqb, le-leb}
-use Rattle.words.specs.Words.{words, bytes, Below, wordAt}
+use Rattle.words.specs.Words.{words, bytes, Below}
 use Rattle.words.proofs.Laws.{length-bytes, words-bytes, words-below}
-use Rattle.elements.specs.Header.{typeAt}
-use Rattle.kinds.specs.Kinds.{isCounted}
 use Rattle.files.specs.Judge.{callOk, judgeOf}
 use Rattle.files.specs.Spots.{Spot, spotsOf, spotIn}
 use Rattle.grammar.proofs.Forest.{flat}
 use Rattle.grammar.proofs.Stands.{Stands, stands-append}
 use Rattle.grammar.proofs.Whole.{file-top}
 use Rattle.grammar.proofs.Exact.{accepted-is}
-use Rattle.edits.specs.Edits.{insert, apply, downTo, moved, countMoved, corrected, raise, splice}
+use Rattle.edits.specs.Edits.{insert, apply, downTo, raise, splice}
 use Rattle.edits.specs.Allowed.{fine, gapOk, under?, editFault}
 use Rattle.edits.specs.Records.{recordOf, reversible}
 use Rattle.edits.proofs.Accepted.{Accepted}
 use Rattle.edits.proofs.Bounds.{bytes-below}
 use Rattle.edits.proofs.Ways.{front, rear, flat-plug}
+use Rattle.edits.proofs.Lengths.{length-raise}
 use Rattle.edits.proofs.Gaps.{under-starts, file-long, gap-found}
 use Rattle.edits.proofs.Judging.{tree-spots, judged-tree, tree-judged}
 use Rattle.edits.proofs.Sound.{sound}
@@ -60,19 +59,6 @@ accepted-bytes dim ws d l a =
     }
 
 ---- an insert
-
--- correcting headers keeps the length
-length-corrected : (up : Bool) (n : ℕ) (direct : Bool) (q : ℕ) (ws : List ℕ) → length (corrected up n direct q ws) ≡ length ws
-unfolding corrected
-length-corrected up n direct q ws = go (direct && isCounted (typeAt ws q))
-  where
-    go : (b : Bool) → length (countMoved b up q (set ws (q + 18) (moved up n (wordAt ws (q + 18))))) ≡ length ws
-    go true = length-set (set ws (q + 18) _) (q + 19) _ ∙ length-set ws (q + 18) _
-    go false = length-set ws (q + 18) _
-
-length-raise : (up : Bool) (n : ℕ) (qs ws : List ℕ) → length (raise up n qs ws) ≡ length ws
-length-raise up n [] ws = refl
-length-raise up n (q ∷ qs) ws = length-raise up n qs (corrected up n _ q ws) ∙ length-corrected up n _ q ws
 
 -- a place where an element may go in is in the file
 gap-inside : (dim : ℕ) (ws : List ℕ) (h : Option ℕ) (p : ℕ) → Accepted dim ws → gapOk (spotsOf dim ws) ws h p ≡ true → p ≤ length ws
