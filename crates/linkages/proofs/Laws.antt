@@ -1,8 +1,8 @@
 -- Laws of the words of one linkage, and of a fill and a walk one linkage at a time, for every fuel that is enough.
 use Prim.Native.Nat.{ℕ, zero, suc, _+_, _-_, _/_, _%_, _≤_, _<_}
-use mathlib.Core.Path.{_≡_, refl, sym, _∙_}
+use mathlib.Core.Path.{_≡_, refl, sym, ap, _∙_}
 use mathlib.Core.Logic.{_⊎_, inl, inr}
-use mathlib.Core.Bool.{Bool, true, false, and-eq-true-iff}
+use mathlib.Core.Bool.{Bool, true, false, cond, _||_, and-eq-true-iff}
 use mathlib.Core.List.{List}
 use native.Mathlib.Omega.{arith}
 use native.Mathlib.Numerals.{sub-one}
@@ -42,6 +42,16 @@ words-other w (inr e) = rw e refl
 pub words-none : (w : ℕ) → (w / 4096 % 2 ≡ 1 → ⊥) → (w ≡ 0 → ⊥) → (w ≡ 32768 → ⊥) → linkageWords w ≡ 0
 unfolding linkageWords
 words-none w u a b = rw (ne-eqb _ _ u, ne-eqb _ _ a, ne-eqb _ _ b)
+
+-- by what both kinds would have
+pub words-picked : (w : ℕ) {user last other : ℕ} → user ≡ cond (eqb (w % 256) 0) 0 (1 + w % 256) → last ≡ cond (eqb w 32768) 4 0 → other ≡ cond (eqb w 0) 4 last →
+    cond (eqb (w / 4096 % 2) 1) user other ≡ linkageWords w
+unfolding linkageWords
+words-picked w e f g = rw (e, g, f) (ap (λ m. cond (eqb (w / 4096 % 2) 1) (cond (eqb (w % 256) 0) 0 (1 + w % 256)) m) (go (eqb w 0)))
+  where
+    go : (b : Bool) → _≡_ {A = ℕ} (cond b 4 (cond (eqb w 32768) 4 0)) (cond (b || eqb w 32768) 4 0)
+    go true = refl
+    go false = refl
 
 -- a user linkage has a second word
 pub words-two : (w : ℕ) → isUser w ≡ true → 1 ≤ linkageWords w → 2 ≤ linkageWords w

@@ -16,24 +16,15 @@ pub enum Linkage {
     Nothing,
 }
 
-// The words of a linkage by its first word, 0 where that is no linkage's.
+// The words of a linkage by its first word, 0 where that is no linkage's. Both kinds are worked out and one is picked: which
+// one it is alternates.
 pub fn linkage_words(w: usize) -> usize
     ensures { λ r. ⌜ r ≡ linkageWords w ⌝ }
 {
-    if w / 4096 % 2 == 1 {
-        let follow = w % 256;
-        if follow == 0 {
-            return 0;
-        }
-        return 1 + follow;
-    }
-    if w == 0 {
-        return 4;
-    }
-    if w == 32768 {
-        return 4;
-    }
-    0
+    let follow = w % 256;
+    let user = kinds::pick(follow == 0, 0, 1 + follow);
+    let other = kinds::pick(w == 0, 4, kinds::pick(w == 32768, 4, 0));
+    kinds::pick(w / 4096 % 2 == 1, user, other)
 }
 
 // The words of the linkage that starts at the place `at` and ends by `end`, 0 where none does.

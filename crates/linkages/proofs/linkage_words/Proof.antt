@@ -1,29 +1,29 @@
--- Each way out has its law: the tests that lead to it give the words of the linkage.
-use mathlib.Core.Path.{sym}
-use mathlib.Core.Logic.{inl, inr}
+-- What is picked is what the definition names.
+use mathlib.Core.Path.{_∙_}
+use Rattle.linkages.proofs.Laws.{words-picked}
 use borrow.Author.Needs.{needs}
-use Rattle.linkages.proofs.Laws.{words-user, words-bare, words-other, words-none}
 use Rattle.linkages.proofs.linkage_words.Statement.{statement}
 use Rattle.linkages.proofs.linkage_words.Tie as tie
 
+add-pick : tie.Need-add-pick
+add-pick c = search needs
+
+pick-requires : tie.Need-pick-requires
+pick-requires c κs = search needs
+
+pick-requires-2 : tie.Need-pick-requires-2
+pick-requires-2 c κs = search needs
+
+pick-requires-3 : tie.Need-pick-requires-3
+pick-requires-3 c κs = search needs
+
+pick-requires-4 : tie.Need-pick-requires-4
+pick-requires-4 c κs = search needs
+
 returns : tie.Need-returns
-returns c = sym (words-bare _ (c .before .if1 .taken) (c .if2 .taken))
-
-add-result : tie.Need-add-result
-add-result c = search needs
-
-returns-2 : tie.Need-returns-2
-returns-2 c = sym (words-user _ (c .before .if1 .taken) (c .if2 .left))
-
-returns-3 : tie.Need-returns-3
-returns-3 c = sym (words-other _ (inl (c .if3 .taken)))
-
-returns-4 : tie.Need-returns-4
-returns-4 c = sym (words-other _ (inr (c .if4 .taken)))
-
-returns-5 : tie.Need-returns-5
-returns-5 c = sym (words-none _ (c .before .before .if1 .left) (c .before .if3 .left) (c .if4 .left))
+returns c = (c .pick4 .ensures) ∙ words-picked _ (c .before .before .before .pick .ensures) (c .before .before .pick2 .ensures) (c .before .pick3 .ensures)
 
 pub linkage-words-spec : {M : Type 1} → statement M
 linkage-words-spec =
-    tie.close (tie.spec returns add-result returns-2 returns-3 returns-4 returns-5)
+    tie.close
+    (tie.spec add-pick pick-requires pick-requires-2 pick-requires-3 pick-requires-4 returns)
