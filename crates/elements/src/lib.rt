@@ -230,6 +230,10 @@ fn header_fault(
     if !kinds::may_stand(dim, under, t) {
         return 6;
     }
+    // no header is shorter; the compiler drops the tests of the reads that this answers
+    if size < 20 {
+        return 7;
+    }
     let fixed = kinds::fixed_part(dim, t, 0);
     if size < fixed {
         return 7;

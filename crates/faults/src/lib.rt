@@ -282,7 +282,7 @@ fn piece_fault(piece: &[u8], depth: usize, under: usize, dim: usize) -> Fault
     ensures { λ r. ⌜ r ≡ answerOf (pieceRefusal dim depth under (words (now (piece .entry)))) ⌝ }
 {
     let size = piece.len() / 2;
-    match files::element(piece, 0, size, depth, under, dim) {
+    match files::element(piece, 0, depth, under, dim) {
         files::Verdict::Fault { number, place } => Fault::At { number, place },
         files::Verdict::Good {
             next,

@@ -4,8 +4,8 @@ use mathlib.Core.Path.{_≡_, refl, sym, _∙_, subst}
 use mathlib.Core.Bool.{Bool, true, false, cond, _&&_, _||_, false≢true}
 use mathlib.Core.List.{List}
 use native.Mathlib.Omega.{arith}
-use lib.Dec.{eqb, ltb}
-use borrow.Author.Tests.{leb-true, eqb-true, ne-eqb, lt-ltb, le-ltb}
+use lib.Dec.{eqb, ltb, leb}
+use borrow.Author.Tests.{leb-true, eqb-true, ne-eqb, le-leb, lt-ltb, le-ltb}
 use Rattle.words.specs.Words.{words, wordAt}
 use Rattle.elements.specs.Header.{typeAt}
 use Rattle.kinds.specs.Kinds.{isHeader}
@@ -103,6 +103,10 @@ module _ (ws : List ℕ) (until : ℕ) (each : Bool) (at next : ℕ) where
   header-stops h e q = rw (h, and-yes each) (sym e ∙ q)
 
 ---- the loop
+
+-- the smaller of the bound and a number not below it
+pub as-bound : {bound last n : ℕ} → last ≡ cond (leb bound n) bound n → bound ≤ n → last ≡ bound
+as-bound {bound} {last} {n} e h = rw (le-leb bound n h) at e
 
 steps-on : (dim depth under : ℕ) (ws : List ℕ) (bound until : ℕ) (each : Bool) (k at here next e d : ℕ) → Steps dim depth under ws bound until each k at here →
     GoodAt dim depth under ws bound here next e d → stopsAfter ws until each here next ≡ false → Steps dim depth under ws bound until each (suc k) at next

@@ -8,7 +8,7 @@ use native.Mathlib.Omega.{arith}
 use native.Mathlib.Nat.{add-assoc, add-zero, zero-add, max-zero, zero-max}
 use lib.ListN.{length}
 use lib.Dec.{ltb, eqb}
-use borrow.Author.Tests.{ltb-true}
+use borrow.Author.Tests.{ltb-true, le-ltb, ne-eqb}
 use Rattle.words.specs.Words.{words, wordAt}
 use Rattle.words.proofs.Laws.{length-words}
 use Rattle.elements.specs.Header.{typeAt}
@@ -21,7 +21,7 @@ use Rattle.files.specs.declared.Verdict.{Verdict}
 use Rattle.files.specs.declared.Verdict.the-variants.{Good, Fault}
 use Rattle.files.specs.declared.Judged.the-variants.{Refused}
 use Rattle.files.specs.Judge.{stopOf, addTo, andThen, enclose, elementBy, listBy, elementFrom, listFrom, elementOf, topOf, callOk, answer, judgeOf}
-use Rattle.files.specs.Progress.{IsElement, IsList, Passed}
+use Rattle.files.specs.Progress.{IsElement, IsList, ListJudged, Passed}
 
 ---- an element, by its head
 
@@ -125,6 +125,15 @@ add-to-zero (Fault n p) = refl
 add-to-twice : (e d k e' d' k' : ℕ) (r : Verdict) → addTo (e + e') (max d d') (k + k') r ≡ addTo e d k (addTo e' d' k' r)
 add-to-twice e d k e' d' k' (Good next a b c) = simp (add-assoc, max-assoc)
 add-to-twice e d k e' d' k' (Fault n p) = refl
+
+-- a header without components: its list ends where it begins
+pub list-none : (dim depth under : ℕ) (s : List ℕ) {inner end : ℕ} → inner ≡ end → ListJudged dim (depth + 1) under s inner end (Good end 0 0 0)
+unfolding stopOf
+list-none dim depth under s {inner} {end} e =
+    rw e (record {
+      is = list-done dim (depth + 1) under (words s) end end (rw (le-ltb end end (omega arith), ne-eqb (depth + 1) 0 (λ z. absurd (omega arith))) refl);
+      within = omega arith;
+    })
 
 pub passed-none : (dim depth under : ℕ) (ws : List ℕ) (at bound : ℕ) → Passed dim depth under ws at at bound 0 0 0
 passed-none dim depth under ws at bound r l n lt = add-to-zero r ∙ l n lt

@@ -2,9 +2,10 @@
 // of one list are a loop, so that the depth of calls is that of nesting. The rules of one element's own words are
 // elements::head_at. Definitions: specs/Judge, specs/Reach; the inner contracts of the two are in specs/Progress.
 ghost use mathlib.Core.Path.{_≡_};
-ghost use mathlib.Core.Bool.{false, _||_};
-ghost use Prim.Native.Nat.{ℕ, _+_, _≤_, _<_, _^_, max};
-ghost use lib.Dec.{ltb};
+ghost use mathlib.Core.Bool.{false, cond, _||_};
+ghost use Prim.Native.Nat.{ℕ, _+_, _/_, _≤_, _<_, _^_, max};
+ghost use lib.ListN.{length};
+ghost use lib.Dec.{ltb, leb};
 ghost use Rattle.words.specs.Words.{words};
 ghost use Rattle.elements.specs.Header.{typeAt};
 ghost use Rattle.elements.specs.Rules.{countOk, HeadRead};
@@ -53,6 +54,13 @@ fn larger(a: usize, b: usize) -> usize
     ensures { λ r. ⌜ r ≡ max a b ⌝ }
 {
     if a <= b { b } else { a }
+}
+
+// The smaller of two numbers.
+fn smaller(a: usize, b: usize) -> usize
+    ensures { λ r. ⌜ r ≡ cond (leb a b) a b ⌝ }
+{
+    if a <= b { a } else { b }
 }
 
 // Whether judging stops after a header that ends at a place.
@@ -185,12 +193,27 @@ fn count_ok(s: &[u8], at: usize, t: usize, direct: usize) -> bool
     true
 }
 
-// An element that its own words are read as a header: its components, a list of their own, then its count.
+// An element whose own words are read as a header: its components, a list of their own, then its count. Most headers have
+// components; one that has none needs no list.
 fn judge_element(s: &[u8], at: usize, inner: usize, end: usize, depth: usize, dim: usize) -> Verdict
-    requires { ⌜ (at + 20 ≤ inner) × ((inner ≤ end) × (depth ≤ 8)) ⌝ }
+    requires { ⌜ (at + 20 ≤ inner) × ((inner ≤ end) × ((depth ≤ 8) × (end ≤ length (now s) / 2))) ⌝ }
     ensures { λ r. ⌜ ((under bound : ℕ) → HeadRead dim depth under (now (s .entry)) at bound (Complex inner end) → ElementJudged dim depth under (now (s .entry)) at bound r) ⌝ }
 {
     let t = elements::type_at(s, at);
+    if inner == end {
+        if count_ok(s, at, t, 0) {
+            return Verdict::Good {
+                next: end,
+                elements: 1,
+                deepest: depth,
+                direct: 1,
+            };
+        }
+        return Verdict::Fault {
+            number: 9,
+            place: at,
+        };
+    }
     let components = judge_list(s, inner, end, depth + 1, t, dim, end, false);
     match closed(s, end, depth + 1, components) {
         Verdict::Fault { number, place } => Verdict::Fault { number, place },
@@ -218,7 +241,8 @@ fn judge_element(s: &[u8], at: usize, inner: usize, end: usize, depth: usize, di
 }
 
 // The elements of a list in order, up to and with the first that ends after `until`, or where `each` holds is a header. No
-// head stands at the marker or at the list's bound, so what stands there is asked only where there is none.
+// head stands at the marker or at the list's bound, so what stands there is asked only where there is none. The bound lies in
+// the slice; taking the smaller of it and the slice's end lets the compiler drop the tests of reads before it.
 fn judge_list(
     s: &[u8],
     at: usize,
@@ -229,14 +253,16 @@ fn judge_list(
     until: usize,
     each: bool,
 ) -> Progress
+    requires { ⌜ bound ≤ length (now s) / 2 ⌝ }
     ensures { λ r. ⌜ Progressed dim depth under (now (s .entry)) at bound until each r ⌝ }
 {
+    let last = smaller(bound, s.len() / 2);
     let mut here = at;
     let mut below: usize = 0;
     let mut deepest: usize = 0;
     let mut direct: usize = 0;
     loop {
-        match elements::head_at(s, here, bound, depth, under, dim) {
+        match elements::head_at(s, here, last, depth, under, dim) {
             elements::Head::Bad { number } => {
                 let d = depth_of(direct, depth, deepest);
                 return Progress::Halted {
@@ -295,16 +321,19 @@ fn judge_list(
 
 // The elements of one list in order, to its end or to the first fault.
 fn judge_all(s: &[u8], at: usize, bound: usize, depth: usize, under: usize, dim: usize) -> Verdict
+    requires { ⌜ bound ≤ length (now s) / 2 ⌝ }
     ensures { λ r. ⌜ ListJudged dim depth under (now (s .entry)) at bound r ⌝ }
 {
     let progress = judge_list(s, at, bound, depth, under, dim, bound, false);
     closed(s, bound, depth, progress)
 }
 
-// The elements at the top from a place on, to the first that ends after `until`, or where `each` holds is a header.
-pub fn reach(s: &[u8], at: usize, bound: usize, dim: usize, until: usize, each: bool) -> Reached
-    ensures { λ r. ⌜ r ≡ reachedOf dim (words (now (s .entry))) at bound until each ⌝ }
+// The elements at the top from a place on, to the first that ends after `until`, or where `each` holds is a header. The slice's
+// end is their bound.
+pub fn reach(s: &[u8], at: usize, dim: usize, until: usize, each: bool) -> Reached
+    ensures { λ r. ⌜ r ≡ reachedOf dim (words (now (s .entry))) at (length (now (s .entry)) / 2) until each ⌝ }
 {
+    let bound = s.len() / 2;
     match judge_list(s, at, bound, 0, 0, dim, until, each) {
         Progress::Stopped {
             next,
@@ -335,10 +364,11 @@ pub fn reach(s: &[u8], at: usize, bound: usize, dim: usize, until: usize, each: 
     }
 }
 
-// The element with its extent that starts at a place, by its bound.
-pub fn element(s: &[u8], at: usize, bound: usize, depth: usize, under: usize, dim: usize) -> Verdict
-    ensures { λ r. ⌜ r ≡ elementOf dim depth under (words (now (s .entry))) at bound ⌝ }
+// The element with its extent that starts at a place, with the slice's end as its bound.
+pub fn element(s: &[u8], at: usize, depth: usize, under: usize, dim: usize) -> Verdict
+    ensures { λ r. ⌜ r ≡ elementOf dim depth under (words (now (s .entry))) at (length (now (s .entry)) / 2) ⌝ }
 {
+    let bound = s.len() / 2;
     match judge_list(s, at, bound, depth, under, dim, at, false) {
         Progress::Stopped {
             next,

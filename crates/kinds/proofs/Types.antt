@@ -7,8 +7,8 @@ use mathlib.Core.Bool.{Bool, true, false, cond, not, _&&_, _||_, false≢true, o
 use native.Mathlib.Omega.{arith}
 use borrow.Author.Tests.{ne-eqb, eqb-true}
 use types.Run.{OneOf}
-use lib.Dec.{eqb}
-use Rattle.kinds.specs.Kinds.{oneOf, isHeader, isPointed, isLinked, isUnread, fixedPart, underOk, mayStand}
+use lib.Dec.{eqb, ltb}
+use Rattle.kinds.specs.Kinds.{oneOf, isHeader, isCounted, isPointed, isLinked, isUnread, fixedPart, mayStand}
 
 -- a property of each number of a list
 abbrev pub Each : (ℕ → Type 0) → List ℕ → Type 0
@@ -84,22 +84,6 @@ pub fixed-any : (dim t m n : ℕ) → isPointed t ≡ false → fixedPart dim t 
 unfolding fixedPart
 fixed-any dim t m n e = rw e
 
--- under 7 the test for type 17 is enough: type 17 is not type 1
-pub only-text : (t : ℕ) → eqb t 17 ≡ underOk 7 t
-only-text t = go (eqb t 17) refl
-  where
-    go : (b : Bool) → eqb t 17 ≡ b → b ≡ (not (eqb t 1 && true) && (not (not b) && true))
-    go true e = rw (eqb-true t 17 e)
-    go false e = simp and-false
-
--- where no header may stand the test for headers is enough: type 1 is one
-no-header-by : (b c : Bool) → not (b || c) ≡ (not (b && true) && not (b || c))
-no-header-by true c = refl
-no-header-by false c = refl
-
-pub no-header : (t : ℕ) → not (isHeader t) ≡ (not (eqb t 1 && true) && not (isHeader t))
-no-header t = no-header-by (eqb t 1) (oneOf (2 ∷ 7 ∷ 12 ∷ 14 ∷ 18 ∷ 19 ∷ []) t)
-
 ---- the three kinds of types: headers, other known types, raw types
 
 -- a type that a list does not name is none of its types
@@ -118,7 +102,7 @@ under-seven true true = refl
 under-seven true false = refl
 under-seven false t = refl
 
-stands : (dim under t : ℕ) → isHeader t ≡ false → mayStand dim under t ≡ (not (isUnread t) && (not (eqb under 7) || eqb t 17))
+pub stands : (dim under t : ℕ) → isHeader t ≡ false → mayStand dim under t ≡ (not (isUnread t) && (not (eqb under 7) || eqb t 17))
 unfolding mayStand
 stands dim under t h =
     simp (
@@ -196,3 +180,35 @@ pub header-linked : (t : ℕ) → isHeader t ≡ true → eqb t 1 ≡ false → 
 header-linked t =
     each-named (λ (t : ℕ). eqb t 1 ≡ false → isLinked t ≡ true) (1 ∷ 2 ∷ 7 ∷ 12 ∷ 14 ∷ 18 ∷ 19 ∷ []) t
     (other, (λ e. refl, (λ e. refl, (λ e. refl, (λ e. refl, (λ e. refl, (λ e. refl, tt)))))))
+
+-- a header is read but for 18 and 19 in a 2D file; type 1 stands only at the top, and no header under one with a count
+neither : (a b : Bool) → (not a && not b) ≡ not (a || b)
+neither true b = refl
+neither false b = refl
+
+pub twice : (b : Bool) → not (not b) ≡ b
+twice true = refl
+twice false = refl
+
+header-read : (t : ℕ) → isHeader t ≡ true → (isUnread t ≡ false) × (eqb t 17 ≡ false)
+header-read t = each-named (λ (t : ℕ). (isUnread t ≡ false) × (eqb t 17 ≡ false)) (1 ∷ 2 ∷ 7 ∷ 12 ∷ 14 ∷ 18 ∷ 19 ∷ []) t ((refl, refl), ((refl, refl), ((refl, refl), ((refl, refl), ((refl, refl), ((refl, refl), ((refl, refl), tt)))))))
+
+pub stands-header : (dim under t : ℕ) → isHeader t ≡ true → mayStand dim under t ≡ (not (eqb dim 2 && oneOf (18 ∷ 19 ∷ []) t) && (not (eqb t 1 && not (eqb under 0)) && not (isCounted under)))
+unfolding mayStand
+stands-header dim under t h =
+    simp (
+      header-read t h .0,
+      header-read t h .1,
+      h,
+      and-true,
+      neither (eqb under 7) (oneOf (12 ∷ 14 ∷ 18 ∷ 19 ∷ []) under),
+    )
+
+-- of the headers 18 and 19 are the types above 17
+pub header-solid : (t : ℕ) → isHeader t ≡ true → oneOf (18 ∷ 19 ∷ []) t ≡ ltb 17 t
+header-solid t = each-named (λ (t : ℕ). oneOf (18 ∷ 19 ∷ []) t ≡ ltb 17 t) (1 ∷ 2 ∷ 7 ∷ 12 ∷ 14 ∷ 18 ∷ 19 ∷ []) t (refl, (refl, (refl, (refl, (refl, (refl, (refl, tt)))))))
+
+-- the fixed part of a header, by tests that order the types
+pub header-fixed : (dim t : ℕ) → isHeader t ≡ true → cond (ltb t 12) (cond (eqb t 1) 35 (cond (eqb t 2) (cond (eqb dim 2) 46 62) (cond (eqb dim 2) 35 43))) (cond (ltb t 18) 20 21) ≡ fixedPart dim t 0
+unfolding fixedPart
+header-fixed dim t = each-named (λ (t : ℕ). cond (ltb t 12) (cond (eqb t 1) 35 (cond (eqb t 2) (cond (eqb dim 2) 46 62) (cond (eqb dim 2) 35 43))) (cond (ltb t 18) 20 21) ≡ fixedPart dim t 0) (1 ∷ 2 ∷ 7 ∷ 12 ∷ 14 ∷ 18 ∷ 19 ∷ []) t (refl, (refl, (refl, (refl, (refl, (refl, (refl, tt)))))))

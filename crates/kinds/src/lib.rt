@@ -1,9 +1,9 @@
 // The types of elements: which are headers, which have a count, points or attributes, how long their fixed parts are,
 // and where they may stand. The definitions are in specs/: FirstWord (where the type stands), Kinds (the types).
 ghost use mathlib.Core.Path.{_≡_};
-ghost use mathlib.Core.Bool.{cond};
+ghost use mathlib.Core.Bool.{true, cond};
 ghost use Rattle.kinds.specs.FirstWord.{typeOf};
-ghost use Rattle.kinds.specs.Kinds.{isHeader, isCounted, isPointed, isLinked, isUnread, isRead, fixedPart, underOk, mayStand};
+ghost use Rattle.kinds.specs.Kinds.{isHeader, isCounted, isPointed, isLinked, isUnread, fixedPart, mayStand};
 
 // The type in word 0.
 pub fn type_of(w: usize) -> usize
@@ -73,58 +73,62 @@ pub fn pick(first: bool, a: usize, b: usize) -> usize
     if first { a } else { b }
 }
 
+// The fixed part of a header. All are worked out and one is picked: which type it is alternates.
+fn header_part(dim: usize, t: usize) -> usize
+    requires { ⌜ isHeader t ≡ true ⌝ }
+    ensures { λ r. ⌜ r ≡ fixedPart dim t 0 ⌝ }
+{
+    let cell = pick(dim == 2, 46, 62);
+    let node = pick(dim == 2, 35, 43);
+    let early = pick(t == 1, 35, pick(t == 2, cell, node));
+    pick(t < 12, early, pick(t < 18, 20, 21))
+}
+
 // The fixed part of a type, in words, with N points where the type has points.
 pub fn fixed_part(dim: usize, t: usize, n: u16) -> usize
     ensures { λ r. ⌜ r ≡ fixedPart dim t n ⌝ }
 {
+    if is_header(t) {
+        return header_part(dim, t);
+    }
     let n = n as usize;
     match t {
-        1 => 35,
-        2 => pick(dim == 2, 46, 62),
         3 => pick(dim == 2, 26, 30),
         4 | 6 | 11 | 21 => pick(dim == 2, 19 + 4 * n, 19 + 6 * n),
-        7 => pick(dim == 2, 35, 43),
-        12 | 14 => 20,
         17 => 18,
-        18 => 21,
-        19 => 21,
         _ => 2,
     }
 }
 
-// The types that are read.
-fn is_read(dim: usize, t: usize) -> bool
-    ensures { λ r. ⌜ r ≡ isRead dim t ⌝ }
+// Whether a header may stand under a header of type `under` (0 at the top), and is read.
+fn header_stands(dim: usize, under: usize, t: usize) -> bool
+    requires { ⌜ isHeader t ≡ true ⌝ }
+    ensures { λ r. ⌜ r ≡ mayStand dim under t ⌝ }
 {
-    if is_unread(t) {
+    if is_counted(under) {
         return false;
     }
-    match t {
-        18 => dim != 2,
-        19 => dim != 2,
-        _ => true,
+    if t == 1 {
+        return under == 0;
     }
-}
-
-// What may stand under a header of type `under`, 0 at the top.
-fn under_ok(under: usize, t: usize) -> bool
-    ensures { λ r. ⌜ r ≡ underOk under t ⌝ }
-{
-    match under {
-        0 => true,
-        7 => t == 17,
-        12 | 14 | 18 => !is_header(t),
-        19 => !is_header(t),
-        _ => t != 1,
+    if 17 < t {
+        return dim != 2;
     }
+    true
 }
 
 // Whether a type may stand under a header of type `under` (0 at the top), and is read.
 pub fn may_stand(dim: usize, under: usize, t: usize) -> bool
     ensures { λ r. ⌜ r ≡ mayStand dim under t ⌝ }
 {
-    if is_read(dim, t) {
-        return under_ok(under, t);
+    if is_header(t) {
+        return header_stands(dim, under, t);
     }
-    false
+    if is_unread(t) {
+        return false;
+    }
+    if under == 7 {
+        return t == 17;
+    }
+    true
 }

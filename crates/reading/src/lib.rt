@@ -199,7 +199,7 @@ pub fn placed_at(file: &[u8], dim: usize, place: usize) -> Placed
         };
     }
     let bound = file.len() / 2;
-    match files::reach(file, 0, bound, dim, place, false) {
+    match files::reach(file, 0, dim, place, false) {
         files::Reached::Fault {
             number,
             place: fault,
@@ -221,7 +221,7 @@ pub fn placed_at(file: &[u8], dim: usize, place: usize) -> Placed
             start: top,
             end,
             before: _,
-        } => match files::reach(file, end, bound, dim, bound, false) {
+        } => match files::reach(file, end, dim, bound, false) {
             files::Reached::Fault {
                 number,
                 place: fault,

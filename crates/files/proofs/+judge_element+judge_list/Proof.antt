@@ -1,10 +1,11 @@
 -- judge_element and judge_list by one induction on twice the words to the end or the bound, and one more for a list: a header's
 -- components start after it, and a list's headers end by its bound. The ways on and out are in proofs/Going.
 use Prim.Native.Nat.{ℕ, _+_, _-_, _*_, _<_}
-use mathlib.Core.Path.{refl, _∙_}
+use mathlib.Core.Path.{refl, sym, _∙_}
 use native.Mathlib.Omega.{arith}
 use borrow.Author.Needs.{needs}
-use Rattle.files.proofs.Going.{Going, going-none, head-plain, head-complex, good-plain, more-complex, fault-beneath, good-complex, fault-count, plain-stops, plain-goes, header-stops, going-halted, going-broken, going-stopped, going-on, depth-plain, depth-complex}
+use Rattle.files.proofs.Laws.{list-none}
+use Rattle.files.proofs.Going.{Going, as-bound, going-none, head-plain, head-complex, good-plain, more-complex, fault-beneath, good-complex, fault-count, plain-stops, plain-goes, header-stops, going-halted, going-broken, going-stopped, going-on, depth-plain, depth-complex}
 use borrow.Fn.Kinds.{In}
 use borrow.Fn.PlainCycle.{Measures, is, falls, and}
 use Rattle.files.proofs.judge_element.Reads as judge-element
@@ -19,6 +20,7 @@ use Rattle.elements.proofs.type_at.Reads as type-at-reads
 use Rattle.files.proofs.closed.Reads as closed-reads
 use Rattle.files.proofs.depth_of.Reads as depth-of-reads
 use Rattle.files.proofs.larger.Reads as larger-reads
+use Rattle.files.proofs.smaller.Reads as smaller-reads
 use Rattle.files.proofs.stops.Reads as stops-reads
 use Rattle.files.proofs.+judge_element+judge_list.{statement}
 use Rattle.files.proofs.+judge_element+judge_list.Tie.{close}
@@ -51,13 +53,22 @@ judge-list-below t =
 
 -- what the callees of each ask and give
 abbrev element-calls : ℕ → judge-element-lts.Claims
-element-calls t = (type-at-reads.Asked, type-at-reads.Learnt, judge-list-below t, judge-list.Post, closed-reads.Asked, closed-reads.Learnt, count-ok-reads.Asked, count-ok-reads.Learnt, larger-reads.Asked, larger-reads.Learnt)
+element-calls t = (type-at-reads.Asked, type-at-reads.Learnt, count-ok-reads.Asked, count-ok-reads.Learnt, judge-list-below t, judge-list.Post, closed-reads.Asked, closed-reads.Learnt, larger-reads.Asked, larger-reads.Learnt)
 
 abbrev list-calls : ℕ → judge-list-lts.Claims
-list-calls t = (head-at-reads.Asked, head-at-reads.Learnt, depth-of-reads.Asked, depth-of-reads.Learnt, larger-reads.Asked, larger-reads.Learnt, judge-element-below t, judge-element.Post, stops-reads.Asked, stops-reads.Learnt)
+list-calls t = (smaller-reads.Asked, smaller-reads.Learnt, head-at-reads.Asked, head-at-reads.Learnt, depth-of-reads.Asked, depth-of-reads.Learnt, larger-reads.Asked, larger-reads.Learnt, judge-element-below t, judge-element.Post, stops-reads.Asked, stops-reads.Learnt)
 
 judge-element-type-at-requires : (t : ℕ) → judge-element-lts.Need-type-at-requires (element-calls t) (judge-element-at t) judge-element.Post
 judge-element-type-at-requires t c κs = search needs
+
+judge-element-count-ok-requires : (t : ℕ) → judge-element-lts.Need-count-ok-requires (element-calls t) (judge-element-at t) judge-element.Post
+judge-element-count-ok-requires t c κs = (c .before .type-at .ensures, omega arith)
+
+judge-element-returns : (t : ℕ) → judge-element-lts.Need-returns (element-calls t) (judge-element-at t) judge-element.Post
+judge-element-returns t c under bound h = good-complex h refl (c .before .before .before .type-at .ensures) (list-none _ _ _ _ (c .before .before .if1 .taken)) refl (c .before .count-ok .ensures) (c .if2 .taken) (omega arith)
+
+judge-element-returns-2 : (t : ℕ) → judge-element-lts.Need-returns-2 (element-calls t) (judge-element-at t) judge-element.Post
+judge-element-returns-2 t c under bound h = fault-count h refl (c .before .before .before .type-at .ensures) (list-none _ _ _ _ (c .before .before .if1 .taken)) refl (c .before .count-ok .ensures) (c .if2 .left)
 
 judge-element-add-judge-list : (t : ℕ) → judge-element-lts.Need-add-judge-list (element-calls t) (judge-element-at t) judge-element.Post
 judge-element-add-judge-list t c = omega arith
@@ -77,30 +88,33 @@ judge-element-enum-known-number t c = search needs
 judge-element-enum-known-elements : (t : ℕ) → judge-element-lts.Need-enum-known-elements (element-calls t) (judge-element-at t) judge-element.Post
 judge-element-enum-known-elements t c = search needs
 
-judge-element-count-ok-requires : (t : ℕ) → judge-element-lts.Need-count-ok-requires (element-calls t) (judge-element-at t) judge-element.Post
-judge-element-count-ok-requires t c κs = (c .before .before .before .before .before .type-at .ensures, omega arith)
+judge-element-count-ok-requires-2 : (t : ℕ) → judge-element-lts.Need-count-ok-requires-2 (element-calls t) (judge-element-at t) judge-element.Post
+judge-element-count-ok-requires-2 t c κs = (c .before .before .before .before .before .before .type-at .ensures, omega arith)
 
-judge-element-add-t19 : (t : ℕ) → judge-element-lts.Need-add-t19 (element-calls t) (judge-element-at t) judge-element.Post
-judge-element-add-t19 t c = let l = ((c .before .before .before .before .before .closed .ensures) _ _ _ ((c .before .before .before .before .before .before .judge-list .ensures))) in omega (arith, rw ((c .before .before .before .elements .given .1)) at (l .within))
+judge-element-add-t21 : (t : ℕ) → judge-element-lts.Need-add-t21 (element-calls t) (judge-element-at t) judge-element.Post
+judge-element-add-t21 t c = let l = ((c .before .before .before .before .before .closed .ensures) _ _ _ ((c .before .before .before .before .before .before .judge-list .ensures))) in omega (arith, rw ((c .before .before .before .elements .given .1)) at (l .within))
 
 judge-element-larger-requires : (t : ℕ) → judge-element-lts.Need-larger-requires (element-calls t) (judge-element-at t) judge-element.Post
 judge-element-larger-requires t c κs = search needs
 
-judge-element-returns : (t : ℕ) → judge-element-lts.Need-returns (element-calls t) (judge-element-at t) judge-element.Post
-judge-element-returns t c under bound h = fault-beneath h refl ((c .before .before .before .before .before .type-at .ensures)) ((c .before .before .before .closed .ensures) _ _ _ ((c .before .before .before .before .judge-list .ensures))) ((c .before .number .given .1))
-
-judge-element-returns-2 : (t : ℕ) → judge-element-lts.Need-returns-2 (element-calls t) (judge-element-at t) judge-element.Post
-judge-element-returns-2 t c under bound h = good-complex h refl ((c .before .before .before .before .before .before .before .before .type-at .ensures)) ((c .before .before .before .before .before .before .closed .ensures) _ _ _ ((c .before .before .before .before .before .before .before .judge-list .ensures))) ((c .before .before .before .before .elements .given .1)) ((c .before .before .count-ok .ensures)) ((c .before .if1 .taken)) ((c .larger .ensures))
-
 judge-element-returns-3 : (t : ℕ) → judge-element-lts.Need-returns-3 (element-calls t) (judge-element-at t) judge-element.Post
-judge-element-returns-3 t c under bound h = fault-count h refl ((c .before .before .before .before .before .before .before .type-at .ensures)) ((c .before .before .before .before .before .closed .ensures) _ _ _ ((c .before .before .before .before .before .before .judge-list .ensures))) ((c .before .before .before .elements .given .1)) ((c .before .count-ok .ensures)) ((c .if1 .left))
+judge-element-returns-3 t c under bound h = fault-beneath h refl ((c .before .before .before .before .before .before .type-at .ensures)) ((c .before .before .before .closed .ensures) _ _ _ ((c .before .before .before .before .judge-list .ensures))) ((c .before .number .given .1))
+
+judge-element-returns-4 : (t : ℕ) → judge-element-lts.Need-returns-4 (element-calls t) (judge-element-at t) judge-element.Post
+judge-element-returns-4 t c under bound h = good-complex h refl ((c .before .before .before .before .before .before .before .before .before .type-at .ensures)) ((c .before .before .before .before .before .before .closed .ensures) _ _ _ ((c .before .before .before .before .before .before .before .judge-list .ensures))) ((c .before .before .before .before .elements .given .1)) ((c .before .before .count-ok2 .ensures)) ((c .before .if3 .taken)) ((c .larger .ensures))
+
+judge-element-returns-5 : (t : ℕ) → judge-element-lts.Need-returns-5 (element-calls t) (judge-element-at t) judge-element.Post
+judge-element-returns-5 t c under bound h = fault-count h refl ((c .before .before .before .before .before .before .before .before .type-at .ensures)) ((c .before .before .before .before .before .closed .ensures) _ _ _ ((c .before .before .before .before .before .before .judge-list .ensures))) ((c .before .before .before .elements .given .1)) ((c .before .count-ok2 .ensures)) ((c .if3 .left))
 
 abbrev judge-list-Inv-loop : judge-list-lts.InvT-loop
-judge-list-Inv-loop s at bound depth under dim until each here₀ below₀ deepest₀ direct₀ here below deepest direct =
-    Going dim depth under s at bound until each here below deepest direct
+judge-list-Inv-loop s at bound depth under dim until each last here₀ below₀ deepest₀ direct₀ here below deepest direct =
+    Going dim depth under s at last until each here below deepest direct
 
 abbrev judge-list-μ-loop : judge-list-lts.MeasureT-loop
-judge-list-μ-loop s at bound depth under dim until each here₀ below₀ deepest₀ direct₀ here below deepest direct = bound - here
+judge-list-μ-loop s at bound depth under dim until each last here₀ below₀ deepest₀ direct₀ here below deepest direct = last - here
+
+judge-list-smaller-requires : (t : ℕ) → judge-list-lts.Need-smaller-requires (list-calls t) (judge-list-at t) judge-list.Post judge-list-Inv-loop judge-list-μ-loop
+judge-list-smaller-requires t c κs = tt
 
 judge-list-loop-holds : (t : ℕ) → judge-list-lts.Need-loop-holds (list-calls t) (judge-list-at t) judge-list.Post judge-list-Inv-loop judge-list-μ-loop
 judge-list-loop-holds t c = going-none
@@ -114,11 +128,11 @@ judge-list-enum-known-number t c = search needs
 judge-list-depth-of-requires : (t : ℕ) → judge-list-lts.Need-depth-of-requires (list-calls t) (judge-list-at t) judge-list.Post judge-list-Inv-loop judge-list-μ-loop
 judge-list-depth-of-requires t c κs = search needs
 
-judge-list-add-t26 : (t : ℕ) → judge-list-lts.Need-add-t26 (list-calls t) (judge-list-at t) judge-list.Post judge-list-Inv-loop judge-list-μ-loop
-judge-list-add-t26 t c = omega (arith, (c .before .before .before .before .before .loop .inv .gone .words-each), (c .before .before .before .before .before .loop .inv .gone .inside))
+judge-list-add-t29 : (t : ℕ) → judge-list-lts.Need-add-t29 (list-calls t) (judge-list-at t) judge-list.Post judge-list-Inv-loop judge-list-μ-loop
+judge-list-add-t29 t c = omega (arith, (c .before .before .before .before .before .loop .inv .gone .words-each), (c .before .before .before .before .before .loop .inv .gone .inside))
 
 judge-list-returns : (t : ℕ) → judge-list-lts.Need-returns (list-calls t) (judge-list-at t) judge-list.Post judge-list-Inv-loop judge-list-μ-loop
-judge-list-returns t c = going-halted ((c .before .before .before .before .before .loop .inv)) ((c .before .before .before .before .head-at .ensures)) ((c .before .before .number .given .1)) ((c .depth-of .ensures))
+judge-list-returns t c = rw (sym (as-bound (c .before .before .before .before .before .before .smaller .ensures) (c .before .before .before .before .before .before .before .before .pre .1))) (going-halted ((c .before .before .before .before .before .loop .inv)) ((c .before .before .before .before .head-at .ensures)) ((c .before .before .number .given .1)) ((c .depth-of .ensures)))
 
 judge-list-enum-known-next : (t : ℕ) → judge-list-lts.Need-enum-known-next (list-calls t) (judge-list-at t) judge-list.Post judge-list-Inv-loop judge-list-μ-loop
 judge-list-enum-known-next t c = search needs
@@ -129,11 +143,11 @@ judge-list-add-direct t c = omega (arith, rw ((c .before .next .given .1)) at ((
 judge-list-larger-requires : (t : ℕ) → judge-list-lts.Need-larger-requires (list-calls t) (judge-list-at t) judge-list.Post judge-list-Inv-loop judge-list-μ-loop
 judge-list-larger-requires t c κs = search needs
 
-judge-list-add-t28 : (t : ℕ) → judge-list-lts.Need-add-t28 (list-calls t) (judge-list-at t) judge-list.Post judge-list-Inv-loop judge-list-μ-loop
-judge-list-add-t28 t c = omega (arith, rw ((c .before .before .before .next .given .1)) at ((c .before .before .before .before .before .head-at .ensures .within)), (c .before .before .before .before .before .before .loop .inv .gone .words-each))
+judge-list-add-t31 : (t : ℕ) → judge-list-lts.Need-add-t31 (list-calls t) (judge-list-at t) judge-list.Post judge-list-Inv-loop judge-list-μ-loop
+judge-list-add-t31 t c = omega (arith, rw ((c .before .before .before .next .given .1)) at ((c .before .before .before .before .before .head-at .ensures .within)), (c .before .before .before .before .before .before .loop .inv .gone .words-each))
 
 judge-list-returns-2 : (t : ℕ) → judge-list-lts.Need-returns-2 (list-calls t) (judge-list-at t) judge-list.Post judge-list-Inv-loop judge-list-μ-loop
-judge-list-returns-2 t c = going-stopped ((c .before .before .before .before .before .before .loop .inv)) (good-plain ((c .before .before .before .before .before .head-at .ensures)) ((c .before .before .before .next .given .1))) (plain-stops _ _ _ _ _ (head-plain ((c .before .before .before .before .before .head-at .ensures)) ((c .before .before .before .next .given .1))) ((c .before .if1 .taken))) (omega arith) (depth-plain ((c .before .before .before .before .before .before .loop .inv)) ((c .larger .ensures)))
+judge-list-returns-2 t c = rw (sym (as-bound (c .before .before .before .before .before .before .before .smaller .ensures) (c .before .before .before .before .before .before .before .before .before .pre .1))) (going-stopped ((c .before .before .before .before .before .before .loop .inv)) (good-plain ((c .before .before .before .before .before .head-at .ensures)) ((c .before .before .before .next .given .1))) (plain-stops _ _ _ _ _ (head-plain ((c .before .before .before .before .before .head-at .ensures)) ((c .before .before .before .next .given .1))) ((c .before .if1 .taken))) (omega arith) (depth-plain ((c .before .before .before .before .before .before .loop .inv)) ((c .larger .ensures))))
 
 judge-list-loop-less : (t : ℕ) → judge-list-lts.Need-loop-less (list-calls t) (judge-list-at t) judge-list.Post judge-list-Inv-loop judge-list-μ-loop
 judge-list-loop-less t c = omega (arith, rw ((c .before .before .next .given .1)) at ((c .before .before .before .before .head-at .ensures .within)))
@@ -145,13 +159,13 @@ judge-list-enum-known-inner : (t : ℕ) → judge-list-lts.Need-enum-known-inner
 judge-list-enum-known-inner t c = search needs
 
 judge-list-judge-element-requires : (t : ℕ) → judge-list-lts.Need-judge-element-requires (list-calls t) (judge-list-at t) judge-list.Post judge-list-Inv-loop judge-list-μ-loop
-judge-list-judge-element-requires t c κs = omega (arith, rw ((c .before .inner .given .1)) at ((c .before .before .before .head-at .ensures .within)), (c .before .before .before .before .loop .inv .gone .words-each))
+judge-list-judge-element-requires t c κs = let e = as-bound (c .before .before .before .before .before .smaller .ensures) (c .before .before .before .before .before .before .before .pre .1) in let p = c .before .before .before .before .before .before .before .pre .1 in omega (arith, rw ((c .before .inner .given .1)) at ((c .before .before .before .head-at .ensures .within)), (c .before .before .before .before .loop .inv .gone .words-each))
 
 judge-list-enum-known-number-2 : (t : ℕ) → judge-list-lts.Need-enum-known-number-2 (list-calls t) (judge-list-at t) judge-list.Post judge-list-Inv-loop judge-list-μ-loop
 judge-list-enum-known-number-2 t c = search needs
 
 judge-list-returns-3 : (t : ℕ) → judge-list-lts.Need-returns-3 (list-calls t) (judge-list-at t) judge-list.Post judge-list-Inv-loop judge-list-μ-loop
-judge-list-returns-3 t c = let h = rw ((c .before .before .before .before .before .inner .given .1)) at ((c .before .before .before .before .before .before .before .head-at .ensures)) in going-broken ((c .before .before .before .before .before .before .before .before .loop .inv)) (more-complex h refl) (rw ((c .before .number2 .given .1)) at ((c .before .before .before .judge-element .ensures) _ _ h))
+judge-list-returns-3 t c = let h = rw ((c .before .before .before .before .before .inner .given .1)) at ((c .before .before .before .before .before .before .before .head-at .ensures)) in rw (sym (as-bound (c .before .before .before .before .before .before .before .before .before .smaller .ensures) (c .before .before .before .before .before .before .before .before .before .before .before .pre .1))) (going-broken ((c .before .before .before .before .before .before .before .before .loop .inv)) (more-complex h refl) (rw ((c .before .number2 .given .1)) at ((c .before .before .before .judge-element .ensures) _ _ h)))
 
 judge-list-enum-known-next-2 : (t : ℕ) → judge-list-lts.Need-enum-known-next-2 (list-calls t) (judge-list-at t) judge-list.Post judge-list-Inv-loop judge-list-μ-loop
 judge-list-enum-known-next-2 t c = search needs
@@ -174,11 +188,11 @@ judge-list-stops-requires t c κs = search needs
 judge-list-larger-requires-3 : (t : ℕ) → judge-list-lts.Need-larger-requires-3 (list-calls t) (judge-list-at t) judge-list.Post judge-list-Inv-loop judge-list-μ-loop
 judge-list-larger-requires-3 t c κs = search needs
 
-judge-list-add-t32 : (t : ℕ) → judge-list-lts.Need-add-t32 (list-calls t) (judge-list-at t) judge-list.Post judge-list-Inv-loop judge-list-μ-loop
-judge-list-add-t32 t c = let x = rw ((c .before .before .before .before .before .next2 .given .1)) at ((c .before .before .before .before .before .before .before .judge-element .ensures) _ _ (rw ((c .before .before .before .before .before .before .before .before .before .inner .given .1)) at ((c .before .before .before .before .before .before .before .before .before .before .before .head-at .ensures)))) in omega (arith, x .1 .1 .0, x .1 .1 .1 .1, x .0 .by, (c .before .before .before .before .before .before .before .before .before .before .before .before .loop .inv .gone .words-each))
+judge-list-add-t35 : (t : ℕ) → judge-list-lts.Need-add-t35 (list-calls t) (judge-list-at t) judge-list.Post judge-list-Inv-loop judge-list-μ-loop
+judge-list-add-t35 t c = let x = rw ((c .before .before .before .before .before .next2 .given .1)) at ((c .before .before .before .before .before .before .before .judge-element .ensures) _ _ (rw ((c .before .before .before .before .before .before .before .before .before .inner .given .1)) at ((c .before .before .before .before .before .before .before .before .before .before .before .head-at .ensures)))) in omega (arith, x .1 .1 .0, x .1 .1 .1 .1, x .0 .by, (c .before .before .before .before .before .before .before .before .before .before .before .before .loop .inv .gone .words-each))
 
 judge-list-returns-4 : (t : ℕ) → judge-list-lts.Need-returns-4 (list-calls t) (judge-list-at t) judge-list.Post judge-list-Inv-loop judge-list-μ-loop
-judge-list-returns-4 t c = let h = rw ((c .before .before .before .before .before .before .before .before .before .inner .given .1)) at ((c .before .before .before .before .before .before .before .before .before .before .before .head-at .ensures)) in let x = rw ((c .before .before .before .before .before .next2 .given .1)) at ((c .before .before .before .before .before .before .before .judge-element .ensures) _ _ h) in going-stopped ((c .before .before .before .before .before .before .before .before .before .before .before .before .loop .inv)) (x .0) (header-stops _ _ _ _ _ (head-complex h refl) ((c .before .before .stops .ensures)) ((c .before .if2 .taken))) (omega (arith, x .1 .1 .0)) (((c .larger3 .ensures)) ∙ depth-complex ((c .before .before .before .before .before .before .before .before .before .before .before .before .loop .inv)) _ (x .1 .1 .1 .0) ((c .before .before .before .larger2 .ensures)))
+judge-list-returns-4 t c = let h = rw ((c .before .before .before .before .before .before .before .before .before .inner .given .1)) at ((c .before .before .before .before .before .before .before .before .before .before .before .head-at .ensures)) in let x = rw ((c .before .before .before .before .before .next2 .given .1)) at ((c .before .before .before .before .before .before .before .judge-element .ensures) _ _ h) in rw (sym (as-bound (c .before .before .before .before .before .before .before .before .before .before .before .before .before .smaller .ensures) (c .before .before .before .before .before .before .before .before .before .before .before .before .before .before .before .pre .1))) (going-stopped ((c .before .before .before .before .before .before .before .before .before .before .before .before .loop .inv)) (x .0) (header-stops _ _ _ _ _ (head-complex h refl) ((c .before .before .stops .ensures)) ((c .before .if2 .taken))) (omega (arith, x .1 .1 .0)) (((c .larger3 .ensures)) ∙ depth-complex ((c .before .before .before .before .before .before .before .before .before .before .before .before .loop .inv)) _ (x .1 .1 .1 .0) ((c .before .before .before .larger2 .ensures))))
 
 judge-list-loop-less-2 : (t : ℕ) → judge-list-lts.Need-loop-less-2 (list-calls t) (judge-list-at t) judge-list.Post judge-list-Inv-loop judge-list-μ-loop
 judge-list-loop-less-2 t c = let x = rw ((c .before .before .before .before .next2 .given .1)) at ((c .before .before .before .before .before .before .judge-element .ensures) _ _ (rw ((c .before .before .before .before .before .before .before .before .inner .given .1)) at ((c .before .before .before .before .before .before .before .before .before .before .head-at .ensures)))) in omega (arith, x .0 .on, x .0 .by)
@@ -191,44 +205,37 @@ pub +judge-element+judge-list-spec : {M : Type 1} → statement M
     (judge-element-at t)
     judge-element.Post
     (judge-element-type-at-requires t)
+    (judge-element-count-ok-requires t)
+    (judge-element-returns t)
+    (judge-element-returns-2 t)
     (judge-element-add-judge-list t)
     (judge-element-judge-list-requires t)
     (judge-element-add-closed t)
     (judge-element-closed-requires t)
     (judge-element-enum-known-number t)
     (judge-element-enum-known-elements t)
-    (judge-element-count-ok-requires t)
-    (judge-element-add-t19 t)
+    (judge-element-count-ok-requires-2 t)
+    (judge-element-add-t21 t)
     (judge-element-larger-requires t)
-    (judge-element-returns t)
-    (judge-element-returns-2 t)
-    (judge-element-returns-3 t))
-    λ t. judge-list-lts.spec (
-      head-at-reads.Asked,
-      head-at-reads.Learnt,
-      depth-of-reads.Asked,
-      depth-of-reads.Learnt,
-      larger-reads.Asked,
-      larger-reads.Learnt,
-      judge-element-below t,
-      judge-element.Post,
-      stops-reads.Asked,
-      stops-reads.Learnt,
-    )
+    (judge-element-returns-3 t)
+    (judge-element-returns-4 t)
+    (judge-element-returns-5 t))
+    λ t. judge-list-lts.spec (list-calls t)
     (judge-list-at t)
     judge-list.Post
     judge-list-Inv-loop
     judge-list-μ-loop
+    (judge-list-smaller-requires t)
     (judge-list-loop-holds t)
     (judge-list-head-at-requires t)
     (judge-list-enum-known-number t)
     (judge-list-depth-of-requires t)
-    (judge-list-add-t26 t)
+    (judge-list-add-t29 t)
     (judge-list-returns t)
     (judge-list-enum-known-next t)
     (judge-list-add-direct t)
     (judge-list-larger-requires t)
-    (judge-list-add-t28 t)
+    (judge-list-add-t31 t)
     (judge-list-returns-2 t)
     (judge-list-loop-less t)
     (judge-list-loop-again t)
@@ -243,7 +250,7 @@ pub +judge-element+judge-list-spec : {M : Type 1} → statement M
     (judge-list-larger-requires-2 t)
     (judge-list-stops-requires t)
     (judge-list-larger-requires-3 t)
-    (judge-list-add-t32 t)
+    (judge-list-add-t35 t)
     (judge-list-returns-4 t)
     (judge-list-loop-less-2 t)
     (judge-list-loop-again-2 t)

@@ -1,10 +1,11 @@
+use native.Mathlib.Omega.{arith}
 use Rattle.files.proofs.Reaching.{stopped-element, halted-element, broken-element}
 use borrow.Author.Needs.{needs}
 use Rattle.files.proofs.element.Statement.{statement}
 use Rattle.files.proofs.element.Tie as tie
 
 judge-list-requires : tie.Need-judge-list-requires
-judge-list-requires c κs = search needs
+judge-list-requires c κs = omega arith
 
 enum-known-next : tie.Need-enum-known-next
 enum-known-next c = search needs

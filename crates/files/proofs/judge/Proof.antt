@@ -1,5 +1,6 @@
 -- `judge` answers `judgeOf`: the top list is judged by the inner contract, with the file's words as its bound.
 use mathlib.Core.Path.{sym, _∙_}
+use native.Mathlib.Omega.{arith}
 use Rattle.files.proofs.Laws.{judge-call, judge-top}
 use borrow.Author.Needs.{needs}
 use Rattle.files.proofs.judge.Statement.{statement}
@@ -9,7 +10,7 @@ call-ok-requires : tie.Need-call-ok-requires
 call-ok-requires c κs = search needs
 
 judge-all-requires : tie.Need-judge-all-requires
-judge-all-requires c κs = search needs
+judge-all-requires c κs = omega arith
 
 enum-known-next : tie.Need-enum-known-next
 enum-known-next c = search needs

@@ -3,7 +3,7 @@ use Rattle.files.proofs.judge_all.Statement.{statement}
 use Rattle.files.proofs.judge_all.Tie as tie
 
 judge-list-requires : tie.Need-judge-list-requires
-judge-list-requires c κs = search needs
+judge-list-requires c κs = c .before .pre
 
 closed-requires : tie.Need-closed-requires
 closed-requires c κs = search needs

@@ -6,13 +6,13 @@ use Rattle.files.proofs.reach.Statement.{statement}
 use Rattle.files.proofs.reach.Tie as tie
 
 judge-list-requires : tie.Need-judge-list-requires
-judge-list-requires c κs = search needs
+judge-list-requires c κs = omega arith
 
 enum-known-next : tie.Need-enum-known-next
 enum-known-next c = search needs
 
-sub-t17 : tie.Need-sub-t17
-sub-t17 c = let x = rw ((c .before .next .given .1)) at ((c .before .before .before .judge-list .ensures)) in omega (arith, x .counted)
+sub-t18 : tie.Need-sub-t18
+sub-t18 c = let x = rw ((c .before .next .given .1)) at ((c .before .before .before .judge-list .ensures)) in omega (arith, x .counted)
 
 enum-known-number : tie.Need-enum-known-number
 enum-known-number c = search needs
@@ -53,7 +53,7 @@ reach-spec =
     (tie.spec
     judge-list-requires
     enum-known-next
-    sub-t17
+    sub-t18
     enum-known-number
     enum-known-number-2
     stop-at-requires

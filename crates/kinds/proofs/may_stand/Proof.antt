@@ -1,22 +1,40 @@
--- A type that is not read stands nowhere; of one that is, its place decides.
-use mathlib.Core.Path.{sym}
-use Rattle.kinds.specs.Kinds.{mayStand}
+-- A header by `header_stands`; of the other types only 17 stands under 7 (`stands`).
+use mathlib.Core.Bool.{and-true}
+use mathlib.Core.Path.{sym, _∙_}
+use borrow.Author.Tests.{ne-eqb}
+use Rattle.kinds.proofs.Types.{stands}
 use Rattle.kinds.proofs.may_stand.Statement.{statement}
 use Rattle.kinds.proofs.may_stand.Tie as tie
 
-is-read-requires : tie.Need-is-read-requires
-is-read-requires c κs = tt
+is-header-requires : tie.Need-is-header-requires
+is-header-requires c κs = tt
 
-under-ok-requires : tie.Need-under-ok-requires
-under-ok-requires c κs = tt
+header-stands-requires : tie.Need-header-stands-requires
+header-stands-requires c κs = sym (c .before .is-header .ensures) ∙ c .if1 .taken
 
 returns : tie.Need-returns
-unfolding mayStand
-returns c = simp (sym (c .before .before .is-read .ensures), c .before .if1 .taken) (c .under-ok .ensures)
+returns c = c .header-stands .ensures
+
+is-unread-requires : tie.Need-is-unread-requires
+is-unread-requires c κs = tt
 
 returns-2 : tie.Need-returns-2
-unfolding mayStand
-returns-2 c = simp (sym (c .before .is-read .ensures), c .if1 .left)
+returns-2 c = simp (stands (c .before .before .before .before .args .dim) (c .before .before .before .before .args .under) (c .before .before .before .before .args .t) (sym (c .before .before .before .is-header .ensures) ∙ c .before .before .if1 .left), sym (c .before .is-unread .ensures), c .if2 .taken)
+
+returns-3 : tie.Need-returns-3
+returns-3 c = sym (stands (c .before .before .before .before .before .args .dim) (c .before .before .before .before .before .args .under) (c .before .before .before .before .before .args .t) (sym (c .before .before .before .before .is-header .ensures) ∙ c .before .before .before .if1 .left) ∙ simp (sym (c .before .before .is-unread .ensures), c .before .if2 .left, c .if3 .taken))
+
+returns-4 : tie.Need-returns-4
+returns-4 c = simp (stands (c .before .before .before .before .before .args .dim) (c .before .before .before .before .before .args .under) (c .before .before .before .before .before .args .t) (sym (c .before .before .before .before .is-header .ensures) ∙ c .before .before .before .if1 .left), sym (c .before .before .is-unread .ensures), c .before .if2 .left, ne-eqb _ _ (c .if3 .left))
 
 pub may-stand-spec : {M : Type 1} → statement M
-may-stand-spec = tie.close (tie.spec is-read-requires under-ok-requires returns returns-2)
+may-stand-spec =
+    tie.close
+    (tie.spec
+    is-header-requires
+    header-stands-requires
+    returns
+    is-unread-requires
+    returns-2
+    returns-3
+    returns-4)

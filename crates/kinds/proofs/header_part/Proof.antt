@@ -1,0 +1,38 @@
+-- What is picked is `header-fixed`.
+use mathlib.Core.Path.{_∙_}
+use Rattle.kinds.proofs.Types.{header-fixed}
+use Rattle.kinds.proofs.header_part.Statement.{statement}
+use Rattle.kinds.proofs.header_part.Tie as tie
+
+pick-requires : tie.Need-pick-requires
+pick-requires c κs = tt
+
+pick-requires-2 : tie.Need-pick-requires-2
+pick-requires-2 c κs = tt
+
+pick-requires-3 : tie.Need-pick-requires-3
+pick-requires-3 c κs = tt
+
+pick-requires-4 : tie.Need-pick-requires-4
+pick-requires-4 c κs = tt
+
+pick-requires-5 : tie.Need-pick-requires-5
+pick-requires-5 c κs = tt
+
+pick-requires-6 : tie.Need-pick-requires-6
+pick-requires-6 c κs = tt
+
+returns : tie.Need-returns
+returns c = rw (c .before .pick5 .ensures, c .before .before .pick4 .ensures, c .before .before .before .pick3 .ensures, c .before .before .before .before .pick2 .ensures, c .before .before .before .before .before .pick .ensures) at (c .pick6 .ensures) ∙ header-fixed _ _ (c .before .before .before .before .before .before .pre)
+
+pub header-part-spec : {M : Type 1} → statement M
+header-part-spec =
+    tie.close
+    (tie.spec
+    pick-requires
+    pick-requires-2
+    pick-requires-3
+    pick-requires-4
+    pick-requires-5
+    pick-requires-6
+    returns)
