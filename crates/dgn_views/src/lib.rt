@@ -29,12 +29,12 @@ fn flag_of(b: bool) -> usize
 }
 
 // The direct header.
-fn above_numbers(above: reading::Above) -> [usize; 2]
+fn above_numbers(above: places::Above) -> [usize; 2]
     ensures { λ r. ⌜ r ≡ aboveNumbers above ⌝ }
 {
     match above {
-        reading::Above::Top => [0, 0],
-        reading::Above::Under { place } => [1, place],
+        places::Above::Top => [0, 0],
+        places::Above::Under { place } => [1, place],
     }
 }
 

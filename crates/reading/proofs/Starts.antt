@@ -12,10 +12,10 @@ use Rattle.words.specs.Words.{words}
 use Rattle.files.specs.Judge.{judgeOf}
 use Rattle.files.specs.Spots.{Spot, spotsOf, firstIf, spotIn}
 use Rattle.files.specs.declared.Judged.the-variants.{Accepted}
-use Rattle.reading.specs.Places.{foundBy}
+use Rattle.places.specs.Places.{foundBy}
 use Rattle.reading.specs.Views.{viewBy, viewOf}
 use Rattle.reading.specs.Starts.{Starts, Accepts}
-use Rattle.reading.proofs.Places.{spotted-found}
+use Rattle.places.proofs.Places.{spotted-found}
 
 none-some : {x : Spot} → _≡_ {A = Option Spot} none (some x) → ⊥
 none-some e = let z : _≡_ {A = ℕ} 0 1 = cc in omega arith

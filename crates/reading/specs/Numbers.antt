@@ -1,15 +1,13 @@
--- The numbers of each answer of the reading calls: 0 and what is read, or the refusal's number and place. True is 1; of
+-- The numbers of each answer of a view, a point or a linkage: 0 and what is read, or the refusal's number and place. True is 1; of
 -- a part that may be absent, 1 and its numbers or 0 and zeros.
 use Prim.Native.Nat.{ℕ}
 use mathlib.Core.Bool.{Bool, cond}
 use mathlib.Core.List.{List, [], _∷_, _++_}
 use lib.IntN.{ℤ, pos}
-use Rattle.reading.specs.declared.Extent.{Extent}
-use Rattle.reading.specs.declared.Extent.the-variants as extents
 use Rattle.reading.specs.declared.Attribute.{Attribute}
 use Rattle.reading.specs.declared.Attribute.the-variants as attributes
-use Rattle.reading.specs.declared.Above.{Above}
-use Rattle.reading.specs.declared.Above.the-variants as aboves
+use Rattle.places.specs.declared.Above.{Above}
+use Rattle.places.specs.declared.Above.the-variants as aboves
 use Rattle.reading.specs.declared.Number.{Number}
 use Rattle.reading.specs.declared.Number.the-variants as numbers
 use Rattle.reading.specs.declared.Range.{Range}
@@ -23,10 +21,6 @@ use Rattle.reading.specs.declared.View.{View}
 use Rattle.reading.specs.declared.View.the-variants as views
 use Rattle.reading.specs.declared.Point.{Point}
 use Rattle.reading.specs.declared.Point.the-variants as points
-
-abbrev pub extentNumbers : Extent → List ℕ
-extentNumbers (extents.At start end) = 0 ∷ start ∷ end ∷ []
-extentNumbers (extents.Refused number place) = number ∷ place ∷ []
 
 abbrev pub flag : Bool → ℕ
 flag b = cond b 1 0

@@ -12,10 +12,10 @@ use Rattle.kinds.specs.FirstWord.{levelOf, cOf, deletedOf}
 use Rattle.elements.specs.Header.{typeAt, sizeAt, pointsAt, countAt, attributePartAt}
 use Rattle.kinds.specs.Kinds.{isHeader, isCounted, isPointed, isLinked}
 use Rattle.elements.specs.Attributes.{hasAttributes}
-use Rattle.reading.specs.Places.{spottedAt}
-use Rattle.reading.specs.declared.Above.{Above}
-use Rattle.reading.specs.declared.Spotted.{Spotted}
-use Rattle.reading.specs.declared.Spotted.the-variants as spotted
+use Rattle.places.specs.Places.{spottedAt}
+use Rattle.places.specs.declared.Above.{Above}
+use Rattle.places.specs.declared.Spotted.{Spotted}
+use Rattle.places.specs.declared.Spotted.the-variants as spotted
 use Rattle.reading.specs.declared.Number.{Number}
 use Rattle.reading.specs.declared.Number.the-variants as number
 use Rattle.reading.specs.declared.Range.{Range}

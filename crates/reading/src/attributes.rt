@@ -6,8 +6,8 @@ ghost use Rattle.words.specs.Words.{words};
 ghost use Rattle.elements.specs.Attributes.{hasAttributes};
 ghost use Rattle.reading.specs.Views.{attributeBy, linkageOf};
 use super::Attribute;
-use super::Spotted;
-use super::spotted_at;
+use places::Spotted;
+use places::spotted_at;
 
 // Whether the element at a place has an attribute part.
 fn has_attributes(file: &[u8], at: usize) -> bool

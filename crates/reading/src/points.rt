@@ -5,8 +5,8 @@ ghost use lib.ListN.{length};
 ghost use Rattle.words.specs.Words.{words};
 ghost use Rattle.reading.specs.Views.{pointCount, beforePoints, pointAt, pointOf};
 use super::Point;
-use super::Spotted;
-use super::spotted_at;
+use places::Spotted;
+use places::spotted_at;
 
 // How many points the element at a place has.
 fn point_count(file: &[u8], at: usize) -> usize

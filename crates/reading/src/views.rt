@@ -4,15 +4,15 @@ ghost use Prim.Native.Nat.{_/_, _<_};
 ghost use lib.ListN.{length};
 ghost use Rattle.words.specs.Words.{words};
 ghost use Rattle.reading.specs.Views.{rangeOf, displayOf, numberIf, nameWords, elementView, viewOf};
-use super::Above;
 use super::Display;
 use super::Element;
 use super::Name;
 use super::Number;
 use super::Range;
-use super::Spotted;
 use super::View;
-use super::spotted_at;
+use places::Above;
+use places::Spotted;
+use places::spotted_at;
 
 // The range of the element at a place, where it has the words.
 fn range_at(file: &[u8], at: usize) -> Range

@@ -19,7 +19,7 @@ use Rattle.reading.specs.declared.Point.{Point}
 use Rattle.reading.specs.declared.Point.the-variants as point
 use Rattle.reading.specs.declared.Attribute.{Attribute}
 use Rattle.reading.specs.declared.Attribute.the-variants as attribute
-use Rattle.reading.specs.Places.{extentBytes}
+use Rattle.places.specs.Places.{extentBytes}
 use Rattle.reading.specs.Views.{pointOf}
 use Rattle.writer.specs.Words.{pointCount}
 use Rattle.writer.specs.declared.Fields.{Fields}

@@ -15,7 +15,7 @@ use Rattle.files.specs.Spots.{spotsOf}
 use Rattle.files.specs.declared.Judged.the-variants.{Accepted}
 use Rattle.reading.specs.declared.Element.{Element}
 use Rattle.reading.specs.declared.View.the-variants.{Seen}
-use Rattle.reading.specs.Places.{aboveOf}
+use Rattle.places.specs.Places.{aboveOf}
 use Rattle.reading.specs.Views.{viewOf, linkageOf}
 use Rattle.edits.specs.Edits.{insert, apply, downTo}
 use Rattle.edits.specs.Allowed.{fine, gapOk, roomFault, depthUnder, typeUnder}

@@ -2,7 +2,7 @@
 use mathlib.Core.Path.{sym, _∙_}
 use native.Mathlib.Omega.{arith}
 use Rattle.reading.specs.Views.{viewOf}
-use Rattle.reading.proofs.Places.{spotted-inside}
+use Rattle.places.proofs.Places.{spotted-inside}
 use borrow.Author.Needs.{needs}
 use Rattle.reading.proofs.views.view_at.Statement.{statement}
 use Rattle.reading.proofs.views.view_at.Tie as tie

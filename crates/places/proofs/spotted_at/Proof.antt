@@ -1,9 +1,9 @@
 -- What the file is judged to be and what is found at the place are the definition's.
 use mathlib.Core.Path.{sym, _∙_}
-use Rattle.reading.proofs.Places.{placed-none, placed-found}
+use Rattle.places.proofs.Places.{placed-none, placed-found}
 use borrow.Author.Needs.{needs}
-use Rattle.reading.proofs.spotted_at.Statement.{statement}
-use Rattle.reading.proofs.spotted_at.Tie as tie
+use Rattle.places.proofs.spotted_at.Statement.{statement}
+use Rattle.places.proofs.spotted_at.Tie as tie
 
 placed-at-requires : tie.Need-placed-at-requires
 placed-at-requires c κs = search needs

@@ -7,12 +7,12 @@ use borrow.Author.Tests.{not-true, not-false}
 use Rattle.words.specs.Words.{words}
 use Rattle.words.proofs.Laws.{lent-below}
 use Rattle.kinds.specs.Kinds.{isHeader}
-use Rattle.reading.specs.declared.Spotted.{Spotted}
-use Rattle.reading.specs.declared.Above.the-variants.{Top}
-use Rattle.reading.specs.Descent.{IsLocated}
-use Rattle.reading.proofs.Descent.{words-two, words-small, size-small, step-over, step-into, step-own, step-here, step-past}
-use Rattle.reading.proofs.descend.Statement.{statement}
-use Rattle.reading.proofs.descend.Tie as tie
+use Rattle.places.specs.declared.Spotted.{Spotted}
+use Rattle.places.specs.declared.Above.the-variants.{Top}
+use Rattle.places.specs.Descent.{IsLocated}
+use Rattle.places.proofs.Descent.{words-two, words-small, size-small, step-over, step-into, step-own, step-here, step-past}
+use Rattle.places.proofs.descend.Statement.{statement}
+use Rattle.places.proofs.descend.Tie as tie
 
 abbrev Inv-loop : tie.InvT-loop
 Inv-loop file top place here₀ depth₀ above₀ here depth above =

@@ -21,12 +21,12 @@ use Rattle.grammar.proofs.Stands.{Stands}
 use Rattle.grammar.proofs.Forest.{Forest, nil, node, flat, num, weight, Wf, spots, length-node, own-stands, components-stand, rest-stand}
 use Rattle.grammar.proofs.Rules.{own-type, own-size, own-extent}
 use Rattle.grammar.proofs.Places.{spot-here, spot-before, spot-under, spot-next}
-use Rattle.reading.specs.declared.Above.{Above}
-use Rattle.reading.specs.declared.Above.the-variants.{Top, Under}
-use Rattle.reading.specs.declared.Spotted.{Spotted}
-use Rattle.reading.specs.declared.Spotted.the-variants as spotted
-use Rattle.reading.specs.Places.{aboveOf, foundBy}
-use Rattle.reading.specs.Descent.{extentWords, locateFrom, IsLocated, descentTo}
+use Rattle.places.specs.declared.Above.{Above}
+use Rattle.places.specs.declared.Above.the-variants.{Top, Under}
+use Rattle.places.specs.declared.Spotted.{Spotted}
+use Rattle.places.specs.declared.Spotted.the-variants as spotted
+use Rattle.places.specs.Places.{aboveOf, foundBy}
+use Rattle.places.specs.Descent.{extentWords, locateFrom, IsLocated, descentTo}
 
 ---- the extent
 

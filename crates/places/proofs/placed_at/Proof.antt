@@ -2,13 +2,13 @@ use mathlib.Core.Path.{sym, _∙_}
 use native.Mathlib.Omega.{arith}
 use borrow.Author.Tests.{not-true, not-false}
 use Rattle.files.proofs.Laws.{judge-call}
-use Rattle.reading.proofs.Places.{placed-refused}
-use Rattle.reading.proofs.Nearest.{first-fault, first-end, before-end, end-inside, rest-fault, rest-end, rest-stops}
+use Rattle.places.proofs.Places.{placed-refused}
+use Rattle.places.proofs.Nearest.{first-fault, first-end, before-end, end-inside, rest-fault, rest-end, rest-stops}
 -- The elements at the top up to the first that ends after the place, then the others (Nearest). A refused file is answered
 -- as it is judged.
 use borrow.Author.Needs.{needs}
-use Rattle.reading.proofs.placed_at.Statement.{statement}
-use Rattle.reading.proofs.placed_at.Tie as tie
+use Rattle.places.proofs.placed_at.Statement.{statement}
+use Rattle.places.proofs.placed_at.Tie as tie
 
 call-ok-requires : tie.Need-call-ok-requires
 call-ok-requires c κs = search needs

@@ -9,14 +9,14 @@ use Rattle.files.specs.Judge.{judgeOf}
 use Rattle.files.specs.Spots.{Spot, spotsOf, spotIn}
 use Rattle.files.specs.declared.Judged.{Judged}
 use Rattle.files.specs.declared.Judged.the-variants as judged
-use Rattle.reading.specs.declared.Extent.{Extent}
-use Rattle.reading.specs.declared.Extent.the-variants as extent
-use Rattle.reading.specs.declared.Above.{Above}
-use Rattle.reading.specs.declared.Above.the-variants.{Top, Under}
-use Rattle.reading.specs.declared.Spotted.{Spotted}
-use Rattle.reading.specs.declared.Spotted.the-variants as spotted
-use Rattle.reading.specs.declared.Placed.{Placed}
-use Rattle.reading.specs.declared.Placed.the-variants as placed
+use Rattle.places.specs.declared.Extent.{Extent}
+use Rattle.places.specs.declared.Extent.the-variants as extent
+use Rattle.places.specs.declared.Above.{Above}
+use Rattle.places.specs.declared.Above.the-variants.{Top, Under}
+use Rattle.places.specs.declared.Spotted.{Spotted}
+use Rattle.places.specs.declared.Spotted.the-variants as spotted
+use Rattle.places.specs.declared.Placed.{Placed}
+use Rattle.places.specs.declared.Placed.the-variants as placed
 
 -- the direct header of an element
 abbrev pub aboveOf : Option ℕ → Above

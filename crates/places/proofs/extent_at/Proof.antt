@@ -1,11 +1,11 @@
 -- The extent of an element that is found lies in the file (`spotted-inside`), so it is a part of the slice.
 use mathlib.Core.Path.{sym, _∙_}
 use native.Mathlib.Omega.{arith}
-use Rattle.reading.specs.Places.{extentAnswer, extentBytes}
-use Rattle.reading.proofs.Places.{Inside, spotted-inside}
+use Rattle.places.specs.Places.{extentAnswer, extentBytes}
+use Rattle.places.proofs.Places.{Inside, spotted-inside}
 use borrow.Author.Needs.{needs}
-use Rattle.reading.proofs.extent_at.Statement.{statement}
-use Rattle.reading.proofs.extent_at.Tie as tie
+use Rattle.places.proofs.extent_at.Statement.{statement}
+use Rattle.places.proofs.extent_at.Tie as tie
 
 -- the extent lies in the file
 inside : (c : tie.After-known-told) →

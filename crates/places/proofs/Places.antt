@@ -20,13 +20,13 @@ use Rattle.grammar.proofs.Forest.{Forest, flat, Wf, spots}
 use Rattle.grammar.proofs.Places.{spot-after, spot-within}
 use Rattle.grammar.proofs.Whole.{FileTree, file-tree}
 use Rattle.grammar.proofs.Exact.{accepted-is}
-use Rattle.reading.specs.declared.Above.{Above}
-use Rattle.reading.specs.declared.Spotted.{Spotted}
-use Rattle.reading.specs.declared.Spotted.the-variants as spotted
-use Rattle.reading.specs.declared.Placed.the-variants as placed
-use Rattle.reading.specs.Places.{foundBy, spottedAt, placedAt}
-use Rattle.reading.specs.Descent.{descentTo, locateOf}
-use Rattle.reading.proofs.Descent.{locate-tree}
+use Rattle.places.specs.declared.Above.{Above}
+use Rattle.places.specs.declared.Spotted.{Spotted}
+use Rattle.places.specs.declared.Spotted.the-variants as spotted
+use Rattle.places.specs.declared.Placed.the-variants as placed
+use Rattle.places.specs.Places.{foundBy, spottedAt, placedAt}
+use Rattle.places.specs.Descent.{descentTo, locateOf}
+use Rattle.places.proofs.Descent.{locate-tree}
 
 ---- the descent to a place before the marker
 

@@ -18,14 +18,14 @@ use Rattle.files.specs.declared.Reached.{Reached}
 use Rattle.files.specs.declared.Reached.the-variants as reached
 use Rattle.grammar.proofs.Forest.{flat}
 use Rattle.grammar.proofs.Stands.{stands-left}
-use Rattle.reading.specs.declared.Above.the-variants.{Top}
-use Rattle.reading.specs.declared.Spotted.{Spotted}
-use Rattle.reading.specs.declared.Spotted.the-variants as spotted
-use Rattle.reading.specs.declared.Placed.the-variants as placed
-use Rattle.reading.specs.Places.{placedAt}
-use Rattle.reading.specs.Descent.{extentWords, IsLocated}
-use Rattle.reading.proofs.Descent.{extent-weight, step-over, descent-is}
-use Rattle.reading.proofs.Places.{locate-before, locate-after, placed-refused, placed-located}
+use Rattle.places.specs.declared.Above.the-variants.{Top}
+use Rattle.places.specs.declared.Spotted.{Spotted}
+use Rattle.places.specs.declared.Spotted.the-variants as spotted
+use Rattle.places.specs.declared.Placed.the-variants as placed
+use Rattle.places.specs.Places.{placedAt}
+use Rattle.places.specs.Descent.{extentWords, IsLocated}
+use Rattle.places.proofs.Descent.{extent-weight, step-over, descent-is}
+use Rattle.places.proofs.Places.{locate-before, locate-after, placed-refused, placed-located}
 use Rattle.grammar.proofs.Tops.{Judged, judged-none, judged-done, judged-read, judged-on, judged-more, Arrived, arrived}
 
 -- what is found from an element at the top on is what is found from the start

@@ -1,9 +1,9 @@
 -- The answer goes by the cases of what is found at the place.
 use mathlib.Core.Path.{sym, _∙_}
-use Rattle.reading.specs.Places.{extentAnswer}
+use Rattle.places.specs.Places.{extentAnswer}
 use borrow.Author.Needs.{needs}
-use Rattle.reading.proofs.extent_answer.Statement.{statement}
-use Rattle.reading.proofs.extent_answer.Tie as tie
+use Rattle.places.proofs.extent_answer.Statement.{statement}
+use Rattle.places.proofs.extent_answer.Tie as tie
 
 spotted-at-requires : tie.Need-spotted-at-requires
 spotted-at-requires c κs = search needs

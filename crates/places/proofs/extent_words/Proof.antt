@@ -2,10 +2,10 @@
 use Prim.Native.Nat.{_+_}
 use mathlib.Core.Path.{sym, ap, _∙_}
 use Rattle.kinds.specs.Kinds.{isHeader}
-use Rattle.reading.proofs.Descent.{words-header, words-plain}
+use Rattle.places.proofs.Descent.{words-header, words-plain}
 use borrow.Author.Needs.{needs}
-use Rattle.reading.proofs.extent_words.Statement.{statement}
-use Rattle.reading.proofs.extent_words.Tie as tie
+use Rattle.places.proofs.extent_words.Statement.{statement}
+use Rattle.places.proofs.extent_words.Tie as tie
 
 type-at-requires : tie.Need-type-at-requires
 type-at-requires c κs = search needs

@@ -2,11 +2,11 @@
 use mathlib.Core.Path.{sym, _∙_}
 use native.Mathlib.Omega.{arith}
 use Rattle.words.proofs.Laws.{length-words}
-use Rattle.reading.proofs.Descent.{descent-is}
-use Rattle.reading.proofs.Places.{locate-before, locate-after, locate-outside}
+use Rattle.places.proofs.Descent.{descent-is}
+use Rattle.places.proofs.Places.{locate-before, locate-after, locate-outside}
 use borrow.Author.Needs.{needs}
-use Rattle.reading.proofs.locate.Statement.{statement}
-use Rattle.reading.proofs.locate.Tie as tie
+use Rattle.places.proofs.locate.Statement.{statement}
+use Rattle.places.proofs.locate.Tie as tie
 
 descend-requires : tie.Need-descend-requires
 descend-requires c κs = search needs

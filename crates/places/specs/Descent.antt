@@ -8,10 +8,10 @@ use lib.ListN.{length}
 use lib.Dec.{eqb, leb, ltb}
 use Rattle.elements.specs.Header.{typeAt, sizeAt, extentAt}
 use Rattle.kinds.specs.Kinds.{isHeader}
-use Rattle.reading.specs.declared.Above.{Above}
-use Rattle.reading.specs.declared.Above.the-variants.{Top, Under}
-use Rattle.reading.specs.declared.Spotted.{Spotted}
-use Rattle.reading.specs.declared.Spotted.the-variants as spotted
+use Rattle.places.specs.declared.Above.{Above}
+use Rattle.places.specs.declared.Above.the-variants.{Top, Under}
+use Rattle.places.specs.declared.Spotted.{Spotted}
+use Rattle.places.specs.declared.Spotted.the-variants as spotted
 
 -- the words of an element with its extent: of a header 19 and the total, else its own
 unfoldable pub extentWords : List ℕ → ℕ → ℕ
