@@ -10,7 +10,7 @@ ghost use Rattle.names.specs.Names.{packed, unpacked};
 ghost use Rattle.files.specs.Judge.{judgeOf};
 ghost use Rattle.finder.specs.Finder.{findOf};
 ghost use Rattle.places.specs.Places.{extentAnswer};
-ghost use Rattle.reading.specs.Views.{pointOf};
+ghost use Rattle.reading.specs.Points.{pointOf};
 ghost use Rattle.answers.specs.Answers.{Replied};
 ghost use Rattle.dgn.specs.Answers.{judgeReply, findReply, extentReply, pointReply, packReply, unpackReply};
 

@@ -1,5 +1,5 @@
-// Places of an accepted file: the element that starts at a place, its depth, its direct header and its extent. Every call
-// judges once and then goes straight to its place. Definitions: specs/Places, specs/Descent.
+// Places of an accepted file: the element that starts at a place, its depth, its direct header and its extent. Every
+// call judges once and then goes straight to its place. Definitions: specs/Places, specs/Descent.
 ghost use mathlib.Core.Path.{_≡_};
 ghost use Prim.Native.Nat.{_/_, _<_};
 ghost use lib.ListN.{length};

@@ -26,7 +26,8 @@ use Rattle.places.specs.declared.Spotted.the-variants as spotted
 use Rattle.reading.specs.declared.Point.the-variants as point
 use Rattle.reading.specs.declared.Attribute.the-variants as attribute
 use Rattle.places.specs.Places.{spottedAt}
-use Rattle.reading.specs.Views.{pointCount, beforePoints, pointAt, pointOf, attributeBy, linkageOf}
+use Rattle.reading.specs.Points.{pointCount, beforePoints, pointAt, pointOf}
+use Rattle.reading.specs.Linkages.{attributeBy, linkageOf}
 
 ---- a point
 

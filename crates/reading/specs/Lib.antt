@@ -1,3 +1,3 @@
-pub mod Views
+pub mod Points
+pub mod Linkages
 pub mod Numbers
-pub mod Starts

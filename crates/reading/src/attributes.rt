@@ -1,10 +1,10 @@
-// The linkages of an element by number. Definitions: specs/Views.
+// The linkages of an element by number. Definitions: specs/Linkages.
 ghost use mathlib.Core.Path.{_≡_};
 ghost use Prim.Native.Nat.{_/_, _<_};
 ghost use lib.ListN.{length};
 ghost use Rattle.words.specs.Words.{words};
 ghost use Rattle.elements.specs.Attributes.{hasAttributes};
-ghost use Rattle.reading.specs.Views.{attributeBy, linkageOf};
+ghost use Rattle.reading.specs.Linkages.{attributeBy, linkageOf};
 use super::Attribute;
 use places::Spotted;
 use places::spotted_at;

@@ -1,73 +1,10 @@
-// Reading an element of an accepted file: views, points and linkages, at the places of crate places. Definitions:
-// specs/Views.
-use places::Above;
-
+// Points and linkages of the element at a place of an accepted file, by number. Definitions: specs/Points,
+// specs/Linkages.
 pub mod attributes;
 pub mod points;
-pub mod views;
 
 pub use attributes::linkage_at;
 pub use points::point_at;
-pub use views::view_at;
-
-// A number that only some types have.
-pub enum Number {
-    Absent,
-    Value { value: usize },
-}
-
-// The range longs, unsigned.
-pub enum Range {
-    Absent,
-    Longs {
-        low_x: usize,
-        low_y: usize,
-        low_z: usize,
-        high_x: usize,
-        high_y: usize,
-        high_z: usize,
-    },
-}
-
-// Words 14 to 17 of known types other than 1.
-pub enum Display {
-    Absent,
-    Words {
-        group: usize,
-        index: usize,
-        properties: usize,
-        style: usize,
-        weight: usize,
-        colour: usize,
-    },
-}
-
-// The two name words of types 1 and 2.
-pub enum Name {
-    Absent,
-    Words { first: usize, second: usize },
-}
-
-pub struct Element {
-    pub level: usize,
-    pub c: bool,
-    pub kind: usize,
-    pub deleted: bool,
-    pub size: usize,
-    pub depth: usize,
-    pub above: Above,
-    pub range: Range,
-    pub display: Display,
-    pub points: Number,
-    pub name: Name,
-    pub total: Number,
-    pub count: Number,
-}
-
-pub enum View {
-    Seen { element: Element },
-    Refused { number: usize, place: usize },
-}
 
 // A point of a 2D or a 3D file.
 pub enum Point {

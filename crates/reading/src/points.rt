@@ -1,9 +1,9 @@
-// The points of an element by number. Definitions: specs/Views.
+// The points of an element by number. Definitions: specs/Points.
 ghost use mathlib.Core.Path.{_≡_};
 ghost use Prim.Native.Nat.{_+_, _/_, _<_, _^_};
 ghost use lib.ListN.{length};
 ghost use Rattle.words.specs.Words.{words};
-ghost use Rattle.reading.specs.Views.{pointCount, beforePoints, pointAt, pointOf};
+ghost use Rattle.reading.specs.Points.{pointCount, beforePoints, pointAt, pointOf};
 use super::Point;
 use places::Spotted;
 use places::spotted_at;

@@ -18,7 +18,7 @@ use Rattle.places.specs.declared.Above.{Above}
 use Rattle.places.specs.declared.Spotted.the-variants as spotted
 use Rattle.reading.specs.declared.Point.the-variants as point
 use Rattle.places.specs.Places.{spottedAt}
-use Rattle.reading.specs.Views.{pointCount as countOf, beforePoints, pointPlace, pointAt, pointOf}
+use Rattle.reading.specs.Points.{pointCount as countOf, beforePoints, pointPlace, pointAt, pointOf}
 use Rattle.reading.proofs.Numbered.{point-there, point-none}
 use Rattle.writer.specs.Words.{pointCount}
 use Rattle.writer.proofs.Bounds.{by-dims}

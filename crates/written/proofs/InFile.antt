@@ -19,7 +19,7 @@ use Rattle.grammar.proofs.Forest.{nil}
 use Rattle.grammar.proofs.Stands.{Stands}
 use Rattle.places.specs.declared.Spotted.the-variants as spotted
 use Rattle.places.specs.Places.{aboveOf, foundBy, spottedAt}
-use Rattle.reading.specs.Views.{elementView}
+use Rattle.views.specs.Views.{elementView}
 use Rattle.places.proofs.Places.{spotted-found}
 use Rattle.edits.specs.Edits.{insert, apply}
 use Rattle.edits.specs.Allowed.{fine, isSome, startsAt, gapOk, depthBy, depthUnder, typeUnder, pieceFault, insertFault, editFault}

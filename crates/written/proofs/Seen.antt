@@ -25,10 +25,10 @@ use Rattle.edits.proofs.Raised.{stands-way}
 use Rattle.places.specs.declared.Above.{Above}
 use Rattle.places.specs.declared.Spotted.{Spotted}
 use Rattle.places.specs.declared.Spotted.the-variants as spotted
-use Rattle.reading.specs.declared.Element.{Element}
-use Rattle.reading.specs.declared.View.the-variants.{Seen}
+use Rattle.views.specs.declared.Element.{Element}
+use Rattle.views.specs.declared.View.the-variants.{Seen}
 use Rattle.places.specs.Places.{foundBy, spottedAt}
-use Rattle.reading.specs.Views.{elementView, viewBy, viewOf}
+use Rattle.views.specs.Views.{elementView, viewBy, viewOf}
 use Rattle.places.proofs.Places.{spot-inside, spotted-found}
 use Rattle.written.proofs.Spans.{stands-at}
 

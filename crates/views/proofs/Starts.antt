@@ -13,8 +13,8 @@ use Rattle.files.specs.Judge.{judgeOf}
 use Rattle.files.specs.Spots.{Spot, spotsOf, firstIf, spotIn}
 use Rattle.files.specs.declared.Judged.the-variants.{Accepted}
 use Rattle.places.specs.Places.{foundBy}
-use Rattle.reading.specs.Views.{viewBy, viewOf}
-use Rattle.reading.specs.Starts.{Starts, Accepts}
+use Rattle.views.specs.Views.{viewBy, viewOf}
+use Rattle.views.specs.Starts.{Starts, Accepts}
 use Rattle.places.proofs.Places.{spotted-found}
 
 none-some : {x : Spot} → _≡_ {A = Option Spot} none (some x) → ⊥

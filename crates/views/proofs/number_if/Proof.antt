@@ -1,7 +1,7 @@
 -- The flag chooses as in `numberIf`.
 use borrow.Author.Needs.{needs}
-use Rattle.reading.proofs.views.number_if.Statement.{statement}
-use Rattle.reading.proofs.views.number_if.Tie as tie
+use Rattle.views.proofs.number_if.Statement.{statement}
+use Rattle.views.proofs.number_if.Tie as tie
 
 returns : tie.Need-returns
 returns c = rw (c .if1 .taken)

@@ -3,8 +3,8 @@ use Prim.Native.Nat.{ℕ}
 use mathlib.Core.Path.{_≡_}
 use mathlib.Core.List.{List, List·Memᴰ}
 use Rattle.files.specs.Spots.{Spot}
-use Rattle.reading.specs.declared.View.{View}
-use Rattle.reading.specs.declared.View.the-variants.{Seen, Refused}
+use Rattle.views.specs.declared.View.{View}
+use Rattle.views.specs.declared.View.the-variants.{Seen, Refused}
 
 -- an element of a list starts at a place
 abbrev pub Starts : List Spot → ℕ → Type 0

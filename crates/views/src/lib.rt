@@ -1,18 +1,71 @@
-// What a view gives of an element. Definitions: specs/Views.
+// What a view gives of the element at a place of an accepted file. Definitions: specs/Views.
 ghost use mathlib.Core.Path.{_≡_};
 ghost use Prim.Native.Nat.{_/_, _<_};
 ghost use lib.ListN.{length};
 ghost use Rattle.words.specs.Words.{words};
-ghost use Rattle.reading.specs.Views.{rangeOf, displayOf, numberIf, nameWords, elementView, viewOf};
-use super::Display;
-use super::Element;
-use super::Name;
-use super::Number;
-use super::Range;
-use super::View;
+ghost use Rattle.views.specs.Views.{rangeOf, displayOf, numberIf, nameWords, elementView, viewOf};
 use places::Above;
 use places::Spotted;
 use places::spotted_at;
+
+// A number that only some types have.
+pub enum Number {
+    Absent,
+    Value { value: usize },
+}
+
+// The range longs, unsigned.
+pub enum Range {
+    Absent,
+    Longs {
+        low_x: usize,
+        low_y: usize,
+        low_z: usize,
+        high_x: usize,
+        high_y: usize,
+        high_z: usize,
+    },
+}
+
+// Words 14 to 17 of known types other than 1.
+pub enum Display {
+    Absent,
+    Words {
+        group: usize,
+        index: usize,
+        properties: usize,
+        style: usize,
+        weight: usize,
+        colour: usize,
+    },
+}
+
+// The two name words of types 1 and 2.
+pub enum Name {
+    Absent,
+    Words { first: usize, second: usize },
+}
+
+pub struct Element {
+    pub level: usize,
+    pub c: bool,
+    pub kind: usize,
+    pub deleted: bool,
+    pub size: usize,
+    pub depth: usize,
+    pub above: Above,
+    pub range: Range,
+    pub display: Display,
+    pub points: Number,
+    pub name: Name,
+    pub total: Number,
+    pub count: Number,
+}
+
+pub enum View {
+    Seen { element: Element },
+    Refused { number: usize, place: usize },
+}
 
 // The range of the element at a place, where it has the words.
 fn range_at(file: &[u8], at: usize) -> Range

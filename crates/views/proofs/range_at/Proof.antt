@@ -1,9 +1,9 @@
 -- With fewer than 14 words there is no range; else each long is read at its place.
 use borrow.Author.Tests.{le-leb, lt-leb}
-use Rattle.reading.specs.Views.{rangeOf}
+use Rattle.views.specs.Views.{rangeOf}
 use borrow.Author.Needs.{needs}
-use Rattle.reading.proofs.views.range_at.Statement.{statement}
-use Rattle.reading.proofs.views.range_at.Tie as tie
+use Rattle.views.proofs.range_at.Statement.{statement}
+use Rattle.views.proofs.range_at.Tie as tie
 
 size-at-requires : tie.Need-size-at-requires
 size-at-requires c κs = search needs

@@ -1,11 +1,11 @@
 -- The place of an element that is found lies in the file (`spotted-inside`), so its words are read.
 use mathlib.Core.Path.{sym, _∙_}
 use native.Mathlib.Omega.{arith}
-use Rattle.reading.specs.Views.{viewOf}
+use Rattle.views.specs.Views.{viewOf}
 use Rattle.places.proofs.Places.{spotted-inside}
 use borrow.Author.Needs.{needs}
-use Rattle.reading.proofs.views.view_at.Statement.{statement}
-use Rattle.reading.proofs.views.view_at.Tie as tie
+use Rattle.views.proofs.view_at.Statement.{statement}
+use Rattle.views.proofs.view_at.Tie as tie
 
 spotted-at-requires : tie.Need-spotted-at-requires
 spotted-at-requires c κs = search needs

@@ -1,10 +1,10 @@
 -- The type says where the two words are, as in `nameWords`.
 use mathlib.Core.Path.{sym, _∙_}
 use borrow.Author.Tests.{eq-eqb, ne-eqb}
-use Rattle.reading.specs.Views.{nameWords}
+use Rattle.views.specs.Views.{nameWords}
 use borrow.Author.Needs.{needs}
-use Rattle.reading.proofs.views.name_at.Statement.{statement}
-use Rattle.reading.proofs.views.name_at.Tie as tie
+use Rattle.views.proofs.name_at.Statement.{statement}
+use Rattle.views.proofs.name_at.Tie as tie
 
 type-at-requires : tie.Need-type-at-requires
 type-at-requires c κs = search needs

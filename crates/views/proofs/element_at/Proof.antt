@@ -1,8 +1,8 @@
 -- Each field is what its call answers.
-use Rattle.reading.specs.Views.{elementView}
+use Rattle.views.specs.Views.{elementView}
 use borrow.Author.Needs.{needs}
-use Rattle.reading.proofs.views.element_at.Statement.{statement}
-use Rattle.reading.proofs.views.element_at.Tie as tie
+use Rattle.views.proofs.element_at.Statement.{statement}
+use Rattle.views.proofs.element_at.Tie as tie
 
 word-requires : tie.Need-word-requires
 word-requires c κs = search needs

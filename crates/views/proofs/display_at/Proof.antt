@@ -1,10 +1,10 @@
 -- The type decides as in `displayOf`, and each word is read at its place.
 use mathlib.Core.Path.{sym, ap, _∙_}
 use Rattle.kinds.specs.Kinds.{isLinked}
-use Rattle.reading.specs.Views.{displayOf}
+use Rattle.views.specs.Views.{displayOf}
 use borrow.Author.Needs.{needs}
-use Rattle.reading.proofs.views.display_at.Statement.{statement}
-use Rattle.reading.proofs.views.display_at.Tie as tie
+use Rattle.views.proofs.display_at.Statement.{statement}
+use Rattle.views.proofs.display_at.Tie as tie
 
 type-at-requires : tie.Need-type-at-requires
 type-at-requires c κs = search needs
