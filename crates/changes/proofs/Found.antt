@@ -10,10 +10,10 @@ use lib.ListN.{length, length-append}
 use Rattle.words.specs.Words.{words}
 use Rattle.files.specs.Spots.{Spot, spotsOf, spotIn}
 use Rattle.grammar.proofs.Forest.{Forest, flat}
-use Rattle.reading.specs.declared.Above.{Above}
-use Rattle.reading.specs.declared.Above.the-variants.{Top, Under}
-use Rattle.reading.specs.declared.Spotted.the-variants.{At}
-use Rattle.reading.specs.Places.{aboveOf, foundBy}
+use Rattle.places.specs.declared.Above.{Above}
+use Rattle.places.specs.declared.Above.the-variants.{Top, Under}
+use Rattle.places.specs.declared.Spotted.the-variants.{At}
+use Rattle.places.specs.Places.{aboveOf, foundBy}
 use Rattle.edits.specs.Edits.{around, downTo, extentIn, raise}
 use Rattle.edits.specs.Allowed.{fine, gapOk, roomFault}
 use Rattle.edits.proofs.Accepted.{Accepted}

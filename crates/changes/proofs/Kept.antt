@@ -8,8 +8,8 @@ use native.Mathlib.Omega.{arith}
 use lib.ListN.{length, drop, set}
 use Rattle.words.specs.Words.{words, Below, wordAt, putWord}
 use Rattle.words.proofs.Laws.{length-put, words-put}
-use Rattle.reading.specs.declared.Above.{Above}
-use Rattle.reading.specs.declared.Above.the-variants.{Top, Under}
+use Rattle.places.specs.declared.Above.{Above}
+use Rattle.places.specs.declared.Above.the-variants.{Top, Under}
 use Rattle.edits.specs.Edits.{flagged, namePlace}
 use Rattle.edits.specs.Calls.{stored}
 use Rattle.edits.proofs.Fields.{flagged-small}

@@ -11,10 +11,10 @@ use lib.Seq.{length-take-le}
 use Rattle.words.specs.Words.{words, Below}
 use Rattle.words.proofs.Laws.{length-words, words-below}
 use Rattle.files.specs.Spots.{spotsOf, spotIn}
-use Rattle.reading.specs.declared.Above.{Above}
-use Rattle.reading.specs.declared.Spotted.the-variants.{At}
-use Rattle.reading.specs.Descent.{locateOf}
-use Rattle.reading.proofs.Places.{spot-inside}
+use Rattle.places.specs.declared.Above.{Above}
+use Rattle.places.specs.declared.Spotted.the-variants.{At}
+use Rattle.places.specs.Descent.{locateOf}
+use Rattle.places.proofs.Places.{spot-inside}
 use Rattle.edits.proofs.Lengths.{length-raise}
 use Rattle.edits.specs.Edits.{mark, rename, insert, remove, namePlace, around, downTo, extentIn, raise, apply}
 use Rattle.edits.specs.Allowed.{fine, orElse, unless, gapOk, pieceFault, roomFault, insertFault}

@@ -11,7 +11,7 @@ use borrow.Author.Tests.{eq-eqb, ne-eqb, le-leb, lt-leb}
 use Rattle.words.specs.Words.{words, wordAt, putWord}
 use Rattle.words.proofs.Laws.{length-put, put-out, word-out}
 use Rattle.elements.specs.Header.{typeAt}
-use Rattle.reading.specs.declared.Above.{Above}
+use Rattle.places.specs.declared.Above.{Above}
 use Rattle.edits.specs.Edits.{flagged, namePlace}
 use Rattle.buffers.specs.Files.{wordsInserted, wordsRemoved}
 use Rattle.changes.specs.Changes.{flagPut, namePut, nameBytes, cellName, totalsUnder, usedTotals, pieceIn, extentOut}

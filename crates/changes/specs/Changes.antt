@@ -7,8 +7,8 @@ use mathlib.Core.Bool.{Bool, true, false, cond}
 use lib.ListN.{length, take, drop}
 use lib.Dec.{leb}
 use Rattle.words.specs.Words.{words, bytes, wordAt, putWord}
-use Rattle.reading.specs.declared.Above.{Above}
-use Rattle.reading.specs.declared.Above.the-variants.{Top, Under}
+use Rattle.places.specs.declared.Above.{Above}
+use Rattle.places.specs.declared.Above.the-variants.{Top, Under}
 use Rattle.edits.specs.Edits.{flagged, namePlace}
 use Rattle.totals.specs.Totals.{totalsPut}
 use Rattle.buffers.specs.Files.{wordsInserted, wordsRemoved}

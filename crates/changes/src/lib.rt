@@ -7,7 +7,7 @@ ghost use lib.ListN.{length};
 ghost use Rattle.words.specs.Words.{words};
 ghost use Rattle.edits.specs.Edits.{namePlace};
 ghost use Rattle.changes.specs.Changes.{flagPut, namePut, nameBytes, cellName, totalsUnder, pieceIn, extentOut};
-use reading::Above;
+use places::Above;
 
 // Marks the element at a place of a file's used part deleted, or live.
 pub fn mark_element(used: &mut [u8], place: usize, deleted: bool)

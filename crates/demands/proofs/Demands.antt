@@ -20,9 +20,9 @@ use Rattle.grammar.specs.Grammar.{File}
 use Rattle.grammar.specs.Reading.{Reading}
 use Rattle.grammar.proofs.Exact as exact
 use Rattle.grammar.proofs.Numbers as numbers
-use Rattle.reading.specs.Views.{viewOf}
-use Rattle.reading.specs.Starts.{Starts, Accepts}
-use Rattle.reading.proofs.Starts as starts
+use Rattle.views.specs.Views.{viewOf}
+use Rattle.views.specs.Starts.{Starts, Accepts}
+use Rattle.views.proofs.Starts as starts
 use Rattle.finder.specs.Finder.{findOf}
 use Rattle.finder.specs.Answers.{Finds, Stored}
 use Rattle.finder.specs.declared.Found.the-variants as found

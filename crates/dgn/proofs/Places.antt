@@ -23,8 +23,8 @@ use Rattle.files.specs.declared.Verdict.the-variants.{Good, Fault}
 use Rattle.files.specs.declared.Judged.{Judged}
 use Rattle.files.specs.declared.Judged.the-variants as judged
 use Rattle.files.specs.Spots.{Spot, spotsOf, spotIn}
-use Rattle.reading.specs.Places.{spottedBy, spottedAt}
-use Rattle.reading.specs.Views.{pointCount, pointBy, pointOf}
+use Rattle.places.specs.Places.{spottedBy, spottedAt}
+use Rattle.reading.specs.Points.{pointCount, pointBy, pointOf}
 use Rattle.reading.specs.declared.Point.the-variants as points
 
 -- the place of a verdict is at most b

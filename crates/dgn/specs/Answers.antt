@@ -11,8 +11,9 @@ use Rattle.files.specs.Judge.{judgedNumbers}
 use Rattle.files.specs.declared.Judged.{Judged}
 use Rattle.finder.specs.Finder.{foundNumbers}
 use Rattle.finder.specs.declared.Found.{Found}
-use Rattle.reading.specs.Numbers.{extentNumbers, pointNumber, pointGiven}
-use Rattle.reading.specs.declared.Extent.{Extent}
+use Rattle.places.specs.Numbers.{extentNumbers}
+use Rattle.reading.specs.Numbers.{pointNumber, pointGiven}
+use Rattle.places.specs.declared.Extent.{Extent}
 use Rattle.reading.specs.declared.Point.{Point}
 use Rattle.answers.specs.Answers.{Reply, replyOf}
 

@@ -9,8 +9,8 @@ ghost use lib.Seq.{sets};
 ghost use Rattle.names.specs.Names.{packed, unpacked};
 ghost use Rattle.files.specs.Judge.{judgeOf};
 ghost use Rattle.finder.specs.Finder.{findOf};
-ghost use Rattle.reading.specs.Places.{extentAnswer};
-ghost use Rattle.reading.specs.Views.{pointOf};
+ghost use Rattle.places.specs.Places.{extentAnswer};
+ghost use Rattle.reading.specs.Points.{pointOf};
 ghost use Rattle.answers.specs.Answers.{Replied};
 ghost use Rattle.dgn.specs.Answers.{judgeReply, findReply, extentReply, pointReply, packReply, unpackReply};
 
@@ -71,13 +71,13 @@ pub extern "C" fn dgn_extent(file: &[u8], dim: usize, place: usize, out: &mut [u
     if out.len() < 2 {
         return 1;
     }
-    match reading::extent_answer(file, dim, place) {
-        reading::Extent::At { start, end } => {
+    match places::extent_answer(file, dim, place) {
+        places::Extent::At { start, end } => {
             out[0] = start;
             out[1] = end;
             0
         }
-        reading::Extent::Refused {
+        places::Extent::Refused {
             number,
             place: fault,
         } => {

@@ -9,7 +9,7 @@ ghost use Rattle.faults.specs.Faults.{headerOf};
 ghost use Rattle.answers.specs.Answers.{Replied};
 ghost use Rattle.dgn_edits.specs.Editing.{editReply, StepLeft, MarkLeft, headerGiven};
 use edits::Edited;
-use reading::Above;
+use places::Above;
 
 // The top, as a header's place.
 const TOP: usize = 18446744073709551615;

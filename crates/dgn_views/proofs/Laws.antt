@@ -6,18 +6,19 @@ use native.Mathlib.Omega.{arith}
 use native.Mathlib.Nat.{add-zero}
 use lib.ListN.{length, getD, set, take, length-append}
 use lib.Seq.{sets, take-suc, length-take-le}
-use Rattle.reading.specs.declared.Above.{Above}
-use Rattle.reading.specs.declared.Above.the-variants as aboves
-use Rattle.reading.specs.declared.Number.{Number}
-use Rattle.reading.specs.declared.Number.the-variants as numbers
-use Rattle.reading.specs.declared.Range.{Range}
-use Rattle.reading.specs.declared.Range.the-variants as ranges
-use Rattle.reading.specs.declared.Display.{Display}
-use Rattle.reading.specs.declared.Display.the-variants as displays
-use Rattle.reading.specs.declared.Name.{Name}
-use Rattle.reading.specs.declared.Name.the-variants as cells
-use Rattle.reading.specs.declared.Element.{Element}
-use Rattle.reading.specs.Numbers.{flag, aboveNumbers, numberNumbers, rangeNumbers, displayNumbers, nameNumbers, commonNumbers, kindNumbers, elementNumbers}
+use Rattle.places.specs.declared.Above.{Above}
+use Rattle.places.specs.declared.Above.the-variants as aboves
+use Rattle.views.specs.declared.Number.{Number}
+use Rattle.views.specs.declared.Number.the-variants as numbers
+use Rattle.views.specs.declared.Range.{Range}
+use Rattle.views.specs.declared.Range.the-variants as ranges
+use Rattle.views.specs.declared.Display.{Display}
+use Rattle.views.specs.declared.Display.the-variants as displays
+use Rattle.views.specs.declared.Name.{Name}
+use Rattle.views.specs.declared.Name.the-variants as cells
+use Rattle.views.specs.declared.Element.{Element}
+use Rattle.places.specs.Numbers.{flag}
+use Rattle.views.specs.Numbers.{aboveNumbers, numberNumbers, rangeNumbers, displayNumbers, nameNumbers, commonNumbers, kindNumbers, elementNumbers}
 
 -- numbers put behind others
 sets-then : (s : List ℕ) (at : ℕ) (x y : List ℕ) (m : ℕ) → m ≡ at + length x → sets s at (x ++ y) ≡ sets (sets s at x) m y

@@ -1,8 +1,9 @@
 -- The numbers of each answer about an element. The library's own definitions decide them.
 use Prim.Native.Nat.{ℕ}
-use Rattle.reading.specs.Numbers.{attributeNumbers, viewNumbers}
+use Rattle.views.specs.Numbers.{viewNumbers}
+use Rattle.reading.specs.Numbers.{attributeNumbers}
 use Rattle.reading.specs.declared.Attribute.{Attribute}
-use Rattle.reading.specs.declared.View.{View}
+use Rattle.views.specs.declared.View.{View}
 use Rattle.answers.specs.Answers.{Reply, replyOf}
 
 abbrev pub viewReply : View → Reply ℕ

@@ -4,8 +4,10 @@ ghost use mathlib.Core.Path.{_≡_};
 ghost use Prim.Native.Nat.{_+_, _≤_};
 ghost use lib.ListN.{length};
 ghost use lib.Seq.{sets};
-ghost use Rattle.reading.specs.Views.{viewOf, linkageOf};
-ghost use Rattle.reading.specs.Numbers.{flag, aboveNumbers, numberNumbers, rangeNumbers, displayNumbers, nameNumbers, commonNumbers, kindNumbers};
+ghost use Rattle.views.specs.Views.{viewOf};
+ghost use Rattle.reading.specs.Linkages.{linkageOf};
+ghost use Rattle.places.specs.Numbers.{flag};
+ghost use Rattle.views.specs.Numbers.{aboveNumbers, numberNumbers, rangeNumbers, displayNumbers, nameNumbers, commonNumbers, kindNumbers};
 ghost use Rattle.answers.specs.Answers.{Replied};
 ghost use Rattle.dgn_views.specs.Views.{viewReply, linkageReply};
 
@@ -29,32 +31,32 @@ fn flag_of(b: bool) -> usize
 }
 
 // The direct header.
-fn above_numbers(above: reading::Above) -> [usize; 2]
+fn above_numbers(above: places::Above) -> [usize; 2]
     ensures { λ r. ⌜ r ≡ aboveNumbers above ⌝ }
 {
     match above {
-        reading::Above::Top => [0, 0],
-        reading::Above::Under { place } => [1, place],
+        places::Above::Top => [0, 0],
+        places::Above::Under { place } => [1, place],
     }
 }
 
 // A number that only some types have.
-fn number_numbers(number: reading::Number) -> [usize; 2]
+fn number_numbers(number: views::Number) -> [usize; 2]
     ensures { λ r. ⌜ r ≡ numberNumbers number ⌝ }
 {
     match number {
-        reading::Number::Absent => [0, 0],
-        reading::Number::Value { value } => [1, value],
+        views::Number::Absent => [0, 0],
+        views::Number::Value { value } => [1, value],
     }
 }
 
 // The range.
-fn range_numbers(range: reading::Range) -> [usize; 7]
+fn range_numbers(range: views::Range) -> [usize; 7]
     ensures { λ r. ⌜ r ≡ rangeNumbers range ⌝ }
 {
     match range {
-        reading::Range::Absent => [0; 7],
-        reading::Range::Longs {
+        views::Range::Absent => [0; 7],
+        views::Range::Longs {
             low_x,
             low_y,
             low_z,
@@ -66,12 +68,12 @@ fn range_numbers(range: reading::Range) -> [usize; 7]
 }
 
 // Words 14 to 17.
-fn display_numbers(display: reading::Display) -> [usize; 7]
+fn display_numbers(display: views::Display) -> [usize; 7]
     ensures { λ r. ⌜ r ≡ displayNumbers display ⌝ }
 {
     match display {
-        reading::Display::Absent => [0; 7],
-        reading::Display::Words {
+        views::Display::Absent => [0; 7],
+        views::Display::Words {
             group,
             index,
             properties,
@@ -83,17 +85,17 @@ fn display_numbers(display: reading::Display) -> [usize; 7]
 }
 
 // The name words.
-fn name_numbers(name: reading::Name) -> [usize; 3]
+fn name_numbers(name: views::Name) -> [usize; 3]
     ensures { λ r. ⌜ r ≡ nameNumbers name ⌝ }
 {
     match name {
-        reading::Name::Absent => [0, 0, 0],
-        reading::Name::Words { first, second } => [1, first, second],
+        views::Name::Absent => [0, 0, 0],
+        views::Name::Words { first, second } => [1, first, second],
     }
 }
 
 // Numbers 0 to 14 of a view.
-fn put_common(out: &mut [usize], element: reading::Element)
+fn put_common(out: &mut [usize], element: views::Element)
     requires { ⌜ 15 ≤ length (now out) ⌝ }
     ensures { λ _. ⌜ now (out .exit) ≡ sets (now (out .entry)) 0 (commonNumbers element) ⌝ }
 {
@@ -115,7 +117,7 @@ fn put_common(out: &mut [usize], element: reading::Element)
 }
 
 // Numbers 15 to 31 of a view.
-fn put_kind(out: &mut [usize], element: reading::Element)
+fn put_kind(out: &mut [usize], element: views::Element)
     requires { ⌜ 32 ≤ length (now out) ⌝ }
     ensures { λ _. ⌜ now (out .exit) ≡ sets (now (out .entry)) 15 (kindNumbers element) ⌝ }
 {
@@ -139,13 +141,13 @@ pub extern "C" fn dgn_view(file: &[u8], dim: usize, place: usize, out: &mut [usi
     if out.len() < 32 {
         return 1;
     }
-    match reading::view_at(file, dim, place) {
-        reading::View::Seen { element } => {
+    match views::view_at(file, dim, place) {
+        views::View::Seen { element } => {
             put_common(out, element);
             put_kind(out, element);
             0
         }
-        reading::View::Refused {
+        views::View::Refused {
             number,
             place: fault,
         } => {

@@ -10,13 +10,13 @@ use lib.Dec.{eqb, leb, ltb}
 use borrow.Author.Tests.{ltb-true, ltb-false, leb-true, leb-false, eqb-true, eqb-false}
 use Rattle.elements.specs.Header.{typeAt, sizeAt}
 use Rattle.kinds.specs.Kinds.{isHeader}
-use Rattle.reading.specs.declared.Above.{Above}
-use Rattle.reading.specs.declared.Above.the-variants.{Top, Under}
-use Rattle.reading.specs.declared.Spotted.{Spotted}
-use Rattle.reading.specs.declared.Spotted.the-variants as spotted
-use Rattle.reading.specs.Descent.{extentWords, locateFrom, descentTo, locateOf}
-use Rattle.reading.proofs.Descent.{words-two, locate-over, locate-into, locate-own, locate-here, locate-past}
-use Rattle.reading.proofs.Places.{locate-before, locate-after, locate-outside}
+use Rattle.places.specs.declared.Above.{Above}
+use Rattle.places.specs.declared.Above.the-variants.{Top, Under}
+use Rattle.places.specs.declared.Spotted.{Spotted}
+use Rattle.places.specs.declared.Spotted.the-variants as spotted
+use Rattle.places.specs.Descent.{extentWords, locateFrom, descentTo, locateOf}
+use Rattle.places.proofs.Descent.{words-two, locate-over, locate-into, locate-own, locate-here, locate-past}
+use Rattle.places.proofs.Places.{locate-before, locate-after, locate-outside}
 
 -- a refusal finds nothing
 refused-at : {n q end d : ℕ} {a : Above} → _≡_ {A = Spotted} (spotted.Refused n q) (spotted.At end d a) → ⊥

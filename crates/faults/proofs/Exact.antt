@@ -21,11 +21,11 @@ use Rattle.files.specs.declared.Verdict.{Verdict}
 use Rattle.files.specs.declared.Verdict.the-variants.{Good, Fault}
 use Rattle.files.specs.Spots.{Spot, spotsOf, spotIn}
 use Rattle.files.specs.declared.Judged.the-variants as judged
-use Rattle.reading.specs.declared.Above.{Above}
-use Rattle.reading.specs.declared.Above.the-variants.{Top, Under}
-use Rattle.reading.specs.Places.{aboveOf, foundBy}
-use Rattle.reading.specs.Descent.{locateOf}
-use Rattle.reading.proofs.Places.{locate-is}
+use Rattle.places.specs.declared.Above.{Above}
+use Rattle.places.specs.declared.Above.the-variants.{Top, Under}
+use Rattle.places.specs.Places.{aboveOf, foundBy}
+use Rattle.places.specs.Descent.{locateOf}
+use Rattle.places.proofs.Places.{locate-is}
 use Rattle.edits.specs.Allowed.{fine, fault, orElse, unless, isSome, startsAt, flagDiffers, isCell, sameHeader, under?, markFault, renameFault, removeFault, gapOk, pieceFault, insertFault, editFault}
 use Rattle.edits.specs.Records.{isFine, reversal, reversible}
 use Rattle.edits.proofs.Accepted.{Accepted as Standing}

@@ -7,8 +7,8 @@ use native.Mathlib.Omega.{arith}
 use lib.ListN.{length}
 use lib.Dec.{eqb}
 use Rattle.words.specs.Words.{words}
-use Rattle.reading.specs.declared.Above.{Above}
-use Rattle.reading.specs.declared.Spotted.{Spotted}
+use Rattle.places.specs.declared.Above.{Above}
+use Rattle.places.specs.declared.Spotted.{Spotted}
 use Rattle.edits.specs.Allowed.{Fault?, fine, fault, orElse}
 use Rattle.edits.specs.Records.{isFine}
 use Rattle.faults.specs.declared.Components.the-variants as components

@@ -16,11 +16,11 @@ use Rattle.files.specs.declared.Verdict.{Verdict}
 use Rattle.files.specs.declared.Verdict.the-variants.{Good, Fault}
 use Rattle.files.specs.declared.Judged.{Judged}
 use Rattle.files.specs.declared.Judged.the-variants as judged
-use Rattle.reading.specs.declared.Spotted.{Spotted}
-use Rattle.reading.specs.declared.Placed.the-variants as placed
-use Rattle.reading.specs.Places.{placedAt}
-use Rattle.reading.specs.Descent.{locateOf}
-use Rattle.reading.proofs.Places.{refused-judged, judged-located}
+use Rattle.places.specs.declared.Spotted.{Spotted}
+use Rattle.places.specs.declared.Placed.the-variants as placed
+use Rattle.places.specs.Places.{placedAt}
+use Rattle.places.specs.Descent.{locateOf}
+use Rattle.places.proofs.Places.{refused-judged, judged-located}
 use Rattle.edits.specs.Allowed.{fine, orElse, unless}
 use Rattle.edits.specs.Calls.{usedWords, endsInMarker, sessionOk, fileFault, sessionFault}
 use Rattle.edits.proofs.Faults.{orElse-fine, unless-fine}

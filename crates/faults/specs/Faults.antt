@@ -13,11 +13,11 @@ use Rattle.elements.specs.Header.{typeAt}
 use Rattle.kinds.specs.Kinds.{isHeader}
 use Rattle.elements.specs.Rules.{check, firstFault}
 use Rattle.files.specs.Judge.{elementOf}
-use Rattle.reading.specs.declared.Above.{Above}
-use Rattle.reading.specs.declared.Above.the-variants.{Top, Under}
-use Rattle.reading.specs.declared.Spotted.{Spotted}
-use Rattle.reading.specs.declared.Spotted.the-variants as spotted
-use Rattle.reading.specs.Descent.{locateOf}
+use Rattle.places.specs.declared.Above.{Above}
+use Rattle.places.specs.declared.Above.the-variants.{Top, Under}
+use Rattle.places.specs.declared.Spotted.{Spotted}
+use Rattle.places.specs.declared.Spotted.the-variants as spotted
+use Rattle.places.specs.Descent.{locateOf}
 use Rattle.edits.specs.Allowed.{Fault?, fine, fault, orElse, unless, flagDiffers, isCell, wholeBy}
 use Rattle.edits.specs.Records.{Rec, flag, renamed, inserted, removed, isFine}
 use Rattle.totals.specs.Totals.{roomOf, roomFaultBy}

@@ -8,7 +8,7 @@ use lib.ListN.{length}
 use lib.Dec.{eqb, leb}
 use Rattle.edits.specs.Allowed.{Fault?, fine, fault}
 use Rattle.edits.specs.Calls.{Session, usedWords, sessionFault}
-use Rattle.reading.specs.Descent.{locateOf}
+use Rattle.places.specs.Descent.{locateOf}
 use Rattle.faults.specs.declared.Opened.{Opened}
 use Rattle.faults.specs.declared.Opened.the-variants.{Ready, Refused}
 

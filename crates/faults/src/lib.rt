@@ -8,13 +8,13 @@ ghost use lib.ListN.{length};
 ghost use lib.Dec.{eqb};
 ghost use Rattle.words.specs.Words.{words};
 ghost use Rattle.files.specs.Judge.{topOf};
-ghost use Rattle.reading.specs.declared.Above.the-variants.{Under};
+ghost use Rattle.places.specs.declared.Above.the-variants.{Under};
 ghost use Rattle.edits.specs.Allowed.{orElse, unless, flagDiffers, isCell};
 ghost use Rattle.edits.specs.Calls.{endsInMarker, usedWords, fileFault};
 ghost use Rattle.faults.specs.Opening.{openedBy, lengthsOk, OpenedAs};
 ghost use Rattle.faults.specs.Faults.{isAt, markNumber, renameNumber, sameAbove, standsUnder, componentsOf, pieceRefusal, roomUnder, insertRefusal, answerOf, reversesAt};
-use reading::Above;
-use reading::Spotted;
+use places::Above;
+use places::Spotted;
 
 // What opening a session answers: the place of the file's marker and what starts at a place of it, or a refusal.
 pub enum Opened {
@@ -84,15 +84,15 @@ fn open_file(used: &[u8], dim: usize, place: usize) -> Opened
     ensures { λ r. ⌜ r ≡ openedBy (orElse (unless (eqb dim 2 || eqb dim 3) 1) (fileFault (topOf dim (words (now (used .entry)))) (length (words (now (used .entry))) - 1))) (words (now (used .entry))) place ⌝ }
 {
     let last = used.len() / 2 - 1;
-    match reading::placed_at(used, dim, place) {
-        reading::Placed::Refused {
+    match places::placed_at(used, dim, place) {
+        places::Placed::Refused {
             number,
             place: fault,
         } => Opened::Refused {
             number,
             place: fault,
         },
-        reading::Placed::Judged { marker, found } => {
+        places::Placed::Judged { marker, found } => {
             if marker == last {
                 return Opened::Ready { marker, found };
             }
@@ -230,7 +230,7 @@ fn stands_under(found: Spotted, header: Above) -> bool
 fn components_under(used: &[u8], marker: usize, header: usize) -> Components
     ensures { λ r. ⌜ r ≡ componentsOf (words (now (used .entry))) marker (Under header) ⌝ }
 {
-    match reading::locate(used, header, marker) {
+    match places::locate(used, header, marker) {
         Spotted::At {
             end,
             depth,

@@ -12,7 +12,7 @@ use Rattle.words.proofs.Laws.{words-below}
 use Rattle.names.specs.Names.{packed}
 use Rattle.names.specs.declared.Packed.the-variants as name
 use Rattle.files.specs.Spots.{spotsOf}
-use Rattle.reading.specs.declared.Spotted.{Spotted}
+use Rattle.places.specs.declared.Spotted.{Spotted}
 use Rattle.edits.specs.declared.Edited.{Edited}
 use Rattle.edits.specs.declared.Edited.the-variants.{Made, Refused}
 use Rattle.edits.specs.Edits.{mark, rename, namePlace}

@@ -8,7 +8,7 @@ ghost use Rattle.marking.specs.Marking.{cellRenamed};
 use buffers::TOP;
 use edits::Edited;
 use faults::Opened;
-use reading::Spotted;
+use places::Spotted;
 
 // Marks the element at a place deleted, or live, in an open session.
 fn mark_opened(

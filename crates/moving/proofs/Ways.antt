@@ -10,10 +10,10 @@ use lib.Dec.{eqb, leb}
 use borrow.Author.Tests.{eqb-true}
 use Rattle.words.specs.Words.{words, Below}
 use Rattle.words.proofs.Laws.{words-below}
-use Rattle.reading.specs.declared.Above.{Above}
-use Rattle.reading.specs.declared.Spotted.{Spotted}
-use Rattle.reading.specs.declared.Spotted.the-variants.{At, Refused as Nowhere}
-use Rattle.reading.specs.Descent.{locateOf}
+use Rattle.places.specs.declared.Above.{Above}
+use Rattle.places.specs.declared.Spotted.{Spotted}
+use Rattle.places.specs.declared.Spotted.the-variants.{At, Refused as Nowhere}
+use Rattle.places.specs.Descent.{locateOf}
 use Rattle.edits.specs.declared.Edited.the-variants.{Made, Refused}
 use Rattle.edits.specs.Edits.{Edit, insert, remove}
 use Rattle.edits.specs.Allowed.{Fault?, fine, fault, unless, editFault}

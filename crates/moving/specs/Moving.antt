@@ -1,8 +1,8 @@
 -- What a remove finds.
 use Prim.Native.Nat.{ℕ}
 use mathlib.Core.List.{List}
-use Rattle.reading.specs.declared.Above.{Above}
-use Rattle.reading.specs.declared.Spotted.the-variants.{At}
+use Rattle.places.specs.declared.Above.{Above}
+use Rattle.places.specs.declared.Spotted.the-variants.{At}
 use Rattle.steps.specs.Steps.{Open}
 
 -- in an open session's file an element starts at the place, its extent ends at `end`, and it stands directly under `above`

@@ -10,8 +10,8 @@ ghost use Rattle.steps.specs.Steps.{Stepped, lastPlace, Open};
 ghost use Rattle.moving.specs.Moving.{Stands};
 use edits::Edited;
 use faults::Opened;
-use reading::Above;
-use reading::Spotted;
+use places::Above;
+use places::Spotted;
 
 // Inserts a piece in an open session.
 fn insert_opened(

@@ -1,5 +1,1 @@
-pub mod Descent
-pub mod Places
-pub mod Starts
 pub mod Numbered
-pub mod Nearest

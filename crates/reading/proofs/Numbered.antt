@@ -21,12 +21,13 @@ use Rattle.elements.specs.Header.{typeAt, sizeAt, pointsAt}
 use Rattle.kinds.specs.Kinds.{isPointed}
 use Rattle.elements.specs.Attributes.{hasAttributes}
 use Rattle.files.specs.Judge.{callOk}
-use Rattle.reading.specs.declared.Above.{Above}
-use Rattle.reading.specs.declared.Spotted.the-variants as spotted
+use Rattle.places.specs.declared.Above.{Above}
+use Rattle.places.specs.declared.Spotted.the-variants as spotted
 use Rattle.reading.specs.declared.Point.the-variants as point
 use Rattle.reading.specs.declared.Attribute.the-variants as attribute
-use Rattle.reading.specs.Places.{spottedAt}
-use Rattle.reading.specs.Views.{pointCount, beforePoints, pointAt, pointOf, attributeBy, linkageOf}
+use Rattle.places.specs.Places.{spottedAt}
+use Rattle.reading.specs.Points.{pointCount, beforePoints, pointAt, pointOf}
+use Rattle.reading.specs.Linkages.{attributeBy, linkageOf}
 
 ---- a point
 

@@ -1,5 +1,3 @@
-pub mod Places
-pub mod Descent
-pub mod Views
+pub mod Points
+pub mod Linkages
 pub mod Numbers
-pub mod Starts

@@ -1,35 +1,12 @@
--- The numbers of each answer of the reading calls: 0 and what is read, or the refusal's number and place. True is 1; of
--- a part that may be absent, 1 and its numbers or 0 and zeros.
+-- The numbers of the answer of a linkage or of a point: 0 and what is read, or the refusal's number and place.
 use Prim.Native.Nat.{ℕ}
-use mathlib.Core.Bool.{Bool, cond}
-use mathlib.Core.List.{List, [], _∷_, _++_}
+use mathlib.Core.List.{List, [], _∷_}
 use lib.IntN.{ℤ, pos}
-use Rattle.reading.specs.declared.Extent.{Extent}
-use Rattle.reading.specs.declared.Extent.the-variants as extents
 use Rattle.reading.specs.declared.Attribute.{Attribute}
 use Rattle.reading.specs.declared.Attribute.the-variants as attributes
-use Rattle.reading.specs.declared.Above.{Above}
-use Rattle.reading.specs.declared.Above.the-variants as aboves
-use Rattle.reading.specs.declared.Number.{Number}
-use Rattle.reading.specs.declared.Number.the-variants as numbers
-use Rattle.reading.specs.declared.Range.{Range}
-use Rattle.reading.specs.declared.Range.the-variants as ranges
-use Rattle.reading.specs.declared.Display.{Display}
-use Rattle.reading.specs.declared.Display.the-variants as displays
-use Rattle.reading.specs.declared.Name.{Name}
-use Rattle.reading.specs.declared.Name.the-variants as cells
-use Rattle.reading.specs.declared.Element.{Element}
-use Rattle.reading.specs.declared.View.{View}
-use Rattle.reading.specs.declared.View.the-variants as views
 use Rattle.reading.specs.declared.Point.{Point}
 use Rattle.reading.specs.declared.Point.the-variants as points
-
-abbrev pub extentNumbers : Extent → List ℕ
-extentNumbers (extents.At start end) = 0 ∷ start ∷ end ∷ []
-extentNumbers (extents.Refused number place) = number ∷ place ∷ []
-
-abbrev pub flag : Bool → ℕ
-flag b = cond b 1 0
+use Rattle.places.specs.Numbers.{flag}
 
 abbrev pub attributeNumbers : Attribute → List ℕ
 attributeNumbers (attributes.At user place size id) = 0 ∷ flag user ∷ place ∷ size ∷ id ∷ []
@@ -45,43 +22,3 @@ abbrev pub pointGiven : Point → List ℤ
 pointGiven (points.Flat x y) = x ∷ y ∷ pos 0 ∷ []
 pointGiven (points.Solid x y z) = x ∷ y ∷ z ∷ []
 pointGiven (points.Refused number place) = pos place ∷ []
-
--- the parts of a view
-abbrev pub aboveNumbers : Above → List ℕ
-aboveNumbers aboves.Top = 0 ∷ 0 ∷ []
-aboveNumbers (aboves.Under place) = 1 ∷ place ∷ []
-
-abbrev pub numberNumbers : Number → List ℕ
-numberNumbers numbers.Absent = 0 ∷ 0 ∷ []
-numberNumbers (numbers.Value value) = 1 ∷ value ∷ []
-
-abbrev pub rangeNumbers : Range → List ℕ
-rangeNumbers ranges.Absent = 0 ∷ 0 ∷ 0 ∷ 0 ∷ 0 ∷ 0 ∷ 0 ∷ []
-rangeNumbers (ranges.Longs a b c d e f) = 1 ∷ a ∷ b ∷ c ∷ d ∷ e ∷ f ∷ []
-
-abbrev pub displayNumbers : Display → List ℕ
-displayNumbers displays.Absent = 0 ∷ 0 ∷ 0 ∷ 0 ∷ 0 ∷ 0 ∷ 0 ∷ []
-displayNumbers (displays.Words a b c d e f) = 1 ∷ a ∷ b ∷ c ∷ d ∷ e ∷ f ∷ []
-
-abbrev pub nameNumbers : Name → List ℕ
-nameNumbers cells.Absent = 0 ∷ 0 ∷ 0 ∷ []
-nameNumbers (cells.Words first second) = 1 ∷ first ∷ second ∷ []
-
--- what every element has
-abbrev pub commonNumbers : Element → List ℕ
-commonNumbers e =
-    (e .level ∷ flag (e .c) ∷ e .kind ∷ flag (e .deleted) ∷ e .size ∷ e .depth ∷ [])
-    ++ (aboveNumbers (e .above) ++ rangeNumbers (e .range))
-
--- what only some types have, and a 0 to fill 32
-abbrev pub kindNumbers : Element → List ℕ
-kindNumbers e =
-    displayNumbers (e .display) ++ (numberNumbers (e .points) ++ (nameNumbers (e .name)
-    ++ (numberNumbers (e .total) ++ (numberNumbers (e .count) ++ (0 ∷ [])))))
-
-abbrev pub elementNumbers : Element → List ℕ
-elementNumbers e = commonNumbers e ++ kindNumbers e
-
-abbrev pub viewNumbers : View → List ℕ
-viewNumbers (views.Seen element) = 0 ∷ elementNumbers element
-viewNumbers (views.Refused number place) = number ∷ place ∷ []

@@ -1,13 +1,13 @@
-// The linkages of an element by number. Definitions: specs/Views.
+// The linkages of an element by number. Definitions: specs/Linkages.
 ghost use mathlib.Core.Path.{_≡_};
 ghost use Prim.Native.Nat.{_/_, _<_};
 ghost use lib.ListN.{length};
 ghost use Rattle.words.specs.Words.{words};
 ghost use Rattle.elements.specs.Attributes.{hasAttributes};
-ghost use Rattle.reading.specs.Views.{attributeBy, linkageOf};
+ghost use Rattle.reading.specs.Linkages.{attributeBy, linkageOf};
 use super::Attribute;
-use super::Spotted;
-use super::spotted_at;
+use places::Spotted;
+use places::spotted_at;
 
 // Whether the element at a place has an attribute part.
 fn has_attributes(file: &[u8], at: usize) -> bool

@@ -1,12 +1,12 @@
-// The points of an element by number. Definitions: specs/Views.
+// The points of an element by number. Definitions: specs/Points.
 ghost use mathlib.Core.Path.{_≡_};
 ghost use Prim.Native.Nat.{_+_, _/_, _<_, _^_};
 ghost use lib.ListN.{length};
 ghost use Rattle.words.specs.Words.{words};
-ghost use Rattle.reading.specs.Views.{pointCount, beforePoints, pointAt, pointOf};
+ghost use Rattle.reading.specs.Points.{pointCount, beforePoints, pointAt, pointOf};
 use super::Point;
-use super::Spotted;
-use super::spotted_at;
+use places::Spotted;
+use places::spotted_at;
 
 // How many points the element at a place has.
 fn point_count(file: &[u8], at: usize) -> usize

@@ -10,8 +10,8 @@ use lib.Seq.{length-take-le}
 use Rattle.words.specs.Words.{Below}
 use Rattle.words.proofs.Laws.{length-words}
 use Rattle.files.specs.Judge.{topOf}
-use Rattle.reading.specs.declared.Spotted.{Spotted}
-use Rattle.reading.specs.Descent.{locateOf}
+use Rattle.places.specs.declared.Spotted.{Spotted}
+use Rattle.places.specs.Descent.{locateOf}
 use Rattle.edits.specs.Allowed.{Fault?, fine, fault, unless, editFault}
 use Rattle.edits.specs.Calls.{usedWords, endsInMarker, sessionOk, fileFault, sessionFault}
 use Rattle.edits.specs.Edits.{Edit}

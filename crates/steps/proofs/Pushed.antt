@@ -9,8 +9,8 @@ use lib.ListN.{length}
 use lib.Dec.{eqb}
 use borrow.Author.Tests.{ne-eqb}
 use Rattle.words.specs.Words.{words}
-use Rattle.reading.specs.declared.Above.{Above}
-use Rattle.reading.specs.declared.Above.the-variants.{Top, Under}
+use Rattle.places.specs.declared.Above.{Above}
+use Rattle.places.specs.declared.Above.the-variants.{Top, Under}
 use Rattle.edits.specs.Records.{Rec, flag, renamed, inserted, removed, six, placeOf, recordWords}
 use Rattle.edits.specs.Calls.{pushed}
 use Rattle.edits.proofs.Accepted.{SmallHeader}

@@ -7,10 +7,10 @@ use mathlib.Core.List.{List}
 use mathlib.Core.Bool.{cond}
 use lib.ListN.{length}
 use lib.Dec.{eqb}
-use Rattle.reading.specs.declared.Above.{Above}
-use Rattle.reading.specs.declared.Above.the-variants.{Top, Under}
-use Rattle.reading.specs.declared.Spotted.{Spotted}
-use Rattle.reading.specs.Descent.{locateOf}
+use Rattle.places.specs.declared.Above.{Above}
+use Rattle.places.specs.declared.Above.the-variants.{Top, Under}
+use Rattle.places.specs.declared.Spotted.{Spotted}
+use Rattle.places.specs.Descent.{locateOf}
 use Rattle.edits.specs.declared.Edited.{Edited}
 use Rattle.edits.specs.Allowed.{fine}
 use Rattle.edits.specs.Calls.{Session, Call, usedWords, sessionFault, Result, step}

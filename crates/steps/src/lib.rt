@@ -5,7 +5,7 @@ ghost use Rattle.edits.specs.declared.Edited.the-variants.{Refused};
 ghost use Rattle.steps.specs.Steps.{numberOf, aboveAt};
 use buffers::TOP;
 use edits::Edited;
-use reading::Above;
+use places::Above;
 
 // A refusal at place 0.
 pub fn refused(number: usize) -> Edited

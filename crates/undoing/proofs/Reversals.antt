@@ -10,10 +10,10 @@ use lib.Dec.{eqb}
 use Rattle.words.specs.Words.{words, Below, wordAt}
 use Rattle.kinds.specs.FirstWord.{deletedOf}
 use Rattle.files.specs.Spots.{spotsOf}
-use Rattle.reading.specs.declared.Above.{Above}
-use Rattle.reading.specs.declared.Above.the-variants.{Top}
-use Rattle.reading.specs.declared.Spotted.{Spotted}
-use Rattle.reading.specs.declared.Spotted.the-variants.{At, Refused as Nowhere}
+use Rattle.places.specs.declared.Above.{Above}
+use Rattle.places.specs.declared.Above.the-variants.{Top}
+use Rattle.places.specs.declared.Spotted.{Spotted}
+use Rattle.places.specs.declared.Spotted.the-variants.{At, Refused as Nowhere}
 use Rattle.edits.specs.declared.Edited.{Edited}
 use Rattle.edits.specs.declared.Edited.the-variants.{Made, Refused}
 use Rattle.edits.specs.Edits.{insert, apply}

@@ -6,7 +6,7 @@ use mathlib.Core.List.{List}
 use mathlib.Core.Option.{none, some}
 use lib.ListN.{length, take}
 use borrow.Author.Tests.{le-leb, lt-leb, ne-eqb}
-use Rattle.reading.specs.declared.Spotted.{Spotted}
+use Rattle.places.specs.declared.Spotted.{Spotted}
 use Rattle.edits.specs.declared.Edited.{Edited}
 use Rattle.edits.specs.declared.Edited.the-variants.{Made, Refused}
 use Rattle.edits.specs.Edits.{apply}

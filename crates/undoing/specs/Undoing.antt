@@ -6,8 +6,8 @@ use lib.ListN.{length, take}
 use lib.Dec.{leb}
 use Rattle.files.specs.Judge.{judgeOf}
 use Rattle.files.specs.declared.Judged.the-variants as judged
-use Rattle.reading.specs.declared.Spotted.{Spotted}
-use Rattle.reading.specs.Descent.{locateOf}
+use Rattle.places.specs.declared.Spotted.{Spotted}
+use Rattle.places.specs.Descent.{locateOf}
 use Rattle.edits.specs.declared.Edited.{Edited}
 use Rattle.edits.specs.declared.Edited.the-variants.{Made, Refused}
 use Rattle.edits.specs.Edits.{apply}

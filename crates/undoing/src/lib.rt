@@ -14,8 +14,8 @@ ghost use Rattle.undoing.specs.Undoing.{OpenFile, placeIn, Reversed};
 use buffers::Last;
 use edits::Edited;
 use faults::Opened;
-use reading::Above;
-use reading::Spotted;
+use places::Above;
+use places::Spotted;
 
 // Turns the flag of the element at a place over.
 fn undo_flag(

@@ -14,11 +14,11 @@ use borrow.Author.Tests.{ltb-true, ltb-false}
 use Rattle.words.specs.Words.{words, Below, longAt, signed, unsigned}
 use Rattle.words.proofs.Signed.{unsigned-signed}
 use Rattle.kinds.specs.Kinds.{oneOf}
-use Rattle.reading.specs.declared.Above.{Above}
-use Rattle.reading.specs.declared.Spotted.the-variants as spotted
+use Rattle.places.specs.declared.Above.{Above}
+use Rattle.places.specs.declared.Spotted.the-variants as spotted
 use Rattle.reading.specs.declared.Point.the-variants as point
-use Rattle.reading.specs.Places.{spottedAt}
-use Rattle.reading.specs.Views.{pointCount as countOf, beforePoints, pointPlace, pointAt, pointOf}
+use Rattle.places.specs.Places.{spottedAt}
+use Rattle.reading.specs.Points.{pointCount as countOf, beforePoints, pointPlace, pointAt, pointOf}
 use Rattle.reading.proofs.Numbered.{point-there, point-none}
 use Rattle.writer.specs.Words.{pointCount}
 use Rattle.writer.proofs.Bounds.{by-dims}

@@ -14,13 +14,13 @@ use Rattle.elements.specs.Header.{typeAt, sizeAt}
 use Rattle.kinds.specs.Kinds.{isHeader}
 use Rattle.files.specs.Judge.{judgeOf}
 use Rattle.files.specs.declared.Judged.the-variants.{Accepted}
-use Rattle.reading.specs.declared.Above.{Above}
-use Rattle.reading.specs.declared.Above.the-variants.{Under}
-use Rattle.reading.specs.declared.Spotted.{Spotted}
-use Rattle.reading.specs.declared.Spotted.the-variants as spotted
-use Rattle.reading.specs.Places.{spottedAt, extentAnswer, extentBytes}
-use Rattle.reading.specs.Descent.{extentWords, locateFrom, descentTo, locateOf}
-use Rattle.reading.proofs.Places.{spotted-inside, spotted-located}
+use Rattle.places.specs.declared.Above.{Above}
+use Rattle.places.specs.declared.Above.the-variants.{Under}
+use Rattle.places.specs.declared.Spotted.{Spotted}
+use Rattle.places.specs.declared.Spotted.the-variants as spotted
+use Rattle.places.specs.Places.{spottedAt, extentAnswer, extentBytes}
+use Rattle.places.specs.Descent.{extentWords, locateFrom, descentTo, locateOf}
+use Rattle.places.proofs.Places.{spotted-inside, spotted-located}
 use Rattle.edits.proofs.Bounds.{below-take, below-drop}
 
 ---- where the extent of an element that is found ends

@@ -14,10 +14,10 @@ use Rattle.elements.specs.Header.{typeAt, sizeAt}
 use Rattle.kinds.specs.Kinds.{isLinked}
 use Rattle.elements.specs.Rules.{reservedOk}
 use Rattle.grammar.proofs.Stands.{Stands, stands-nil, stands-join}
-use Rattle.reading.specs.declared.Above.{Above}
-use Rattle.reading.specs.declared.Range.the-variants as range
-use Rattle.reading.specs.declared.Display.the-variants as display
-use Rattle.reading.specs.Views.{rangeOf as rangeAt, displayOf, elementView}
+use Rattle.places.specs.declared.Above.{Above}
+use Rattle.views.specs.declared.Range.the-variants as range
+use Rattle.views.specs.declared.Display.the-variants as display
+use Rattle.views.specs.Views.{rangeOf as rangeAt, displayOf, elementView}
 use Rattle.writer.specs.Words.{longs, bit, firstWord, rangeOf, symbology, displayWords, headerWords}
 use Rattle.writer.specs.Writing.{isWritten}
 use Rattle.writer.specs.declared.Fields.{Fields}

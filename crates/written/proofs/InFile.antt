@@ -17,10 +17,10 @@ use Rattle.kinds.specs.Kinds.{mayStand}
 use Rattle.files.specs.Spots.{Spot, spotsOf, spotIn}
 use Rattle.grammar.proofs.Forest.{nil}
 use Rattle.grammar.proofs.Stands.{Stands}
-use Rattle.reading.specs.declared.Spotted.the-variants as spotted
-use Rattle.reading.specs.Places.{aboveOf, foundBy, spottedAt}
-use Rattle.reading.specs.Views.{elementView}
-use Rattle.reading.proofs.Places.{spotted-found}
+use Rattle.places.specs.declared.Spotted.the-variants as spotted
+use Rattle.places.specs.Places.{aboveOf, foundBy, spottedAt}
+use Rattle.views.specs.Views.{elementView}
+use Rattle.places.proofs.Places.{spotted-found}
 use Rattle.edits.specs.Edits.{insert, apply}
 use Rattle.edits.specs.Allowed.{fine, isSome, startsAt, gapOk, depthBy, depthUnder, typeUnder, pieceFault, insertFault, editFault}
 use Rattle.edits.proofs.Faults.{fine-test, fine-both}

@@ -18,15 +18,17 @@ use Rattle.kinds.specs.FirstWord.{levelOf, cOf, typeOf, deletedOf}
 use Rattle.elements.specs.Header.{typeAt, sizeAt, attributePartAt}
 use Rattle.kinds.specs.Kinds.{isHeader, isPointed, isLinked}
 use Rattle.grammar.proofs.Stands.{Stands, stands-word, stands-first, stands-left, stands-right}
-use Rattle.reading.specs.declared.Above.{Above}
-use Rattle.reading.specs.declared.Spotted.the-variants as spotted
-use Rattle.reading.specs.declared.Range.the-variants as range
-use Rattle.reading.specs.declared.Display.the-variants as display
+use Rattle.places.specs.declared.Above.{Above}
+use Rattle.places.specs.declared.Spotted.the-variants as spotted
+use Rattle.views.specs.declared.Range.the-variants as range
+use Rattle.views.specs.declared.Display.the-variants as display
 use Rattle.reading.specs.declared.Point.the-variants as point
 use Rattle.reading.specs.declared.Attribute.the-variants as attribute
-use Rattle.reading.specs.declared.View.the-variants.{Seen}
-use Rattle.reading.specs.Places.{spottedAt}
-use Rattle.reading.specs.Views.{rangeOf, displayOf, elementView, viewOf, beforePoints, pointAt, pointOf, attributeBy, linkageOf, pointCount as pointsOf}
+use Rattle.views.specs.declared.View.the-variants.{Seen}
+use Rattle.places.specs.Places.{spottedAt}
+use Rattle.views.specs.Views.{rangeOf, displayOf, elementView, viewOf}
+use Rattle.reading.specs.Points.{beforePoints, pointAt, pointOf, pointCount as pointsOf}
+use Rattle.reading.specs.Linkages.{attributeBy, linkageOf}
 use Rattle.writer.specs.Words.{longs, bit, firstWord, symbology, headerWords, countWords, pointCount, sizeOf, elementWords}
 use Rattle.writer.specs.Writing.{pointsFit}
 use Rattle.writer.specs.declared.Fields.{Fields}

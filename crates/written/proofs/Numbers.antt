@@ -10,7 +10,7 @@ use Rattle.words.specs.Words.{words, longAt, signed, unsigned}
 use Rattle.words.proofs.Signed.{signed-unsigned}
 use Rattle.kinds.specs.Kinds.{oneOf}
 use Rattle.grammar.proofs.Stands.{Stands, stands-word, stands-first, stands-right}
-use Rattle.reading.specs.Views.{pointAt, pointOf}
+use Rattle.reading.specs.Points.{pointAt, pointOf}
 use Rattle.writer.specs.Words.{longs}
 use Rattle.writer.proofs.Bounds.{by-dims}
 use Rattle.written.specs.Parts.{coordinates, pointsFrom}

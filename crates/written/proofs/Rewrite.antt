@@ -21,8 +21,9 @@ use Rattle.grammar.proofs.Stands.{Stands, stands-nil, stands-part, stands-join,
 use Rattle.grammar.proofs.Local.{fixed-local, linkages-local}
 use Rattle.grammar.proofs.Rules.{extent-is}
 use Rattle.grammar.proofs.Exact.{accepted-is}
-use Rattle.reading.specs.declared.Element.{Element}
-use Rattle.reading.specs.Views.{elementView, beforePoints}
+use Rattle.views.specs.declared.Element.{Element}
+use Rattle.views.specs.Views.{elementView}
+use Rattle.reading.specs.Points.{beforePoints}
 use Rattle.edits.proofs.Bounds.{below-take, below-drop}
 use Rattle.writer.specs.Words.{longs, headerWords, countWords, pointCount, sizeOf, elementWords}
 use Rattle.writer.specs.Writing.{isWritten, pointsFit, countOk}

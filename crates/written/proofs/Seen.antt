@@ -22,14 +22,14 @@ use Rattle.grammar.proofs.Exact.{accepted-is}
 use Rattle.edits.proofs.Ways.{Way, plug, front, depthOf, typeOver, elem-of}
 use Rattle.edits.proofs.Places.{found-in}
 use Rattle.edits.proofs.Raised.{stands-way}
-use Rattle.reading.specs.declared.Above.{Above}
-use Rattle.reading.specs.declared.Spotted.{Spotted}
-use Rattle.reading.specs.declared.Spotted.the-variants as spotted
-use Rattle.reading.specs.declared.Element.{Element}
-use Rattle.reading.specs.declared.View.the-variants.{Seen}
-use Rattle.reading.specs.Places.{foundBy, spottedAt}
-use Rattle.reading.specs.Views.{elementView, viewBy, viewOf}
-use Rattle.reading.proofs.Places.{spot-inside, spotted-found}
+use Rattle.places.specs.declared.Above.{Above}
+use Rattle.places.specs.declared.Spotted.{Spotted}
+use Rattle.places.specs.declared.Spotted.the-variants as spotted
+use Rattle.views.specs.declared.Element.{Element}
+use Rattle.views.specs.declared.View.the-variants.{Seen}
+use Rattle.places.specs.Places.{foundBy, spottedAt}
+use Rattle.views.specs.Views.{elementView, viewBy, viewOf}
+use Rattle.places.proofs.Places.{spot-inside, spotted-found}
 use Rattle.written.proofs.Spans.{stands-at}
 
 -- the dimension of a good call is 2 or 3

@@ -9,7 +9,7 @@ use Rattle.linkages.specs.Linkages.{linkageWords, linkageFits, linkageAt, numbe
 use Rattle.linkages.specs.declared.Linkage.{Linkage}
 use Rattle.linkages.specs.declared.Linkage.the-variants as linked
 use Rattle.linkages.proofs.Local.{moved}
-use Rattle.reading.specs.Views.{attributeBy}
+use Rattle.reading.specs.Linkages.{attributeBy}
 use Rattle.written.specs.Parts.{linkageMoved}
 
 -- a linkage that is found does not begin before the first place

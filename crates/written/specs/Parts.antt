@@ -12,15 +12,15 @@ use Rattle.linkages.specs.Linkages.{linkageIn}
 use Rattle.linkages.specs.declared.Linkage.{Linkage}
 use Rattle.linkages.specs.declared.Linkage.the-variants as linked
 use Rattle.kinds.specs.Kinds.{fixedPart}
-use Rattle.reading.specs.declared.Range.the-variants as range
-use Rattle.reading.specs.declared.Display.the-variants as display
-use Rattle.reading.specs.declared.Element.{Element}
+use Rattle.views.specs.declared.Range.the-variants as range
+use Rattle.views.specs.declared.Display.the-variants as display
+use Rattle.views.specs.declared.Element.{Element}
 use Rattle.reading.specs.declared.Point.{Point}
 use Rattle.reading.specs.declared.Point.the-variants as point
 use Rattle.reading.specs.declared.Attribute.{Attribute}
 use Rattle.reading.specs.declared.Attribute.the-variants as attribute
-use Rattle.reading.specs.Places.{extentBytes}
-use Rattle.reading.specs.Views.{pointOf}
+use Rattle.places.specs.Places.{extentBytes}
+use Rattle.reading.specs.Points.{pointOf}
 use Rattle.writer.specs.Words.{pointCount}
 use Rattle.writer.specs.declared.Fields.{Fields}
 

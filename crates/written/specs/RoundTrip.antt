@@ -13,10 +13,11 @@ use Rattle.kinds.specs.Kinds.{mayStand}
 use Rattle.files.specs.Judge.{judgeOf}
 use Rattle.files.specs.Spots.{spotsOf}
 use Rattle.files.specs.declared.Judged.the-variants.{Accepted}
-use Rattle.reading.specs.declared.Element.{Element}
-use Rattle.reading.specs.declared.View.the-variants.{Seen}
-use Rattle.reading.specs.Places.{aboveOf}
-use Rattle.reading.specs.Views.{viewOf, linkageOf}
+use Rattle.views.specs.declared.Element.{Element}
+use Rattle.views.specs.declared.View.the-variants.{Seen}
+use Rattle.places.specs.Places.{aboveOf}
+use Rattle.views.specs.Views.{viewOf}
+use Rattle.reading.specs.Linkages.{linkageOf}
 use Rattle.edits.specs.Edits.{insert, apply, downTo}
 use Rattle.edits.specs.Allowed.{fine, gapOk, roomFault, depthUnder, typeUnder}
 use Rattle.writer.specs.Words.{sizeOf}

@@ -1,6 +1,6 @@
 -- Each case is its numbers.
 use mathlib.Core.Path.{sym, ap}
-use Rattle.reading.specs.Numbers.{aboveNumbers}
+use Rattle.views.specs.Numbers.{aboveNumbers}
 use borrow.Author.Needs.{needs}
 use Rattle.dgn_views.proofs.above_numbers.Statement.{statement}
 use Rattle.dgn_views.proofs.above_numbers.Tie as tie

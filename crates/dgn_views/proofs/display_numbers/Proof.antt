@@ -1,6 +1,6 @@
 -- Each case is its numbers.
 use mathlib.Core.Path.{sym, ap}
-use Rattle.reading.specs.Numbers.{displayNumbers}
+use Rattle.views.specs.Numbers.{displayNumbers}
 use borrow.Author.Needs.{needs}
 use Rattle.dgn_views.proofs.display_numbers.Statement.{statement}
 use Rattle.dgn_views.proofs.display_numbers.Tie as tie

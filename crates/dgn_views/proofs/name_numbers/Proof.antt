@@ -1,6 +1,6 @@
 -- Each case is its numbers.
 use mathlib.Core.Path.{sym, ap}
-use Rattle.reading.specs.Numbers.{nameNumbers}
+use Rattle.views.specs.Numbers.{nameNumbers}
 use borrow.Author.Needs.{needs}
 use Rattle.dgn_views.proofs.name_numbers.Statement.{statement}
 use Rattle.dgn_views.proofs.name_numbers.Tie as tie

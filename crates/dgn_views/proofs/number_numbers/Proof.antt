@@ -1,6 +1,6 @@
 -- Each case is its numbers.
 use mathlib.Core.Path.{sym, ap}
-use Rattle.reading.specs.Numbers.{numberNumbers}
+use Rattle.views.specs.Numbers.{numberNumbers}
 use borrow.Author.Needs.{needs}
 use Rattle.dgn_views.proofs.number_numbers.Statement.{statement}
 use Rattle.dgn_views.proofs.number_numbers.Tie as tie

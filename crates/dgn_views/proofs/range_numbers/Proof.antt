@@ -1,6 +1,6 @@
 -- Each case is its numbers.
 use mathlib.Core.Path.{sym, ap}
-use Rattle.reading.specs.Numbers.{rangeNumbers}
+use Rattle.views.specs.Numbers.{rangeNumbers}
 use borrow.Author.Needs.{needs}
 use Rattle.dgn_views.proofs.range_numbers.Statement.{statement}
 use Rattle.dgn_views.proofs.range_numbers.Tie as tie

@@ -3,8 +3,8 @@ use Prim.Native.Nat.{_*_, _≤_}
 use mathlib.Core.Path.{sym, _∙_}
 use native.Mathlib.Omega.{arith}
 use Rattle.words.proofs.Laws.{lent-below}
-use Rattle.reading.specs.Views.{pointOf}
-use Rattle.reading.proofs.Places.{Inside, spotted-inside}
+use Rattle.reading.specs.Points.{pointOf}
+use Rattle.places.proofs.Places.{Inside, spotted-inside}
 use Rattle.reading.proofs.Numbered.{point-small, point-there, point-none}
 use borrow.Author.Needs.{needs}
 use Rattle.reading.proofs.points.point_at.Statement.{statement}

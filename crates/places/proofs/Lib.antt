@@ -1,0 +1,3 @@
+pub mod Descent
+pub mod Places
+pub mod Nearest

@@ -1,0 +1,80 @@
+use mathlib.Core.Path.{sym, _∙_}
+use native.Mathlib.Omega.{arith}
+use borrow.Author.Tests.{not-true, not-false}
+use Rattle.files.proofs.Laws.{judge-call}
+use Rattle.places.proofs.Places.{placed-refused}
+use Rattle.places.proofs.Nearest.{first-fault, first-end, before-end, end-inside, rest-fault, rest-end, rest-stops}
+-- The elements at the top up to the first that ends after the place, then the others (Nearest). A refused file is answered
+-- as it is judged.
+use borrow.Author.Needs.{needs}
+use Rattle.places.proofs.placed_at.Statement.{statement}
+use Rattle.places.proofs.placed_at.Tie as tie
+
+call-ok-requires : tie.Need-call-ok-requires
+call-ok-requires c κs = search needs
+
+returns : tie.Need-returns
+returns c = sym (placed-refused _ _ _ 1 0 (sym (judge-call _ _ (sym ((c .before .call-ok .ensures)) ∙ not-true _ ((c .if1 .taken))))))
+
+reach-requires : tie.Need-reach-requires
+reach-requires c κs = search needs
+
+enum-known-number : tie.Need-enum-known-number
+enum-known-number c = search needs
+
+enum-known-marker : tie.Need-enum-known-marker
+enum-known-marker c = search needs
+
+enum-known-top : tie.Need-enum-known-top
+enum-known-top c = search needs
+
+reach-requires-2 : tie.Need-reach-requires-2
+reach-requires-2 c κs = search needs
+
+enum-known-number-2 : tie.Need-enum-known-number-2
+enum-known-number-2 c = search needs
+
+enum-known-marker-2 : tie.Need-enum-known-marker-2
+enum-known-marker-2 c = search needs
+
+descend-requires : tie.Need-descend-requires
+descend-requires c κs = let e = sym ((c .before .before .before .before .before .top .given .1)) ∙ ((c .before .before .before .before .before .before .before .reach .ensures)) in omega (arith, before-end ((c .before .before .before .before .before .before .before .before .before .before .before .args .dim)) ((c .before .before .before .before .before .before .before .before .before .before .before .args .file .now)) ((c .before .before .before .before .before .before .before .before .before .before .before .args .place)) (sym ((c .before .before .before .before .before .before .before .before .before .call-ok .ensures)) ∙ not-false _ ((c .before .before .before .before .before .before .before .before .if1 .left))) e, end-inside ((c .before .before .before .before .before .before .before .before .before .before .before .args .dim)) ((c .before .before .before .before .before .before .before .before .before .before .before .args .file .now)) ((c .before .before .before .before .before .before .before .before .before .before .before .args .place)) (sym ((c .before .before .before .before .before .before .before .before .before .call-ok .ensures)) ∙ not-false _ ((c .before .before .before .before .before .before .before .before .if1 .left))) e)
+
+enum-known-other : tie.Need-enum-known-other
+enum-known-other c = search needs
+
+returns-2 : tie.Need-returns-2
+returns-2 c = first-fault ((c .before .before .before .before .before .before .before .args .dim)) ((c .before .before .before .before .before .before .before .args .file .now)) ((c .before .before .before .before .before .before .before .args .place)) (sym ((c .before .before .before .before .before .call-ok .ensures)) ∙ not-false _ ((c .before .before .before .before .if1 .left))) (sym ((c .before .number .given .1)) ∙ ((c .before .before .before .reach .ensures)))
+
+returns-3 : tie.Need-returns-3
+returns-3 c = first-end ((c .before .before .before .before .before .before .before .args .dim)) ((c .before .before .before .before .before .before .before .args .file .now)) ((c .before .before .before .before .before .before .before .args .place)) (sym ((c .before .before .before .before .before .call-ok .ensures)) ∙ not-false _ ((c .before .before .before .before .if1 .left))) (sym ((c .before .marker .given .1)) ∙ ((c .before .before .before .reach .ensures)))
+
+returns-4 : tie.Need-returns-4
+returns-4 c = rest-fault ((c .before .before .before .before .before .before .before .before .before .before .before .args .dim)) ((c .before .before .before .before .before .before .before .before .before .before .before .args .file .now)) ((c .before .before .before .before .before .before .before .before .before .before .before .args .place)) (sym ((c .before .before .before .before .before .before .before .before .before .call-ok .ensures)) ∙ not-false _ ((c .before .before .before .before .before .before .before .before .if1 .left))) (sym ((c .before .before .before .before .before .top .given .1)) ∙ ((c .before .before .before .before .before .before .before .reach .ensures))) (sym ((c .before .number2 .given .1)) ∙ ((c .before .before .before .reach2 .ensures)))
+
+returns-5 : tie.Need-returns-5
+returns-5 c = rest-end ((c .before .before .before .before .before .before .before .before .before .before .before .before .args .dim)) ((c .before .before .before .before .before .before .before .before .before .before .before .before .args .file .now)) ((c .before .before .before .before .before .before .before .before .before .before .before .before .args .place)) (sym ((c .before .before .before .before .before .before .before .before .before .before .call-ok .ensures)) ∙ not-false _ ((c .before .before .before .before .before .before .before .before .before .if1 .left))) (sym ((c .before .before .before .before .before .before .top .given .1)) ∙ ((c .before .before .before .before .before .before .before .before .reach .ensures))) _ (sym ((c .before .before .marker2 .given .1)) ∙ ((c .before .before .before .before .reach2 .ensures))) ((c .descend .ensures))
+
+returns-6 : tie.Need-returns-6
+returns-6 c = absurd (rest-stops ((c .before .before .before .before .before .before .before .before .before .before .before .args .dim)) ((c .before .before .before .before .before .before .before .before .before .before .before .args .file .now)) ((c .before .before .before .before .before .before .before .before .before .before .before .args .place)) (sym ((c .before .before .before .before .before .before .before .before .before .call-ok .ensures)) ∙ not-false _ ((c .before .before .before .before .before .before .before .before .if1 .left))) (sym ((c .before .before .before .before .before .top .given .1)) ∙ ((c .before .before .before .before .before .before .before .reach .ensures))) (sym ((c .before .other .given .1)) ∙ ((c .before .before .before .reach2 .ensures))))
+
+pub placed-at-spec : {M : Type 1} → statement M
+placed-at-spec =
+    tie.close
+    (tie.spec
+    call-ok-requires
+    returns
+    reach-requires
+    enum-known-number
+    enum-known-marker
+    enum-known-top
+    reach-requires-2
+    enum-known-number-2
+    enum-known-marker-2
+    descend-requires
+    enum-known-other
+    returns-2
+    returns-3
+    returns-4
+    returns-5
+    returns-6)

@@ -1,0 +1,60 @@
+-- Calls on a file: 1 and the file's own refusals first, then the element that starts at a place, else 13 (document
+-- 01, "Numbers a call can answer"). All are stated over the one list of the file's elements, files' spotsOf.
+use Prim.Native.Nat.{ℕ, _-_, _*_}
+use mathlib.Core.List.{List, []}
+use mathlib.Core.Option.{Option, none, some}
+use lib.ListN.{take, drop}
+use Rattle.words.specs.Words.{words}
+use Rattle.files.specs.Judge.{judgeOf}
+use Rattle.files.specs.Spots.{Spot, spotsOf, spotIn}
+use Rattle.files.specs.declared.Judged.{Judged}
+use Rattle.files.specs.declared.Judged.the-variants as judged
+use Rattle.places.specs.declared.Extent.{Extent}
+use Rattle.places.specs.declared.Extent.the-variants as extent
+use Rattle.places.specs.declared.Above.{Above}
+use Rattle.places.specs.declared.Above.the-variants.{Top, Under}
+use Rattle.places.specs.declared.Spotted.{Spotted}
+use Rattle.places.specs.declared.Spotted.the-variants as spotted
+use Rattle.places.specs.declared.Placed.{Placed}
+use Rattle.places.specs.declared.Placed.the-variants as placed
+
+-- the direct header of an element
+abbrev pub aboveOf : Option ℕ → Above
+aboveOf none = Top
+aboveOf (some h) = Under h
+
+-- what a call on a file at a place finds: the element's spot, or the refusal
+abbrev pub foundBy : Option Spot → Spotted
+foundBy none = spotted.Refused 13 0
+foundBy (some x) = spotted.At (x .end) (x .depth) (aboveOf (x .header))
+
+abbrev pub spottedBy : Judged → Option Spot → Spotted
+spottedBy (judged.Refused n p) found = spotted.Refused n p
+spottedBy (judged.Accepted e d m) found = foundBy found
+
+unfoldable pub spottedAt : ℕ → List ℕ → ℕ → Spotted
+spottedAt dim s p = spottedBy (judgeOf dim s) (spotIn (spotsOf dim (words s)) p)
+
+-- what a file is judged to be, with its marker's place and what is found at a place
+abbrev pub placedBy : Judged → Option Spot → Placed
+placedBy (judged.Refused n p) found = placed.Refused n p
+placedBy (judged.Accepted e d m) found = placed.Judged m (foundBy found)
+
+unfoldable pub placedAt : ℕ → List ℕ → ℕ → Placed
+placedAt dim s p = placedBy (judgeOf dim s) (spotIn (spotsOf dim (words s)) p)
+
+-- the extent of the element that starts at a place: its start and its end
+abbrev pub extentBy : Spotted → ℕ → Extent
+extentBy (spotted.At end depth above) p = extent.At p end
+extentBy (spotted.Refused n q) p = extent.Refused n q
+
+unfoldable pub extentAnswer : ℕ → List ℕ → ℕ → Extent
+extentAnswer dim s p = extentBy (spottedAt dim s p) p
+
+-- the bytes of an extent, none where refused
+abbrev pub partBy : Extent → List ℕ → List ℕ
+partBy (extent.At start end) s = take (2 * end - 2 * start) (drop (2 * start) s)
+partBy (extent.Refused n q) s = []
+
+unfoldable pub extentBytes : ℕ → List ℕ → ℕ → List ℕ
+extentBytes dim s p = partBy (extentAnswer dim s p) s
