@@ -1,23 +1,30 @@
--- What fits and what does not: where every test holds the words are stored or the record is pushed, and where one of
--- them fails the buffer is as it was.
+-- What fits and what does not: where every test holds the bytes are copied in or the words stored, and where one of them
+-- fails the buffer is as it was.
 use Prim.Native.Nat.{ℕ, _+_, _*_, _%_, _≤_}
 use mathlib.Core.Path.{_≡_, refl}
-use mathlib.Core.List.{List, _++_}
+use mathlib.Core.List.{List}
 use mathlib.Core.Bool.{Bool, true, false, cond, _&&_, and-eq-true-iff}
 use lib.ListN.{length}
 use lib.Dec.{eqb, leb}
 use borrow.Author.Tests.{eq-eqb, le-leb, eqb-true, leb-true}
 use Rattle.words.specs.Words.{words}
 use Rattle.edits.specs.Edits.{splice, cut}
-use Rattle.edits.specs.Records.{six, placeOf}
-use Rattle.edits.specs.Calls.{usedWords, stored, pushed}
+use Rattle.edits.specs.Calls.{usedWords, stored}
+use Rattle.buffers.specs.Moves.{over, copied}
 use Rattle.buffers.specs.Files.{insertFits, wordsInserted, removeFits, wordsRemoved}
-use Rattle.buffers.specs.Journals.{pushFits, recordPushed}
 
 -- a choice by a test that does not hold
-kept : (t : Bool) (x s : List ℕ) → (t ≡ true → ⊥) → s ≡ cond t x s
+pub kept : (t : Bool) (x s : List ℕ) → (t ≡ true → ⊥) → s ≡ cond t x s
 kept true x s miss = absurd (miss refl)
 kept false x s miss = refl
+
+pub copied-fits : (s : List ℕ) (a : ℕ) (x : List ℕ) → a + length x ≤ length s → copied s a x ≡ over s a x
+unfolding copied
+copied-fits s a x h = rw (le-leb (a + length x) (length s) h) refl
+
+pub copied-not : (s : List ℕ) (a : ℕ) (x : List ℕ) → (a + length x ≤ length s → ⊥) → s ≡ copied s a x
+unfolding copied
+copied-not s a x miss = kept (leb (a + length x) (length s)) (over s a x) s (λ e. miss (leb-true (a + length x) (length s) e))
 
 module _ (s : List ℕ) (used p : ℕ) (x : List ℕ) where
   pub inserted-fits : used % 2 ≡ 0 → length x % 2 ≡ 0 → used + length x ≤ length s → 2 * p ≤ used
@@ -48,18 +55,3 @@ module _ (s : List ℕ) (used p n : ℕ) where
       let i = and-eq-true-iff (eqb (used % 2) 0) (leb used (length s) && leb (2 * (p + n)) used) .0 e in
       let j = and-eq-true-iff (leb used (length s)) (leb (2 * (p + n)) used) .0 (i .1) in
       miss (eqb-true (used % 2) 0 (i .0)) (leb-true used (length s) (j .0)) (leb-true (2 * (p + n)) used (j .1)))
-
-module _ (s : List ℕ) (used kind header p : ℕ) (x : List ℕ) where
-  pub pushed-fits : used % 2 ≡ 0 → length x % 2 ≡ 0 → used + length x + 12 ≤ length s
-      → recordPushed s used kind header p x ≡ pushed s used (words x ++ six kind (placeOf header) p (length (words x)))
-  unfolding recordPushed
-  pushed-fits a b l = rw (eq-eqb (used % 2) 0 a, eq-eqb (length x % 2) 0 b, le-leb (used + length x + 12) (length s) l) refl
-
-  pub pushed-not : (used % 2 ≡ 0 → length x % 2 ≡ 0 → used + length x + 12 ≤ length s → ⊥) → s ≡ recordPushed s used kind header p x
-  unfolding recordPushed
-  pushed-not miss =
-      kept (pushFits s used x) (pushed s used (words x ++ six kind (placeOf header) p (length (words x)))) s
-      (λ e.
-      let i = and-eq-true-iff (eqb (used % 2) 0) (eqb (length x % 2) 0 && leb (used + length x + 12) (length s)) .0 e in
-      let j = and-eq-true-iff (eqb (length x % 2) 0) (leb (used + length x + 12) (length s)) .0 (i .1) in
-      miss (eqb-true (used % 2) 0 (i .0)) (eqb-true (length x % 2) 0 (j .0)) (leb-true (used + length x + 12) (length s) (j .1)))

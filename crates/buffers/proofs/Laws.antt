@@ -1,19 +1,16 @@
 -- What callers cite. A buffer after one change is words stored again, so a next change is one of those words: words put
--- in, words taken out. Then a part of a lent buffer in words, and how long a record is.
+-- in, words taken out. Then a part of a lent buffer in words.
 use Prim.Native.Nat.{ℕ, zero, suc, _+_, _-_, _*_, _/_, _%_, _≤_, max}
 use mathlib.Core.Path.{_≡_, refl, sym, ap, _∙_}
 use mathlib.Core.List.{List, [], _∷_, _++_}
-use mathlib.Core.Option.{Option, none, some}
 use native.Mathlib.Omega.{arith}
 use lib.ListN.{length, take, drop, replicate, length-append, length-drop}
-use lib.Seq.{take-at, take-take, drop-drop, drop-append-add, length-take-le}
+use lib.Seq.{take-at, take-take, drop-drop, drop-append-add}
 use Rattle.words.specs.Words.{words, bytes, Below}
-use Rattle.words.proofs.Laws.{length-words, length-bytes, words-bytes, words-take, words-drop}
+use Rattle.words.proofs.Laws.{length-bytes, words-bytes, words-take, words-drop}
 use Rattle.edits.specs.Edits.{splice, cut}
-use Rattle.edits.specs.Records.{six}
 use Rattle.edits.specs.Calls.{usedWords, stored}
 use Rattle.buffers.specs.Files.{wordsInserted, wordsRemoved}
-use Rattle.buffers.specs.Journals.{Within}
 use Rattle.buffers.proofs.Fits.{inserted-fits, removed-fits}
 
 ---- as many words stored as are used
@@ -77,26 +74,3 @@ part-words s used a e n even q h =
     let k : 2 * (a / 2) ≡ a = omega arith in
     let from : drop (2 * (a / 2)) (take used s) ≡ drop a (take used s) = ap (λ i. drop i (take used s)) k in
     rw (m, ← take-within (2 * n) a used s (omega arith), ← from) (words-take n (drop (2 * (a / 2)) (take used s)) ∙ ap (take n) (words-drop (a / 2) (take used s)))
-
--- the used length before a record that was read, by the words before it
-pub before-length : (j : List ℕ) (n p before : ℕ) → Within (length j) n p before → 2 * length (take (before / 2) (words j)) ≡ before
-before-length j n p before W =
-    let even = W .even in
-    let room = W .room in
-    let l = length-words j in
-    let t = length-take-le (before / 2) (words j) (omega arith) in
-    omega arith
-
----- a pushed record
-
--- how long a pushed record is
-six-length : (k : ℕ) (h : Option ℕ) (p n : ℕ) → length (six k h p n) ≡ 6
-six-length k none p n = refl
-six-length k (some h) p n = refl
-
-pub record-length : (x : List ℕ) (k : ℕ) (h : Option ℕ) (p n : ℕ) → length x % 2 ≡ 0 → 2 * length (words x ++ six k h p n) ≡ length x + 12
-record-length x k h p n even =
-    let l = length-append (words x) (six k h p n) in
-    let w = length-words x in
-    let s = six-length k h p n in
-    omega arith

@@ -1,5 +1,4 @@
 pub mod Over
 pub mod Stored
 pub mod Fits
-pub mod Records
 pub mod Laws

@@ -1,20 +1,15 @@
--- The buffers in bytes and in words: words stored are their bytes, then zeros, then the rest, so a change of the used
--- bytes at even places is the same change of the used words.
+-- A file's buffer in bytes and in words: words stored are their bytes, then zeros, then the rest, so a change of the
+-- used bytes at even places is the same change of the used words.
 use Prim.Native.Nat.{ℕ, _+_, _-_, _*_, _/_, _%_, _≤_, _<_, max}
 use mathlib.Core.Path.{_≡_, refl, sym, ap, _∙_}
-use mathlib.Core.List.{List, [], _∷_, _++_, append-assoc}
-use mathlib.Core.Bool.{Bool, true, false, cond}
-use mathlib.Core.Option.{Option, none, some}
+use mathlib.Core.List.{List, _++_, append-assoc}
 use native.Mathlib.Omega.{arith}
 use lib.ListN.{length, take, drop, replicate, length-append, length-take, length-drop, length-replicate}
 use lib.Seq.{slice, length-slice, length-take-le, take-append-le, take-take, drop-at}
-use lib.Dec.{eqb}
-use borrow.Author.Tests.{eqb-true}
-use Rattle.words.specs.Words.{words, bytes, Below}
-use Rattle.words.proofs.Laws.{length-words, length-bytes, bytes-words, words-append, words-take, words-drop}
+use Rattle.words.specs.Words.{words, Below}
+use Rattle.words.proofs.Laws.{length-words, bytes-words, words-append, words-take, words-drop}
 use Rattle.edits.specs.Edits.{splice, cut}
-use Rattle.edits.specs.Records.{six, long, placeOf}
-use Rattle.edits.specs.Calls.{usedWords, stored, pushed}
+use Rattle.edits.specs.Calls.{usedWords, stored}
 use Rattle.edits.proofs.Bounds.{below-append, below-take, below-drop}
 use Rattle.buffers.specs.Moves.{over}
 use Rattle.buffers.proofs.Over.{over-over}
@@ -32,11 +27,7 @@ words-cut s p n h =
     let e : 2 * p + 2 * n ≡ 2 * (p + n) = omega arith in
     rw (e, words-append p (take (2 * p) s) (drop (2 * (p + n)) s) (length-take-le (2 * p) s h), words-take p s, words-drop (p + n) s) refl
 
-pub bytes-append : (a b : List ℕ) → bytes (a ++ b) ≡ bytes a ++ bytes b
-bytes-append [] b = refl
-bytes-append (w ∷ a) b = ap (λ l. w % 256 ∷ w / 256 % 256 ∷ l) (bytes-append a b)
-
----- words stored and words pushed, in bytes
+---- words stored, in bytes
 
 pub stored-bytes : (s : List ℕ) (n : ℕ) (y : List ℕ) (m : ℕ) → length y ≡ 2 * m → Below 256 y
     → stored s n (words y) ≡ y ++ (replicate (n - length y) 0 ++ drop (max n (length y)) s)
@@ -44,10 +35,6 @@ unfolding stored
 stored-bytes s n y m e b =
     let l : 2 * length (words y) ≡ length y = ap (λ k. 2 * k) (length-words y) ∙ (omega arith) in
     rw (l, bytes-words y m e b) refl
-
-pub pushed-over : (s : List ℕ) (n : ℕ) (ws : List ℕ) → pushed s n ws ≡ over s n (bytes ws)
-unfolding pushed over
-pushed-over s n ws = rw (length-bytes ws) refl
 
 ---- the bytes that the two moves of an insert leave, and the two of a remove
 
@@ -126,22 +113,3 @@ module _ (s : List ℕ) (used p : ℕ) (b : Below 256 s) (even : used % 2 ≡ 0)
       ∙ sym (ap (stored s used) (sym w)
       ∙ stored-bytes s used y ((used - 2 * n) / 2) (omega arith) (below-cut 256 (take used s) (2 * p) (2 * n) (omega arith) (below-take 256 used s (omega arith) b))
       ∙ rw (ly, freed, most) refl)
-
----- the two copies of a push
-
--- a header place as a long, from its number
-pub long-placed : (h : ℕ) → long (placeOf h) ≡ h / 65536 ∷ h % 65536 ∷ []
-long-placed h = go (eqb h 4294967295) refl
-  where
-    go : (t : Bool) → eqb h 4294967295 ≡ t → long (cond t none (some h)) ≡ h / 65536 ∷ h % 65536 ∷ []
-    go true e = rw (eqb-true h 4294967295 e) refl
-    go false e = refl
-
-pub push-copies : (s x t s₁ s₂ : List ℕ) (used k : ℕ) (h : Option ℕ) (p : ℕ) → Below 256 x → length x % 2 ≡ 0 → used + length x + 12 ≤ length s
-    → t ≡ bytes (six k h p (length x / 2)) → s₁ ≡ over s used x → s₂ ≡ over s₁ (used + length x) t → s₂ ≡ pushed s used (words x ++ six k h p (length (words x)))
-push-copies s x t s₁ s₂ used k h p b even l e f g =
-    let t′ : t ≡ bytes (six k h p (length (words x))) = e ∙ ap (λ n. bytes (six k h p n)) (sym (length-words x)) in
-    let y : bytes (words x ++ six k h p (length (words x))) ≡ x ++ t =
-    bytes-append (words x) (six k h p (length (words x))) ∙ rw (bytes-words x (length x / 2) (omega arith) b) (ap (λ z. x ++ z) (sym t′)) in
-    g ∙ rw f (over-over s used x (used + length x) t refl (omega arith))
-    ∙ sym (pushed-over s used (words x ++ six k h p (length (words x))) ∙ ap (over s used) y)

@@ -22,7 +22,7 @@ use Rattle.edits.proofs.Gaps.{file-long, gap-found}
 use Rattle.edits.proofs.Judging.{tree-spots}
 use Rattle.totals.proofs.Paths.{element-at, around-header, gap-header}
 use Rattle.totals.proofs.Totals.{totals-is, totals-around}
-use Rattle.faults.specs.Faults.{headerOf}
+use Rattle.opening.specs.Opening.{headerOf}
 use Rattle.changes.specs.Changes.{totalsUnder}
 
 ---- a place where a piece may go in

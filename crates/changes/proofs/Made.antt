@@ -27,9 +27,9 @@ use Rattle.edits.proofs.Parts.{length-set2}
 use Rattle.buffers.specs.Files.{wordsInserted, wordsRemoved}
 use Rattle.buffers.proofs.Stored.{length-splice, length-cut}
 use Rattle.buffers.proofs.Laws.{inserted-stored, removed-stored}
-use Rattle.faults.specs.Faults.{headerOf}
-use Rattle.faults.proofs.Opening.{AcceptedUsed}
-use Rattle.faults.proofs.Exact.{standing, found-is}
+use Rattle.opening.specs.Opening.{headerOf}
+use Rattle.opening.proofs.Opening.{AcceptedUsed}
+use Rattle.opening.proofs.Accepted.{standing, found-is}
 use Rattle.changes.specs.Changes.{flagPut, namePut, totalsUnder, usedTotals, pieceIn, extentOut}
 use Rattle.changes.proofs.Steps.{piece-within, extent-within}
 use Rattle.changes.proofs.Kept.{below-under, flag-stored, name-stored, totals-stored}
@@ -121,7 +121,7 @@ module _ (dim : ℕ) (F : List ℕ) (used m : ℕ) (below : Below 256 F) (even :
 
   module _ (p end depth : ℕ) (above : Above) (located : locateOf (usedWords F used) p m ≡ At end depth above) where
     found : Found (spotsOf dim (usedWords F used)) p end above
-    found = found-at (spotsOf dim (usedWords F used)) p end depth above (sym (found-is dim (take used F) m accepted part-below p) ∙ located)
+    found = found-at (spotsOf dim (usedWords F used)) p end depth above (sym (found-is dim (take used F) m accepted p) ∙ located)
 
     extent : extentIn (spotsOf dim (usedWords F used)) p ≡ end - p
     extent = found-extent dim (take used F) p end above part-accepted found

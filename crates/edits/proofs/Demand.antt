@@ -18,7 +18,7 @@ use Rattle.edits.specs.Edits.{Edit}
 use Rattle.edits.specs.Allowed.{fine, unless}
 use Rattle.edits.specs.Calls.{Session, Call, bufferOk, usedOk, usedWords, endsInMarker, sessionOk, fileFault, sessionFault}
 use Rattle.edits.specs.Book.{Run, ran, applied, undos}
-use Rattle.edits.specs.Demand.{Opened, PiecesBytes, runOf, usedBytes, AcceptedFile, Demand3, EveryRun}
+use Rattle.edits.specs.Demand.{OpenedEmpty, PiecesBytes, runOf, usedBytes, AcceptedFile, Demand3, EveryRun}
 use Rattle.edits.proofs.Accepted.{Accepted}
 use Rattle.edits.proofs.Bounds.{below-take}
 use Rattle.edits.proofs.Buffers.{Holds, used-holds, holds-same}
@@ -44,7 +44,7 @@ file-tree dim hyp ws b ends = go (topOf dim ws) refl
         hyp .judged-tree ws next e d k b q (let l = long in omega arith)
     go (Fault n p) q f = let z : _≡_ {A = ℕ} 0 1 = cc in absurd (omega arith)
 
-begin : (dim : ℕ) → Hypotheses dim → (s : Session) → Opened dim s → Begun dim s
+begin : (dim : ℕ) → Hypotheses dim → (s : Session) → OpenedEmpty dim s → Begun dim s
 unfolding sessionFault sessionOk
 begin dim hyp s O =
     let u = usedWords (s .file) (s .used) in
@@ -126,7 +126,7 @@ module _ (dim : ℕ) (hyp : Hypotheses dim) (s₀ : Session) (B : Begun dim s₀
       }
 
 -- demand 3, at one dimension and at every one
-pub demand-3 : (dim : ℕ) → Hypotheses dim → (s : Session) (cs : List Call) → Opened dim s → PiecesBytes cs → Demand3 dim s (runOf dim s cs)
+pub demand-3 : (dim : ℕ) → Hypotheses dim → (s : Session) (cs : List Call) → OpenedEmpty dim s → PiecesBytes cs → Demand3 dim s (runOf dim s cs)
 demand-3 dim hyp s cs O b =
     let B = begin dim hyp s O in
     after-run dim hyp s B (runOf dim s cs) (kept-run dim hyp s B cs (record { session = s; book = [] }) b (first dim hyp s B))

@@ -98,7 +98,7 @@ record-below (removed h p x) s =
     below-append 65536 x (six 4 h p (length x)) (s .1 .1 .1) (six-below 4 h p (length x) (omega arith) (s .0) (s .1 .0) (s .1 .1 .0))
 
 -- a record is not empty
-six-long : (k : ℕ) (h : Option ℕ) (p n : ℕ) → length (six k h p n) ≡ 6
+pub six-long : (k : ℕ) (h : Option ℕ) (p n : ℕ) → length (six k h p n) ≡ 6
 six-long k none p n = refl
 six-long k (some h) p n = refl
 

@@ -14,7 +14,7 @@ use Rattle.edits.specs.Calls.{Session, Call, mark-call, rename-call, ins
 use Rattle.edits.specs.Book.{Run, ran, noting, wasRefused, applied, undos}
 
 -- what a run starts with
-pub record Opened (dim : ℕ) (s : Session) : Type 0 where
+pub record OpenedEmpty (dim : ℕ) (s : Session) : Type 0 where
   -- the file's buffer is bytes
   pub file-bytes : Below 256 (s .file)
   -- the journal's buffer is bytes
@@ -85,4 +85,4 @@ pub record Demand3 (dim : ℕ) (s : Session) (r : Run) : Type 0 where
 
 -- the demand: every dimension, session and list of calls
 abbrev pub EveryRun : Type 0
-EveryRun = (dim : ℕ) (s : Session) (cs : List Call) → Opened dim s → PiecesBytes cs → Demand3 dim s (runOf dim s cs)
+EveryRun = (dim : ℕ) (s : Session) (cs : List Call) → OpenedEmpty dim s → PiecesBytes cs → Demand3 dim s (runOf dim s cs)

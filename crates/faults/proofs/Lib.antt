@@ -1,4 +1,1 @@
-pub mod Depths
-pub mod Inserting
-pub mod Opening
 pub mod Exact

@@ -19,10 +19,10 @@ use Rattle.edits.specs.Edits.{mark, rename, namePlace}
 use Rattle.edits.specs.Allowed.{fine, fault, renameFault, editFault}
 use Rattle.edits.specs.Records.{flag, recordOf}
 use Rattle.edits.specs.Calls.{Session, mark-call, rename-call, usedWords, sessionFault}
-use Rattle.buffers.specs.Journals.{recordPushed}
-use Rattle.faults.specs.Opening.{sessionOf}
-use Rattle.faults.specs.Faults.{numbered, markNumber, renameNumber}
-use Rattle.faults.proofs.Exact.{mark-is, rename-is}
+use Rattle.journals.specs.Journals.{recordPushed}
+use Rattle.opening.specs.Opening.{sessionOf}
+use Rattle.faults.specs.Faults.{markNumber, renameNumber}
+use Rattle.faults.proofs.Exact.{numbered, mark-is, rename-is}
 use Rattle.changes.specs.Changes.{flagPut, namePut, cellName}
 use Rattle.changes.proofs.Made as made
 use Rattle.steps.specs.Steps.{Leaves, Stepped, lastPlace, Open}
@@ -61,7 +61,7 @@ module _ (dim : ℕ) (file : List ℕ) (used : ℕ) (journal : List ℕ) (jused 
   module _ (deleted : Bool) (n : ℕ) (is : n ≡ markNumber (words (take used file)) found p deleted) where
     mark-own : numbered n ≡ editFault dim ws (mark p deleted)
     unfolding editFault
-    mark-own = ap numbered (is ∙ ap (λ f. markNumber ws f p deleted) (o .found-is)) ∙ mark-is dim (take used file) m (open-used o) (used-below o below) p deleted
+    mark-own = ap numbered (is ∙ ap (λ f. markNumber ws f p deleted) (o .found-is)) ∙ mark-is dim (take used file) m (open-used o) p deleted
 
     pub mark-refused : (n ≡ 0 → ⊥) → Stepped dim s (mark-call p deleted) (Refused n 0) file journal
     mark-refused h =
@@ -99,7 +99,7 @@ module _ (dim : ℕ) (file : List ℕ) (used : ℕ) (journal : List ℕ) (jused 
 
   module _ (named : Bool) (a b n : ℕ) (is : n ≡ renameNumber (words (take used file)) found p named) where
     rename-own : numbered n ≡ renameFault (spotsOf dim ws) ws p named
-    rename-own = ap numbered (is ∙ ap (λ f. renameNumber ws f p named) (o .found-is)) ∙ rename-is dim (take used file) m (open-used o) (used-below o below) p named
+    rename-own = ap numbered (is ∙ ap (λ f. renameNumber ws f p named) (o .found-is)) ∙ rename-is dim (take used file) m (open-used o) p named
 
     pub rename-refused : (n ≡ 0 → ⊥) → Leaves (cellRenamed dim s p named a b) (Refused n 0) file journal
     rename-refused h = edit-refused dim s (rename p a b) (renameFault (spotsOf dim ws) ws p named) n 0 (sym rename-own ∙ numbered-fault n h)

@@ -2,12 +2,12 @@
 // (1, the file's own refusals, 1 for an early marker) and so finds its place, then its own refusals and 16, and changes the
 // buffers last. Contracts: one step of edits' specs/Calls.
 ghost use Rattle.edits.specs.Calls.{mark-call, rename-call};
-ghost use Rattle.faults.specs.Opening.{sessionOf};
+ghost use Rattle.opening.specs.Opening.{sessionOf};
 ghost use Rattle.steps.specs.Steps.{Leaves, Stepped, Open};
 ghost use Rattle.marking.specs.Marking.{cellRenamed};
-use buffers::TOP;
 use edits::Edited;
-use faults::Opened;
+use journals::TOP;
+use opening::Opened;
 use places::Spotted;
 
 // Marks the element at a place deleted, or live, in an open session.
@@ -31,7 +31,7 @@ fn mark_opened(
     if journal.len() - jused < 12 {
         return steps::refused(16);
     }
-    buffers::push(journal, jused, 1, TOP, place, &file[..0]);
+    journals::push(journal, jused, 1, TOP, place, &file[..0]);
     changes::mark_element(&mut file[..used], place, deleted);
     Edited::Made {
         used,
@@ -51,7 +51,7 @@ pub fn mark(
 ) -> Edited
     ensures { λ r. ⌜ Stepped dim (sessionOf (now (file .entry)) used (now (journal .entry)) jused) (mark-call place deleted) r (now (file .exit)) (now (journal .exit)) ⌝ }
 {
-    match faults::open_at(file, used, journal.len(), jused, dim, place) {
+    match opening::open_at(file, used, journal.len(), jused, dim, place) {
         Opened::Refused {
             number,
             place: fault,
@@ -89,7 +89,7 @@ fn rename_opened(
         return steps::refused(16);
     }
     let old = changes::cell_name(&file[..used], place);
-    buffers::push(journal, jused, 2, TOP, place, &old);
+    journals::push(journal, jused, 2, TOP, place, &old);
     changes::rename_cell(&mut file[..used], place, first, second);
     Edited::Made {
         used,
@@ -143,7 +143,7 @@ pub fn rename(
 ) -> Edited
     ensures { λ r. ⌜ Stepped dim (sessionOf (now (file .entry)) used (now (journal .entry)) jused) (rename-call place (now (text .entry))) r (now (file .exit)) (now (journal .exit)) ⌝ }
 {
-    match faults::open_at(file, used, journal.len(), jused, dim, place) {
+    match opening::open_at(file, used, journal.len(), jused, dim, place) {
         Opened::Refused {
             number,
             place: fault,

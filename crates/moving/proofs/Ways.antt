@@ -20,12 +20,14 @@ use Rattle.edits.specs.Allowed.{Fault?, fine, fault, unless, editFault}
 use Rattle.edits.specs.Records.{recordOf}
 use Rattle.edits.specs.Calls.{Session, Call, insert-call, remove-call, usedWords, bufferOk}
 use Rattle.edits.proofs.Accepted.{SmallHeader, Small}
-use Rattle.buffers.specs.Journals.{recordPushed}
 use Rattle.buffers.proofs.Laws.{part-words}
-use Rattle.faults.specs.declared.Fault.the-variants as answer
-use Rattle.faults.specs.Opening.{sessionOf}
-use Rattle.faults.specs.Faults.{isAt, headerOf, insertRefusal, answerOf}
-use Rattle.faults.proofs.Exact.{remove-is, insert-is}
+use Rattle.journals.specs.Journals.{recordPushed}
+use Rattle.opening.specs.Opening.{sessionOf, headerOf}
+use Rattle.faults.specs.Faults.{isAt}
+use Rattle.faults.proofs.Exact.{remove-is}
+use Rattle.inserting.specs.declared.Fault.the-variants as answer
+use Rattle.inserting.specs.Inserting.{insertRefusal, answerOf}
+use Rattle.inserting.proofs.Exact.{insert-is}
 use Rattle.changes.specs.Changes.{pieceIn, extentOut}
 use Rattle.changes.proofs.Made as made
 use Rattle.steps.specs.Steps.{Stepped, lastPlace, Open, numberOf}
@@ -117,7 +119,7 @@ module _ (dim : ℕ) (file : List ℕ) (used : ℕ) (journal : List ℕ) (jused 
 
   remove-own : unless (isAt found) 13 ≡ editFault dim ws (remove p)
   unfolding editFault
-  remove-own = ap (λ f. unless (isAt f) 13) (o .found-is) ∙ remove-is dim (take used file) m (open-used o) (used-below o below) p
+  remove-own = ap (λ f. unless (isAt f) 13) (o .found-is) ∙ remove-is dim (take used file) m (open-used o) p
 
   pub remove-absent : (n q : ℕ) → found ≡ Nowhere n q → Stepped dim s (remove-call p) (Refused 13 0) file journal
   remove-absent n q e =

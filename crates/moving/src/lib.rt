@@ -4,12 +4,11 @@
 ghost use mathlib.Core.Path.{_≡_};
 ghost use mathlib.Core.Bool.{true};
 ghost use Rattle.edits.specs.Calls.{insert-call, remove-call, bufferOk};
-ghost use Rattle.faults.specs.Opening.{sessionOf};
-ghost use Rattle.faults.specs.Faults.{headerOf};
+ghost use Rattle.opening.specs.Opening.{sessionOf, headerOf};
 ghost use Rattle.steps.specs.Steps.{Stepped, lastPlace, Open};
 ghost use Rattle.moving.specs.Moving.{Stands};
 use edits::Edited;
-use faults::Opened;
+use opening::Opened;
 use places::Above;
 use places::Spotted;
 
@@ -31,16 +30,16 @@ fn insert_opened(
     requires { ⌜ bufferOk (now piece) ≡ true ⌝ }
     ensures { λ r. ⌜ Stepped dim (sessionOf (now (file .entry)) used (now (journal .entry)) jused) (insert-call (headerOf header) place (now (piece .entry))) r (now (file .exit)) (now (journal .exit)) ⌝ }
 {
-    match faults::insert_fault(&file[..used], dim, marker, found, header, place, piece) {
-        faults::Fault::At { number, place: at } => Edited::Refused { number, place: at },
-        faults::Fault::Fine => {
+    match inserting::insert_fault(&file[..used], dim, marker, found, header, place, piece) {
+        inserting::Fault::At { number, place: at } => Edited::Refused { number, place: at },
+        inserting::Fault::Fine => {
             if file.len() - used < piece.len() {
                 return steps::refused(15);
             }
             if journal.len() - jused < 12 {
                 return steps::refused(16);
             }
-            buffers::push(
+            journals::push(
                 journal,
                 jused,
                 3,
@@ -84,7 +83,7 @@ pub fn insert(
     if !piece_ok(piece) {
         return steps::refused(1);
     }
-    match faults::open_at(file, used, journal.len(), jused, dim, place) {
+    match opening::open_at(file, used, journal.len(), jused, dim, place) {
         Opened::Refused {
             number,
             place: fault,
@@ -127,7 +126,7 @@ fn remove_found(
     if journal.len() - jused < n + 12 {
         return steps::refused(16);
     }
-    buffers::push(
+    journals::push(
         journal,
         jused,
         4,
@@ -179,7 +178,7 @@ pub fn remove(
 ) -> Edited
     ensures { λ r. ⌜ Stepped dim (sessionOf (now (file .entry)) used (now (journal .entry)) jused) (remove-call place) r (now (file .exit)) (now (journal .exit)) ⌝ }
 {
-    match faults::open_at(file, used, journal.len(), jused, dim, place) {
+    match opening::open_at(file, used, journal.len(), jused, dim, place) {
         Opened::Refused {
             number,
             place: fault,

@@ -5,7 +5,7 @@ use Rattle.edits.specs.declared.Edited.{Edited}
 use Rattle.edits.specs.declared.Edited.the-variants.{Made, Refused}
 use Rattle.edits.specs.Calls.{Session, Call}
 use Rattle.edits.specs.Book.{Run, noted, wasRefused}
-use Rattle.edits.specs.Demand.{Opened, PiecesBytes, Demand3}
+use Rattle.edits.specs.Demand.{OpenedEmpty, PiecesBytes, Demand3}
 use Rattle.steps.specs.Steps.{Stepped}
 
 -- the session that a call leaves: the two buffers as they then are, and the answer's used lengths; where it is refused, the
@@ -26,5 +26,5 @@ pub data Called (dim : ℕ) : Run → List Call → Run → Type 0 where
 -- the demand, of every dimension, session and list of calls
 abbrev pub EveryCall : Type 0
 EveryCall =
-    (dim : ℕ) (s : Session) (cs : List Call) (last : Run) → Opened dim s → PiecesBytes cs →
+    (dim : ℕ) (s : Session) (cs : List Call) (last : Run) → OpenedEmpty dim s → PiecesBytes cs →
     Called dim (record { session = s; book = [] }) cs last → Demand3 dim s last

@@ -19,11 +19,11 @@ use Rattle.edits.proofs.Faults.{orElse-fine, unless-fine}
 use Rattle.edits.proofs.Accepted.{Carried, Sound}
 use Rattle.edits.proofs.Bounds.{below-take}
 use Rattle.edits.proofs.Sound.{sound}
-use Rattle.faults.specs.declared.Opened.{Opened}
-use Rattle.faults.specs.declared.Opened.the-variants.{Ready, Refused}
-use Rattle.faults.specs.Opening.{openedBy, lengthsOk, sessionOf, OpenedAs}
-use Rattle.faults.proofs.Opening.{AcceptedUsed, Lengths, lengths-true, open-accepted}
-use Rattle.faults.proofs.Exact.{standing}
+use Rattle.opening.specs.declared.Opened.{Opened}
+use Rattle.opening.specs.declared.Opened.the-variants.{Ready, Refused}
+use Rattle.opening.specs.Opening.{openedBy, lengthsOk, sessionOf, OpenedAs}
+use Rattle.opening.proofs.Opening.{AcceptedUsed, Lengths, lengths-true, open-accepted}
+use Rattle.opening.proofs.Accepted.{standing}
 use Rattle.steps.specs.Steps.{lastPlace, Open}
 
 module _ (dim : ℕ) (file : List ℕ) (used : ℕ) (journal : List ℕ) (jused : ℕ) where

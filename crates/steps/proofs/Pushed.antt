@@ -14,10 +14,9 @@ use Rattle.places.specs.declared.Above.the-variants.{Top, Under}
 use Rattle.edits.specs.Records.{Rec, flag, renamed, inserted, removed, six, placeOf, recordWords}
 use Rattle.edits.specs.Calls.{pushed}
 use Rattle.edits.proofs.Accepted.{SmallHeader}
-use Rattle.buffers.specs.Journals.{recordPushed}
-use Rattle.buffers.proofs.Fits.{pushed-fits}
-use Rattle.buffers.proofs.Laws.{record-length}
-use Rattle.faults.specs.Faults.{headerOf}
+use Rattle.journals.specs.Journals.{recordPushed}
+use Rattle.journals.proofs.Pushed.{pushed-fits, record-length}
+use Rattle.opening.specs.Opening.{headerOf}
 use Rattle.changes.specs.Changes.{nameBytes}
 use Rattle.steps.specs.Steps.{numberOf, aboveAt}
 

@@ -14,7 +14,7 @@ use Rattle.places.specs.Descent.{locateOf}
 use Rattle.edits.specs.declared.Edited.{Edited}
 use Rattle.edits.specs.Allowed.{fine}
 use Rattle.edits.specs.Calls.{Session, Call, usedWords, sessionFault, Result, step}
-use Rattle.faults.specs.Opening.{sessionOf}
+use Rattle.opening.specs.Opening.{sessionOf}
 
 -- what is answered and left in the two buffers is what a result says
 pub record Leaves (q : Result) (r : Edited) (file journal : List ℕ) : Type 0 where

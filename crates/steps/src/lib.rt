@@ -3,8 +3,8 @@
 ghost use mathlib.Core.Path.{_≡_};
 ghost use Rattle.edits.specs.declared.Edited.the-variants.{Refused};
 ghost use Rattle.steps.specs.Steps.{numberOf, aboveAt};
-use buffers::TOP;
 use edits::Edited;
+use journals::TOP;
 use places::Above;
 
 // A refusal at place 0.

@@ -21,14 +21,16 @@ use Rattle.edits.specs.Allowed.{Fault?, fine, fault, insertFault, editFault}
 use Rattle.edits.specs.Records.{Rec, flag, renamed, inserted, removed, placeOf, lastRecord, isFine, reversal, reversible}
 use Rattle.edits.specs.Calls.{Session, undo-call, usedWords, sessionFault, stored}
 use Rattle.edits.proofs.Bounds.{below-take}
-use Rattle.buffers.specs.declared.Last.{Last}
-use Rattle.buffers.specs.declared.Last.the-variants as last
-use Rattle.buffers.specs.Journals.{Within, LastRead}
-use Rattle.buffers.proofs.Laws.{before-length, part-words}
-use Rattle.faults.specs.Opening.{sessionOf}
-use Rattle.faults.specs.Faults.{headerOf, sameAbove, standsUnder, reversesAt, recordBy}
-use Rattle.faults.proofs.Opening.{AcceptedUsed}
-use Rattle.faults.proofs.Exact.{reversible-is}
+use Rattle.buffers.proofs.Laws.{part-words}
+use Rattle.journals.specs.declared.Last.{Last}
+use Rattle.journals.specs.declared.Last.the-variants as last
+use Rattle.journals.specs.Journals.{Within, LastRead}
+use Rattle.journals.proofs.Records.{before-length}
+use Rattle.opening.specs.Opening.{sessionOf, headerOf}
+use Rattle.opening.proofs.Opening.{AcceptedUsed}
+use Rattle.faults.specs.Faults.{sameAbove, standsUnder}
+use Rattle.reversing.specs.Reversing.{reversesAt}
+use Rattle.reversing.proofs.Exact.{recordBy, reversible-is}
 use Rattle.changes.specs.Changes.{flagPut, namePut, nameBytes, pieceIn, extentOut}
 use Rattle.changes.proofs.Made as made
 use Rattle.steps.specs.Steps.{Stepped, lastPlace, aboveAt}

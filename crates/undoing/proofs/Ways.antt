@@ -13,7 +13,7 @@ use Rattle.edits.specs.Edits.{apply}
 use Rattle.edits.specs.Allowed.{Fault?, fine, fault}
 use Rattle.edits.specs.Records.{Rec, lastRecord, reversal, reversible}
 use Rattle.edits.specs.Calls.{Session, undo-call, usedWords, sessionFault, stored, refused, resultBy, undoMade, undoBy, undone, step}
-use Rattle.faults.proofs.Opening.{AcceptedUsed, open-accepted}
+use Rattle.opening.proofs.Opening.{AcceptedUsed, open-accepted}
 use Rattle.steps.specs.Steps.{Stepped, lastPlace, Open}
 use Rattle.steps.proofs.Steps.{by-result, left, opened}
 use Rattle.steps.proofs.Opened.{open-by, file-lengths}
@@ -36,7 +36,7 @@ module _ (dim : ℕ) (file : List ℕ) (used : ℕ) (journal : List ℕ) (jused 
         found-is = open-by dim file used journal jused e o .found-is;
       }
 
--- its used part, as faults' laws have it
+-- its used part, as opening's laws have it
 pub accepted-used : (dim : ℕ) (file : List ℕ) (used p : ℕ) (found : Spotted) → OpenFile dim file used p found → AcceptedUsed dim (take used file) (lastPlace file used)
 accepted-used dim file used p found o = record { elements = o .elements; deepest = o .deepest; judged = o .judged; last = o .last }
 

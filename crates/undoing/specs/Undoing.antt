@@ -14,8 +14,8 @@ use Rattle.edits.specs.Edits.{apply}
 use Rattle.edits.specs.Allowed.{Fault?, fine, fault, orElse, unless}
 use Rattle.edits.specs.Records.{Rec, reversal, reversible}
 use Rattle.edits.specs.Calls.{usedWords, stored}
-use Rattle.buffers.specs.declared.Last.{Last}
-use Rattle.buffers.specs.declared.Last.the-variants as last
+use Rattle.journals.specs.declared.Last.{Last}
+use Rattle.journals.specs.declared.Last.the-variants as last
 use Rattle.steps.specs.Steps.{lastPlace}
 
 -- the file of a session that opens, with what starts at the place p of it

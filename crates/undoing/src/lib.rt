@@ -7,13 +7,13 @@ ghost use lib.ListN.{length, take};
 ghost use Rattle.words.specs.Words.{words};
 ghost use Rattle.edits.specs.Records.{flag, renamed, inserted, removed, placeOf};
 ghost use Rattle.edits.specs.Calls.{undo-call};
-ghost use Rattle.buffers.specs.Journals.{LastRead};
-ghost use Rattle.faults.specs.Opening.{sessionOf};
+ghost use Rattle.journals.specs.Journals.{LastRead};
+ghost use Rattle.opening.specs.Opening.{sessionOf};
 ghost use Rattle.steps.specs.Steps.{Stepped, lastPlace, Open};
 ghost use Rattle.undoing.specs.Undoing.{OpenFile, placeIn, Reversed};
-use buffers::Last;
 use edits::Edited;
-use faults::Opened;
+use journals::Last;
+use opening::Opened;
 use places::Above;
 use places::Spotted;
 
@@ -32,7 +32,7 @@ fn undo_flag(
     ensures { λ r. ⌜ Reversed dim (now (file .entry)) used (flag place) before r (now (file .exit)) ⌝ }
 {
     let none = [0; 2];
-    if !faults::reversible(
+    if !reversing::reversible(
         &file[..used],
         dim,
         marker,
@@ -69,7 +69,7 @@ fn undo_renamed(
     ensures { λ r. ⌜ Reversed dim (now (file .entry)) used (renamed place first second) before r (now (file .exit)) ⌝ }
 {
     let payload = changes::name_bytes(first, second);
-    if !faults::reversible(
+    if !reversing::reversible(
         &file[..used],
         dim,
         marker,
@@ -142,7 +142,7 @@ fn undo_removed(
     ensures { λ r. ⌜ Reversed dim (now (file .entry)) used (removed (placeOf header) place (words (now (piece .entry)))) before r (now (file .exit)) ⌝ }
 {
     let above = steps::header_at(header);
-    if !faults::reversible(&file[..used], dim, marker, found, 4, above, place, piece) {
+    if !reversing::reversible(&file[..used], dim, marker, found, 4, above, place, piece) {
         return steps::refused(19);
     }
     if file.len() - used < piece.len() {
@@ -160,7 +160,7 @@ fn record_by(journal: &[u8], jused: usize) -> Last
     ensures { λ r. ⌜ (jused ≤ length (now (journal .entry)) → LastRead (take jused (now (journal .entry))) r) ⌝ }
 {
     if jused <= journal.len() {
-        return buffers::last_record(&journal[..jused]);
+        return journals::last_record(&journal[..jused]);
     }
     Last::Bad
 }
@@ -261,7 +261,7 @@ pub fn undo(file: &mut [u8], used: usize, journal: &[u8], jused: usize, dim: usi
 {
     let last = record_by(journal, jused);
     let place = place_in(last);
-    match faults::open_at(file, used, journal.len(), jused, dim, place) {
+    match opening::open_at(file, used, journal.len(), jused, dim, place) {
         Opened::Refused {
             number,
             place: fault,

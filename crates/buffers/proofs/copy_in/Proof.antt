@@ -1,4 +1,4 @@
--- The invariant: the first k bytes of src stand at `at` (`copy-turn`).
+-- The invariant: the first k bytes of src stand at `at` (`copy-turn`); where a test fails nothing fits.
 use Prim.Native.Nat.{_-_, _≤_}
 use mathlib.Core.Path.{_≡_, refl, sym, _∙_}
 use native.Mathlib.Omega.{arith}
@@ -8,6 +8,7 @@ use lib.Seq.{take-all}
 use borrow.Author.Needs.{needs}
 use Rattle.buffers.specs.Moves.{over}
 use Rattle.buffers.proofs.Over.{over-nil, copy-turn}
+use Rattle.buffers.proofs.Fits.{copied-fits, copied-not}
 use Rattle.buffers.proofs.copy_in.Statement.{statement}
 use Rattle.buffers.proofs.copy_in.Tie as tie
 
@@ -16,6 +17,15 @@ Inv-loop s₀ at src k₀ s k = (k ≤ length src) × (length s ≡ length s₀)
 
 abbrev μ-loop : tie.MeasureT-loop
 μ-loop s₀ at src k₀ s k = length src - k
+
+returns : tie.Need-returns Inv-loop μ-loop
+returns c = copied-not _ _ _ (λ h. omega arith)
+
+sub-if2 : tie.Need-sub-if2 Inv-loop μ-loop
+sub-if2 c = search needs
+
+returns-2 : tie.Need-returns-2 Inv-loop μ-loop
+returns-2 c = copied-not _ _ _ (λ h. omega arith)
 
 loop-holds : tie.Need-loop-holds Inv-loop μ-loop
 loop-holds c = (omega arith, refl, sym (over-nil _ _))
@@ -41,8 +51,8 @@ loop-again c = (omega arith, simp length-set (omega arith), rw add-one (copy-tur
 same-length : tie.Need-same-length Inv-loop μ-loop
 same-length c = search needs
 
-returns : tie.Need-returns Inv-loop μ-loop
-returns c = (c .before .loop .inv .2) ∙ rw (take-all _ _ (c .loop-test .left)) refl
+returns-3 : tie.Need-returns-3 Inv-loop μ-loop
+returns-3 c = (c .before .loop .inv .2) ∙ rw (take-all _ _ (c .loop-test .left)) (sym (copied-fits _ _ _ (omega arith)))
 
 pub copy-in-spec : {M : Type 1} → statement M
 copy-in-spec =
@@ -50,6 +60,9 @@ copy-in-spec =
     (tie.spec
     Inv-loop
     μ-loop
+    returns
+    sub-if2
+    returns-2
     loop-holds
     shared-slice-read-s
     add-s
@@ -58,4 +71,4 @@ copy-in-spec =
     loop-less
     loop-again
     same-length
-    returns)
+    returns-3)

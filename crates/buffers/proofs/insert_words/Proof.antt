@@ -4,7 +4,7 @@ use native.Mathlib.Omega.{arith}
 use borrow.Author.Needs.{needs}
 use Rattle.words.proofs.Laws.{lent-below}
 use Rattle.buffers.proofs.Stored.{insert-moves}
-use Rattle.buffers.proofs.Fits.{inserted-fits, inserted-not}
+use Rattle.buffers.proofs.Fits.{copied-fits, inserted-fits, inserted-not}
 use Rattle.buffers.proofs.insert_words.Statement.{statement}
 use Rattle.buffers.proofs.insert_words.Tie as tie
 
@@ -45,7 +45,7 @@ returns-6 c =
     let piece = lent-below (args .piece .now) (c .before .before .before .before .before .before .before .before .before .before .before .before .before .shared-slice-known .given) in
     let even = c .before .before .before .before .before .before .before .before .before .before .before .before .if1 .left in
     let even-piece = c .before .before .before .before .before .before .before .before .before .before .before .if2 .left in
-    insert-moves _ _ _ file even (omega arith) _ _ _ piece even-piece (omega arith) (omega arith) (c .before .before .before .before .before .before .move-up .ensures) (c .before .before .copy-in .ensures)
+    insert-moves _ _ _ file even (omega arith) _ _ _ piece even-piece (omega arith) (omega arith) (c .before .before .before .before .before .before .move-up .ensures) ((c .before .before .copy-in .ensures) ∙ copied-fits _ _ _ (omega arith))
     ∙ sym (inserted-fits _ _ _ _ even even-piece (omega arith) (omega arith))
 
 pub insert-words-spec : {M : Type 1} → statement M

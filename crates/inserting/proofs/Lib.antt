@@ -1,0 +1,3 @@
+pub mod Depths
+pub mod Inserting
+pub mod Exact
