@@ -26,9 +26,9 @@
  *   18 NOT A CELL   rename of another type
  *   19 BAD JOURNAL  the last record is ill-formed or its reversal is not allowed
  *
- * An answer goes to the front of a slice, `out` or `text`; each function says how many numbers it needs, and what
- * stands behind them stays. With fewer it returns 1 and writes nothing. Where it refuses otherwise, the first number is
- * the refusal's place and the rest stays (but see dgn_find). A refusal changes no other lent byte.
+ * An answer goes to the front of a slice, `out`; each function says how many numbers it needs, and what stands behind
+ * them stays. With fewer it returns 1 and writes nothing. Where it refuses otherwise, the first number is the refusal's
+ * place and the rest stays (but see dgn_find). A refusal changes no byte of any other slice or buffer.
  */
 #ifndef DGN_H
 #define DGN_H
@@ -80,8 +80,9 @@ size_t dgn_linkage(const uint8_t *file, size_t len, size_t dimension, size_t pla
 /* A text of 0 to 6 letters (space, A-Z, $, ., 0-9, no trailing space) to two words. out needs 2. Refusals: 1, 12. */
 size_t dgn_pack(const uint8_t *text, size_t text_len, size_t *out, size_t out_len);
 
-/* Two words to their text. text needs 7: the letters, then zeros, so that it ends as a string does; where the words are
- * refused, text[0] is 0. Refusals: 1, 12. */
+/* Two words to their text. text needs 7: the letters, then zeros, so that it ends as a string does; what stands behind
+ * them stays. Refusals, each at place 0, which is not written: 1 (also with fewer than 7), 12. A refusal leaves every
+ * byte of text as it was. */
 size_t dgn_unpack(size_t first, size_t second, uint8_t *text, size_t text_len);
 
 /* ---- writing ---- */

@@ -78,8 +78,8 @@ int main(void)
 
     check(dgn_pack((const uint8_t *)"00417", 5, out, 2) == 0 && are(out, 2, (size_t[]){49234, 51080}), "pack");
     check(dgn_unpack(49234, 51080, text, 7) == 0 && memcmp(text, "00417\0", 7) == 0, "unpack");
-    check(dgn_unpack(64000, 0, text, 7) == 12 && text[0] == 0, "word 64000");
-    check(dgn_unpack(49234, 51080, text, 6) == 1 && text[0] == 0, "six bytes are too few");
+    check(dgn_unpack(64000, 0, text, 7) == 12 && memcmp(text, "00417\0", 7) == 0, "word 64000, and the text stays");
+    check(dgn_unpack(1, 0, text, 6) == 1 && memcmp(text, "00417\0", 7) == 0, "six bytes are too few");
 
     /* a session: the line taken out, put back under the cell, the cell renamed and marked, then all undone */
     uint8_t original[sizeof file];

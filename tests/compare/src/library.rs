@@ -167,10 +167,15 @@ pub fn pack(text: &[u8]) -> Result<(u16, u16), Refusal> {
     result(given, |p| p).map(|o| (u16::try_from(o[0]).unwrap(), u16::try_from(o[1]).unwrap()))
 }
 
-/// The seven bytes of a text.
+/// The seven bytes of a text. A refusal writes none of them, and its place is 0.
 pub fn unpack(first: u64, second: u64) -> Result<[u8; 7], Refusal> {
-    let given = LENDING.with(|l| answer::<u8, 7>(l, |t, m| unsafe { dgn_unpack(first as usize, second as usize, t, m) }));
-    result(given, usize::from)
+    let (number, text) =
+        LENDING.with(|l| answer::<u8, 7>(l, |t, m| unsafe { dgn_unpack(first as usize, second as usize, t, m) }));
+    if number == 0 {
+        return Ok(text);
+    }
+    assert_eq!(text, [u8::MARK; 7], "a refusal leaves the lent text");
+    Err(refusal(number, 0))
 }
 
 /// Writes into a copy of the buffer, which is copied back.

@@ -1,0 +1,50 @@
+-- A slice that is too short leaves all as it was; a number that is no flag is refused; else the session's own step.
+use Rattle.edit_answers.proofs.Sessions.{not-left, mark-left, mark-not}
+use borrow.Author.Needs.{needs}
+use Rattle.dgn_marks.proofs.dgn_mark.Statement.{statement}
+use Rattle.dgn_marks.proofs.dgn_mark.Tie as tie
+
+returns : tie.Need-returns
+returns c = not-left _ _ _ ((c .if1 .taken))
+
+slice-write-out : tie.Need-slice-write-out
+slice-write-out c = search needs
+
+same-length : tie.Need-same-length
+same-length c = search needs
+
+returns-2 : tie.Need-returns-2
+returns-2 c = mark-not _ _ _ _ _ ((c .before .if1 .left)) ((c .if2 .taken))
+
+mark-requires : tie.Need-mark-requires
+mark-requires c κs = search needs
+
+put-edited-requires : tie.Need-put-edited-requires
+put-edited-requires c κs = search needs
+
+same-length-2 : tie.Need-same-length-2
+same-length-2 c = search needs
+
+same-length-3 : tie.Need-same-length-3
+same-length-3 c = search needs
+
+same-length-4 : tie.Need-same-length-4
+same-length-4 c = search needs
+
+returns-3 : tie.Need-returns-3
+returns-3 c = mark-left _ _ _ _ _ ((c .before .before .before .before .before .before .before .before .mark .result)) _ _ _ _ ((c .before .before .before .before .before .before .before .before .before .before .before .before .if1 .left)) ((c .before .before .before .before .before .before .before .before .before .before .before .if2 .left)) ((c .before .before .before .before .before .before .before .before .mark .ensures)) ((c .before .before .put-edited .ensures))
+
+pub dgn-mark-spec : {M : Type 1} → statement M
+dgn-mark-spec =
+    tie.close
+    (tie.spec
+    returns
+    slice-write-out
+    same-length
+    returns-2
+    mark-requires
+    put-edited-requires
+    same-length-2
+    same-length-3
+    same-length-4
+    returns-3)

@@ -1,0 +1,42 @@
+-- A slice that is too short leaves all as it was; else the session's own step.
+use Rattle.edit_answers.proofs.Sessions.{not-left, left}
+use borrow.Author.Needs.{needs}
+use Rattle.dgn_moves.proofs.dgn_insert.Statement.{statement}
+use Rattle.dgn_moves.proofs.dgn_insert.Tie as tie
+
+returns : tie.Need-returns
+returns c = not-left _ _ _ ((c .if1 .taken))
+
+header-given-requires : tie.Need-header-given-requires
+header-given-requires c κs = search needs
+
+insert-requires : tie.Need-insert-requires
+insert-requires c κs = search needs
+
+put-edited-requires : tie.Need-put-edited-requires
+put-edited-requires c κs = search needs
+
+same-length : tie.Need-same-length
+same-length c = search needs
+
+same-length-2 : tie.Need-same-length-2
+same-length-2 c = search needs
+
+same-length-3 : tie.Need-same-length-3
+same-length-3 c = search needs
+
+returns-2 : tie.Need-returns-2
+returns-2 c = left _ _ _ _ ((c .before .before .before .before .before .before .before .before .insert .result)) _ _ _ _ ((c .before .before .before .before .before .before .before .before .before .before .before .before .if1 .left)) (rw ((c .before .before .before .before .before .before .before .before .before .before .before .header-given .ensures)) at ((c .before .before .before .before .before .before .before .before .insert .ensures))) ((c .before .before .put-edited .ensures))
+
+pub dgn-insert-spec : {M : Type 1} → statement M
+dgn-insert-spec =
+    tie.close
+    (tie.spec
+    returns
+    header-given-requires
+    insert-requires
+    put-edited-requires
+    same-length
+    same-length-2
+    same-length-3
+    returns-2)

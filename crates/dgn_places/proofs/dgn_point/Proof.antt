@@ -1,0 +1,93 @@
+-- As in the other calls; a coordinate fits its type, and the place of a refusal is small (`point-inside`).
+use native.Mathlib.Omega.{arith}
+use mathlib.Core.Path.{sym, ap, _∙_}
+use lib.ListN.{length-set}
+use mir.Syntax.{w64}
+use mir.ValLaws.{toZ-ofZ, toZ-pos}
+use Rattle.dgn_places.specs.Answers.{pointReply}
+use Rattle.answers.proofs.Laws.{too-short, answered}
+use Rattle.dgn_places.proofs.Places.{point-inside}
+use borrow.Author.Needs.{needs}
+use Rattle.dgn_places.proofs.dgn_point.Statement.{statement}
+use Rattle.dgn_places.proofs.dgn_point.Tie as tie
+
+returns : tie.Need-returns
+returns c = too-short 3 _ ((c .before .before .args .out .now)) ((c .if1 .taken))
+
+point-at-requires : tie.Need-point-at-requires
+point-at-requires c κs = search needs
+
+enum-known-x : tie.Need-enum-known-x
+enum-known-x c = search needs
+
+slice-set-from-x : tie.Need-slice-set-from-x
+slice-set-from-x c = omega arith
+
+slice-set-from-y : tie.Need-slice-set-from-y
+slice-set-from-y c = simp length-set (omega arith)
+
+slice-set-of-out : tie.Need-slice-set-of-out
+slice-set-of-out c = simp length-set (omega arith)
+
+enum-known-x-2 : tie.Need-enum-known-x-2
+enum-known-x-2 c = search needs
+
+slice-set-from-x-2 : tie.Need-slice-set-from-x-2
+slice-set-from-x-2 c = omega arith
+
+slice-set-from-y-2 : tie.Need-slice-set-from-y-2
+slice-set-from-y-2 c = simp length-set (omega arith)
+
+slice-set-from-z : tie.Need-slice-set-from-z
+slice-set-from-z c = simp length-set (omega arith)
+
+enum-known-number : tie.Need-enum-known-number
+enum-known-number c = search needs
+
+cast-out : tie.Need-cast-out
+cast-out c = record { sfits = omega (arith, point-inside _ _ _ _ _ _ (sym ((c .before .before .before .point-at .ensures)) ∙ (c .before .number .given .1))) }
+
+slice-set-from-out : tie.Need-slice-set-from-out
+slice-set-from-out c = omega arith
+
+same-length : tie.Need-same-length
+same-length c = simp length-set
+
+returns-2 : tie.Need-returns-2
+returns-2 c = rw (toZ-ofZ w64 ((c .before .x .given .0 .0)) (record { sfits = (c .known-told .given .0 .1) }), toZ-ofZ w64 ((c .before .x .given .0 .1 .0)) (record { sfits = (c .known-told .given .1 .0 .1) })) (answered 3 _ _ ((c .before .before .before .before .before .before .args .out .now)) (ap pointReply (sym ((c .before .before .before .point-at .ensures)) ∙ (c .before .x .given .1))) ((c .before .before .before .before .if1 .left)))
+
+same-length-2 : tie.Need-same-length-2
+same-length-2 c = simp length-set
+
+returns-3 : tie.Need-returns-3
+returns-3 c = rw (toZ-ofZ w64 ((c .before .x2 .given .0 .0)) (record { sfits = (c .known-told2 .given .0 .1) }), toZ-ofZ w64 ((c .before .x2 .given .0 .1 .0)) (record { sfits = (c .known-told2 .given .1 .0 .1) }), toZ-ofZ w64 ((c .before .x2 .given .0 .1 .1 .0)) (record { sfits = (c .known-told2 .given .1 .1 .0 .1) })) (answered 3 _ _ ((c .before .before .before .before .before .before .args .out .now)) (ap pointReply (sym ((c .before .before .before .point-at .ensures)) ∙ (c .before .x2 .given .1))) ((c .before .before .before .before .if1 .left)))
+
+same-length-3 : tie.Need-same-length-3
+same-length-3 c = simp length-set
+
+returns-4 : tie.Need-returns-4
+returns-4 c = rw (toZ-pos w64 ((c .before .number .given .0 .1 .0)) (omega (arith, point-inside _ _ _ _ _ _ (sym ((c .before .before .before .point-at .ensures)) ∙ (c .before .number .given .1))))) (answered 3 _ _ ((c .before .before .before .before .before .before .args .out .now)) (ap pointReply (sym ((c .before .before .before .point-at .ensures)) ∙ (c .before .number .given .1))) ((c .before .before .before .before .if1 .left)))
+
+pub dgn-point-spec : {M : Type 1} → statement M
+dgn-point-spec =
+    tie.close
+    (tie.spec
+    returns
+    point-at-requires
+    enum-known-x
+    slice-set-from-x
+    slice-set-from-y
+    slice-set-of-out
+    enum-known-x-2
+    slice-set-from-x-2
+    slice-set-from-y-2
+    slice-set-from-z
+    enum-known-number
+    cast-out
+    slice-set-from-out
+    same-length
+    returns-2
+    same-length-2
+    returns-3
+    same-length-3
+    returns-4)

@@ -1,0 +1,48 @@
+-- Each case is its numbers.
+use mathlib.Core.Path.{ap}
+use Rattle.edit_answers.specs.Editing.{editReply}
+use Rattle.answers.proofs.Laws.{answered}
+use borrow.Author.Needs.{needs}
+use Rattle.edit_answers.proofs.put_edited.Statement.{statement}
+use Rattle.edit_answers.proofs.put_edited.Tie as tie
+
+enum-known-answer : tie.Need-enum-known-answer
+enum-known-answer c = search needs
+
+slice-write-out : tie.Need-slice-write-out
+slice-write-out c = search needs
+
+slice-write-out-2 : tie.Need-slice-write-out-2
+slice-write-out-2 c = search needs
+
+enum-known-answer-2 : tie.Need-enum-known-answer-2
+enum-known-answer-2 c = search needs
+
+slice-write-out-3 : tie.Need-slice-write-out-3
+slice-write-out-3 c = search needs
+
+same-length : tie.Need-same-length
+same-length c = search needs
+
+returns : tie.Need-returns
+returns c = answered 2 _ _ ((c .before .before .before .args .out .now)) (ap editReply ((c .before .answer .given .1))) ((c .before .before .before .pre))
+
+same-length-2 : tie.Need-same-length-2
+same-length-2 c = search needs
+
+returns-2 : tie.Need-returns-2
+returns-2 c = answered 2 _ _ ((c .before .before .before .args .out .now)) (ap editReply ((c .before .answer2 .given .1))) ((c .before .before .before .pre))
+
+pub put-edited-spec : {M : Type 1} → statement M
+put-edited-spec =
+    tie.close
+    (tie.spec
+    enum-known-answer
+    slice-write-out
+    slice-write-out-2
+    enum-known-answer-2
+    slice-write-out-3
+    same-length
+    returns
+    same-length-2
+    returns-2)
