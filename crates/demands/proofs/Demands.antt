@@ -41,7 +41,9 @@ use Rattle.demands.proofs.Starred as worked
 use Rattle.edits.specs.Calls.{Session, Call, step}
 use Rattle.edits.specs.Book.{wasRefused}
 use Rattle.edits.specs.Demand.{EveryRun}
+use Rattle.edits.specs.declared.Edited.the-variants as edit
 use Rattle.edits.proofs.Refusals as refusals
+use Rattle.edits.proofs.Numbers as calls
 use Rattle.edits.proofs.Every as every
 use Rattle.sessions.specs.Runs.{EveryCall}
 use Rattle.sessions.proofs.Runs as runs
@@ -51,6 +53,10 @@ use Rattle.sessions.proofs.Runs as runs
 -- of a session, a refused call leaves every byte and length
 pub refusal-keeps : (dim : ℕ) (s : Session) (c : Call) → wasRefused (step dim s c .answer) ≡ true → step dim s c .after ≡ s
 refusal-keeps = refusals.refusal-keeps
+
+-- and its number is one from 1 to 19
+pub call-number : (dim : ℕ) (s : Session) (c : Call) (n p : ℕ) → step dim s c .answer ≡ edit.Refused n p → (1 ≤ n) × (n ≤ 19)
+call-number = calls.call-number
 
 ---- demand 2: accepted exactly when the structure holds, with one reading
 

@@ -9,7 +9,7 @@ use lib.ListN.{length, take}
 use lib.Seq.{length-take-le}
 use lib.Dec.{eqb, leb}
 use borrow.Author.Tests.{le-leb, leb-true, eq-eqb, eqb-true}
-use Rattle.words.specs.Words.{words, Below}
+use Rattle.words.specs.Words.{Below}
 use Rattle.words.proofs.Laws.{words-below}
 use Rattle.files.specs.Judge.{topOf, callOk, judgeOf}
 use Rattle.files.specs.declared.Verdict.{Verdict}

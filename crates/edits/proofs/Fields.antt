@@ -23,7 +23,8 @@ use Rattle.edits.specs.Edits.{flagged}
 use Rattle.edits.specs.Allowed.{flagDiffers, isCell}
 use Rattle.edits.proofs.Tests.{or-either, rule-of}
 use Rattle.edits.proofs.Parts.{set2, length-set2, set2-other, set2-first, set2-second, set2-back, below-set}
-use Rattle.edits.proofs.OwnLaws.{Alike, own-alike, own-two, own-fixed, name-parts}
+use Rattle.grammar.proofs.Rules.{own-two}
+use Rattle.edits.proofs.OwnLaws.{Alike, own-alike, own-fixed, name-parts}
 
 -- the extent is the same where the total is
 extent-alike : {dim : ℕ} {own own′ : List ℕ} (inside k : ℕ) → Alike dim own own′ → wordAt own′ 18 ≡ wordAt own 18 →

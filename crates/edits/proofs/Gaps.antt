@@ -19,7 +19,7 @@ use Rattle.grammar.proofs.Stands.{Stands, stands-first, stands-append}
 use Rattle.edits.specs.Edits.{around, downTo}
 use Rattle.edits.specs.Allowed.{isSome, startsAt, sameHeader, under?, endsAt, gapOk, depthUnder, typeUnder}
 use Rattle.edits.proofs.Tests.{both-and, or-either, or-left, or-right}
-use Rattle.edits.proofs.OwnLaws.{own-two}
+use Rattle.grammar.proofs.Rules.{own-two}
 use Rattle.edits.proofs.Ways.{Way, into, plug, direct, front, heads, headerOf, typeOver, depthOf, Heads, flat-plug, elem-of, heads-of}
 use Rattle.edits.proofs.Joined.{then, plug-then, front-then, heads-then, header-then, type-then, depth-then, Heads-then, Heads-after, direct-heads, direct-header, direct-type, direct-depth, direct-Heads, direct-rear, ending, plug-ending, front-ending, direct-ending, last-of}
 use Rattle.grammar.proofs.Places.{spotOf}

@@ -17,7 +17,7 @@ use Rattle.elements.specs.Header.{typeAt, pointsAt, countAt}
 use Rattle.kinds.specs.Kinds.{isHeader, isCounted, isPointed}
 use Rattle.elements.specs.Rules.{storedNameOk, countOk}
 use Rattle.grammar.specs.Grammar.{Own, Extent}
-use Rattle.kinds.proofs.Types.{each-named, header-long}
+use Rattle.kinds.proofs.Types.{header-long, header-pointless}
 use Rattle.edits.specs.Edits.{moved, countMoved, corrected}
 use Rattle.edits.proofs.Tests.{both-and, rule-of, of-rule}
 use Rattle.edits.proofs.Parts.{read-in, read-first, set-in}
@@ -121,9 +121,6 @@ grown-back up n direct own h t c =
 
 ---- a header has no N, and a type 2 no count
 
-header-plain : (t : ℕ) → isHeader t ≡ true → isPointed t ≡ false
-header-plain t h = each-named (λ k. isPointed k ≡ false) (1 ∷ 2 ∷ 7 ∷ 12 ∷ 14 ∷ 18 ∷ 19 ∷ []) t (refl, (refl, (refl, (refl, (refl, (refl, (refl, tt))))))) h
-
 cell-uncounted : (direct : Bool) (t : ℕ) → t ≡ 2 → (direct && isCounted t) ≡ false
 cell-uncounted true t e = rw e refl
 cell-uncounted false t e = refl
@@ -165,7 +162,7 @@ module _ {dim depth under inside k : ℕ} {own : List ℕ} (o : Own dim depth un
         reserved = ap reservedOf first;
         c = ap cOf first;
         follow = grown-other up n direct own 1 (omega arith) (omega arith);
-        points = λ e. absurd (false≢true (sym (header-plain (typeAt own 0) h) ∙ e));
+        points = λ e. absurd (false≢true (sym (header-pointless (typeAt own 0) h) ∙ e));
         index = λ _. grown-other up n direct own 15 (omega arith) (omega arith);
         properties = λ _. grown-other up n direct own 16 (omega arith) (omega arith);
         tail = λ _ i b. let l = header-long dim (typeAt own 0) (pointsAt own 0) h in grown-other up n direct own i (omega arith) (omega arith);

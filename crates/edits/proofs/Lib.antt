@@ -23,6 +23,7 @@ pub mod Hypotheses
 pub mod Journal
 pub mod Buffers
 pub mod Refusals
+pub mod Numbers
 pub mod Replay
 pub mod Steps
 pub mod Undos

@@ -15,7 +15,7 @@ use Rattle.edits.specs.Edits.{mark, flagged, apply}
 use Rattle.edits.specs.Allowed.{fine, unless, startsAt, flagDiffers, markFault, editFault}
 use Rattle.edits.specs.Records.{flag, recordOf, reversal}
 use Rattle.edits.proofs.Accepted.{Accepted, Sound}
-use Rattle.edits.proofs.OwnLaws.{own-two}
+use Rattle.grammar.proofs.Rules.{own-two}
 use Rattle.edits.proofs.Parts.{read-first, set-first, below-left, below-right}
 use Rattle.edits.proofs.Fields.{marked, length-marked, marked-first, marked-back, type-marked, own-marked, flag-turned, flag-differs, below-marked}
 use Rattle.edits.proofs.Ways.{Way, plug, front, depthOf, typeOver, elem-of}

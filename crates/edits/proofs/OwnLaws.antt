@@ -35,10 +35,6 @@ pub record Alike (dim : ℕ) (own own′ : List ℕ) : Type 0 where
   pub properties : isLinked (typeAt own 0) ≡ true → wordAt own′ 16 ≡ wordAt own 16
   pub tail : isLinked (typeAt own 0) ≡ true → (i : ℕ) → fixedPart dim (typeAt own 0) (pointsAt own 0) ≤ i → wordAt own′ i ≡ wordAt own i
 
--- an element has at least its first two words, and its fixed part
-pub own-two : {dim depth under inside n : ℕ} {own : List ℕ} → Own dim depth under own inside n → 2 ≤ length own
-own-two o = let s = o .size in omega arith
-
 -- the parts of rule 7
 fixed-parts : (dim : ℕ) (own : List ℕ) → fixedOk dim own 0 ≡ true →
     ((not (isPointed (typeAt own 0)) || pointsOk own 0) ≡ true) × (leb (fixedPart dim (typeAt own 0) (pointsAt own 0)) (sizeAt own 0) ≡ true)

@@ -13,13 +13,10 @@ use borrow.Author.Tests.{eqb-true, eqb-false, eq-eqb, ne-eqb, lt-ltb, le-ltb}
 use Rattle.elements.specs.Header.{typeAt}
 use Rattle.files.specs.Spots.{Spot, firstIf, spotIn}
 use Rattle.grammar.proofs.Forest.{Forest, nil, node, flat, weight, Wf, spots, length-node}
-use Rattle.grammar.proofs.Places.{spotOf, spot-else, spot-first}
+use Rattle.grammar.proofs.Places.{none-some, spotOf, spot-else, spot-first, spot-here, spot-there, spot-after}
 use Rattle.edits.specs.Edits.{keepIf, around}
-use Rattle.edits.proofs.OwnLaws.{own-two}
+use Rattle.grammar.proofs.Rules.{own-two}
 use Rattle.edits.proofs.Ways.{Way, stop, past, into, plug, front, heads, headerOf, depthOf, flat-plug, elem-of}
-
-none-some : {x : Spot} → _≡_ {A = Option Spot} none (some x) → ⊥
-none-some e = let z : _≡_ {A = ℕ} 0 1 = cc in omega arith
 
 ---- lists one after another
 
@@ -42,19 +39,6 @@ module _ (depth : ℕ) (header : Option ℕ) (at : ℕ) (own : List ℕ) (k r : 
       let rest = spots depth header (at + weight own k) r in
       ap (λ t. keepIf t at (around (under ++ rest) p)) e ∙ ap (keepIf b at) (around-append under rest p)
 
-  spot-here : at ≡ p → spotIn (spots depth header at (node own k r)) p ≡ some (spotOf at (weight own k) depth header)
-  spot-here e =
-      let under = spots (suc depth) (some at) (at + length own) k in
-      let rest = spots depth header (at + weight own k) r in
-      ap (λ b. firstIf b (spotOf at (weight own k) depth header) (spotIn (under ++ rest) p)) (eq-eqb at p e)
-
-  spot-beyond : at ≢ p → spotIn (spots depth header at (node own k r)) p
-      ≡ spotIn (spots (suc depth) (some at) (at + length own) k ++ spots depth header (at + weight own k) r) p
-  spot-beyond e =
-      let under = spots (suc depth) (some at) (at + length own) k in
-      let rest = spots depth header (at + weight own k) r in
-      ap (λ b. firstIf b (spotOf at (weight own k) depth header) (spotIn (under ++ rest) p)) (ne-eqb at p e)
-
 ---- nothing of a tree is at or around a place that is not in it
 
 around-before : (depth : ℕ) (header : Option ℕ) (at : ℕ) (f : Forest) (p : ℕ) → p ≤ at → around (spots depth header at f) p ≡ []
@@ -70,23 +54,7 @@ around-after depth header at (node own k r) p h =
     around-node depth header at own k r p false (ap (λ b. ltb at p && b) (le-ltb p (at + weight own k) (omega arith)) ∙ and-false (ltb at p))
     ∙ rw (around-after (suc depth) (some at) (at + length own) k p (omega arith), around-after depth header (at + weight own k) r p (omega arith)) refl
 
-spot-before : (depth : ℕ) (header : Option ℕ) (at : ℕ) (f : Forest) (p : ℕ) → p < at → spotIn (spots depth header at f) p ≡ none
-spot-before depth header at nil p h = refl
-spot-before depth header at (node own k r) p h =
-    spot-beyond depth header at own k r p (omega arith)
-    ∙ spot-else (spots (suc depth) (some at) (at + length own) k) (spots depth header (at + weight own k) r) p (spot-before (suc depth) (some at) (at + length own) k p (omega arith))
-    ∙ spot-before depth header (at + weight own k) r p (omega arith)
-
 module _ (dim : ℕ) where
-  spot-after : (depth under : ℕ) (header : Option ℕ) (at : ℕ) (f : Forest) (p : ℕ) → Wf dim depth under f → at + length (flat f) ≤ p → spotIn (spots depth header at f) p ≡ none
-  spot-after depth under header at nil p x h = refl
-  spot-after depth under header at (node own k r) p x h =
-      let l = length-node own k r in
-      let t = own-two (x .0) in
-      spot-beyond depth header at own k r p (omega arith)
-      ∙ spot-else (spots (suc depth) (some at) (at + length own) k) (spots depth header (at + weight own k) r) p (spot-after (suc depth) (typeAt own 0) (some at) (at + length own) k p (x .1) (omega arith))
-      ∙ spot-after depth under header (at + weight own k) r p (x .2) (omega arith)
-
   ---- the element that a way leads to
 
   module _ (own₀ : List ℕ) (k₀ f : Forest) where
@@ -118,14 +86,14 @@ module _ (dim : ℕ) where
     spot-way depth under header (past own k w) x at p e =
         let l : length (front (past own k w)) ≡ weight own k + length (front w) = simp length-append (omega arith) in
         let t = own-two (x .0) in
-        spot-beyond depth header at own k (plug w (node own₀ k₀ f)) p (omega arith)
+        spot-there depth header at own k (plug w (node own₀ k₀ f)) p (omega arith)
         ∙ spot-else (spots (suc depth) (some at) (at + length own) k) (spots depth header (at + weight own k) (plug w (node own₀ k₀ f))) p
-        (spot-after (suc depth) (typeAt own 0) (some at) (at + length own) k p (x .1) (omega arith))
+        (spot-after dim (suc depth) (typeAt own 0) (some at) (at + length own) k p (x .1) (omega arith))
         ∙ spot-way depth under header w (x .2) (at + weight own k) p (omega arith)
     spot-way depth under header (into own r w) x at p e =
         let l : length (front (into own r w)) ≡ length own + length (front w) = length-append own (front w) in
         let t = own-two (x .0) in
-        spot-beyond depth header at own (plug w (node own₀ k₀ f)) r p (omega arith)
+        spot-there depth header at own (plug w (node own₀ k₀ f)) r p (omega arith)
         ∙ spot-first (spots (suc depth) (some at) (at + length own) (plug w (node own₀ k₀ f))) (spots depth header (at + weight own (plug w (node own₀ k₀ f))) r) p _
         (spot-way (suc depth) (typeAt own 0) (some at) w (x .1) (at + length own) p (omega arith))
 
@@ -171,5 +139,5 @@ found-in depth header at (node own k r) p x e =
     go true q s d i j = record { way = stop; own = own; components = k; rest = r; tree = refl; place = let z = eqb-true at p q in omega arith }
     go false q (some y) d i j = found-into own k r (i y d)
     go false q none d i j = found-past own k r
-        (j (sym (spot-beyond depth header at own k r p (eqb-false at p q)
+        (j (sym (spot-there depth header at own k r p (eqb-false at p q)
         ∙ spot-else (spots (suc depth) (some at) (at + length own) k) (spots depth header (at + weight own k) r) p d) ∙ e))

@@ -16,7 +16,7 @@ use Rattle.grammar.proofs.Forest.{Forest, nil, node, flat, num, weight, Wf, own
 use Rattle.grammar.proofs.Stands.{Stands, stands-word, stands-left, stands-right}
 use Rattle.edits.specs.Edits.{corrected, isLast, raise, splice, cut}
 use Rattle.edits.specs.Allowed.{fine, fault, roomFault}
-use Rattle.edits.proofs.OwnLaws.{own-two}
+use Rattle.grammar.proofs.Rules.{own-two}
 use Rattle.edits.proofs.Bounds.{below-append}
 use Rattle.edits.proofs.Parts.{splice-at, cut-at, below-left, below-right}
 use Rattle.edits.proofs.Grown.{grown, length-grown, type-grown, grown-in, header-twenty, header-extent, below-grown}

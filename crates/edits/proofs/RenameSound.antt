@@ -17,7 +17,7 @@ use Rattle.edits.specs.Edits.{rename, namePlace, apply}
 use Rattle.edits.specs.Allowed.{fine, orElse, unless, startsAt, isCell, renameFault, editFault}
 use Rattle.edits.specs.Records.{renamed, recordOf, reversal}
 use Rattle.edits.proofs.Accepted.{Accepted, Sound}
-use Rattle.edits.proofs.OwnLaws.{own-two}
+use Rattle.grammar.proofs.Rules.{own-two}
 use Rattle.edits.proofs.Parts.{set2, length-set2, set2-in, below-left, below-right}
 use Rattle.edits.proofs.Fields.{named, nameIn, name-early, type-named, named-back, own-named, cell-words, cell-named, below-named}
 use Rattle.edits.proofs.Ways.{Way, plug, front, depthOf, typeOver, elem-of}

@@ -102,11 +102,6 @@ rear-lift up n stop = refl
 rear-lift up n (past own k w) = rear-lift up n w
 rear-lift up n (into own r w) = ap (λ l. l ++ flat r) (rear-lift up n w)
 
-pub heads-lift : (up : Bool) (n at : ℕ) (w : Way) → heads at (lift up n w) ≡ heads at w
-heads-lift up n at stop = refl
-heads-lift up n at (past own k w) = heads-lift up n (at + weight own k) w
-heads-lift up n at (into own r w) = rw (length-grown up n (direct w) own, heads-lift up n (at + length own) w) refl
-
 pub header-lift : (up : Bool) (n : ℕ) (header : Option ℕ) (at : ℕ) (w : Way) → headerOf header at (lift up n w) ≡ headerOf header at w
 header-lift up n header at stop = refl
 header-lift up n header at (past own k w) = header-lift up n header (at + weight own k) w

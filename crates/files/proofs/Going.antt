@@ -18,7 +18,8 @@ use Rattle.files.specs.declared.Verdict.{Verdict}
 use Rattle.files.specs.declared.Verdict.the-variants.{Good, Fault}
 use Rattle.files.specs.declared.Progress.the-variants.{Stopped, Halted, Broken}
 use Rattle.files.specs.Judge.{stopOf}
-use Rattle.files.specs.Progress.{IsElement, ElementJudged, ListJudged, GoodAt, stopsAfter, Steps, depthOf, Gone, Progressed}
+use Rattle.files.specs.Reach.{stopsAfter}
+use Rattle.files.specs.Progress.{IsElement, ElementJudged, ListJudged, GoodAt, Steps, depthOf, Gone, Progressed}
 use Rattle.files.proofs.Laws.{passed-none, passed-more, element-plain, element-complex, element-counted, element-miscounted}
 
 ---- what stands at an element's head

@@ -13,8 +13,8 @@ use Rattle.files.specs.declared.Progress.the-variants.{Stopped, Halted, 
 use Rattle.files.specs.declared.Reached.{Reached}
 use Rattle.files.specs.declared.Reached.the-variants as reached
 use Rattle.files.specs.Judge.{stopOf, elementOf}
-use Rattle.files.specs.Reach.{reachedFrom, reachedOf}
-use Rattle.files.specs.Progress.{ListJudged, GoodAt, stopsAfter, Steps, Gone, StoppedAt, Progressed}
+use Rattle.files.specs.Reach.{stopsAfter, reachedFrom, reachedOf}
+use Rattle.files.specs.Progress.{ListJudged, GoodAt, Steps, Gone, StoppedAt, Progressed}
 use Rattle.files.proofs.Laws.{passed-done, passed-lacking, passed-refused, element-bad, element-of}
 
 ---- a whole list

@@ -1,4 +1,4 @@
 pub mod Judge
-pub mod Progress
 pub mod Reach
+pub mod Progress
 pub mod Spots

@@ -1,12 +1,10 @@
--- The inner contracts of judging: of an element, and of how far the elements of one list were judged, one after another.
+-- The contracts of judging's private functions, which no public one cites: of an element, and of how far the elements of one list were judged, one after another.
 use Prim.Native.Nat.{ℕ, zero, suc, _+_, _-_, _*_, _<_, _≤_, max}
 use mathlib.Core.Path.{_≡_}
-use mathlib.Core.Bool.{Bool, true, false, cond, _&&_, _||_}
+use mathlib.Core.Bool.{Bool, true, false, cond}
 use mathlib.Core.List.{List}
-use lib.Dec.{eqb, ltb}
+use lib.Dec.{eqb}
 use Rattle.words.specs.Words.{words}
-use Rattle.elements.specs.Header.{typeAt}
-use Rattle.kinds.specs.Kinds.{isHeader}
 use Rattle.elements.specs.Rules.{headOf}
 use Rattle.elements.specs.declared.Head.the-variants.{Bad}
 use Rattle.files.specs.declared.Stop.the-variants.{More}
@@ -15,6 +13,7 @@ use Rattle.files.specs.declared.Verdict.the-variants.{Good, Fault}
 use Rattle.files.specs.declared.Progress.{Progress}
 use Rattle.files.specs.declared.Progress.the-variants.{Stopped, Halted, Broken}
 use Rattle.files.specs.Judge.{stopOf, addTo, elementFrom, listFrom}
+use Rattle.files.specs.Reach.{stopsAfter}
 
 -- r is what the element is judged to be, whatever the number of elementFrom, where it is enough
 abbrev pub IsElement : ℕ → ℕ → ℕ → List ℕ → ℕ → ℕ → Verdict → Type 0
@@ -51,10 +50,6 @@ abbrev pub ElementJudged : ℕ → ℕ → ℕ → List ℕ → ℕ → ℕ → 
 ElementJudged dim depth under s at bound (Good next e d k) =
     GoodAt dim depth under (words s) bound at next e d × ((k ≡ 1) × ((1 ≤ e) × ((depth ≤ d) × (at + e ≤ next))))
 ElementJudged dim depth under s at bound (Fault n p) = IsElement dim depth under (words s) at bound (Fault n p)
-
--- whether judging stops after the element from `at` to `next`: it ends after `until`, or where `each` holds is a header
-unfoldable pub stopsAfter : List ℕ → ℕ → Bool → ℕ → ℕ → Bool
-stopsAfter ws until each at next = (each && isHeader (typeAt ws at)) || ltb until next
 
 -- k good elements, one after another from `at` to `here`, after none of which judging stops
 abbrev pub Steps : ℕ → ℕ → ℕ → List ℕ → ℕ → ℕ → Bool → ℕ → ℕ → ℕ → Type 0

@@ -1,8 +1,11 @@
 -- The elements at the top from a place on, up to and with the first that ends after a place `until`, or where `each` holds
 -- is a header.
 use Prim.Native.Nat.{ℕ, zero, suc, _+_, _-_}
-use mathlib.Core.Bool.{Bool, true, false}
+use mathlib.Core.Bool.{Bool, true, false, _&&_, _||_}
 use mathlib.Core.List.{List}
+use lib.Dec.{ltb}
+use Rattle.kinds.specs.Kinds.{isHeader}
+use Rattle.elements.specs.Header.{typeAt}
 use Rattle.files.specs.declared.Stop.{Stop}
 use Rattle.files.specs.declared.Stop.the-variants.{More, Done, Lacking}
 use Rattle.files.specs.declared.Verdict.{Verdict}
@@ -10,7 +13,10 @@ use Rattle.files.specs.declared.Verdict.the-variants as verdict
 use Rattle.files.specs.declared.Reached.{Reached}
 use Rattle.files.specs.declared.Reached.the-variants.{Element, End, Fault}
 use Rattle.files.specs.Judge.{stopOf, elementOf}
-use Rattle.files.specs.Progress.{stopsAfter}
+
+-- whether judging stops after the element from `at` to `next`: it ends after `until`, or where `each` holds is a header
+unfoldable pub stopsAfter : List ℕ → ℕ → Bool → ℕ → ℕ → Bool
+stopsAfter ws until each at next = (each && isHeader (typeAt ws at)) || ltb until next
 
 -- the element where judging stops, after `before` others, or what the rest comes to
 abbrev pub reachedIf : Bool → ℕ → ℕ → ℕ → Reached → Reached

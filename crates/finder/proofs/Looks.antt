@@ -17,13 +17,12 @@ use Rattle.kinds.specs.Kinds.{isHeader}
 use Rattle.names.specs.Names.{packed}
 use Rattle.names.specs.declared.Packed.the-variants as text
 use Rattle.files.specs.Judge.{stopOf, elementOf, callOk, judgeOf}
-use Rattle.files.specs.Progress.{stopsAfter}
-use Rattle.files.specs.Reach.{reachedOf}
+use Rattle.files.specs.Reach.{reachedOf, stopsAfter}
 use Rattle.files.specs.declared.Reached.{Reached}
 use Rattle.files.specs.declared.Reached.the-variants as reached
 use Rattle.files.specs.Spots.{Spot, spotsOf}
 use Rattle.files.specs.declared.Stop.the-variants.{More, Done}
-use Rattle.files.specs.declared.Verdict.the-variants.{Good, Fault}
+use Rattle.files.specs.declared.Verdict.the-variants.{Good}
 use Rattle.files.specs.declared.Judged.the-variants as judged
 use Rattle.grammar.specs.Grammar.{Extent}
 use Rattle.grammar.proofs.Forest.{nil, node, flat, num, spots}

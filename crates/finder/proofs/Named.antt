@@ -30,10 +30,6 @@ use Rattle.finder.specs.Answers.{NoneNamed, FirstAt, Finds, Stored}
 
 ---- an element that has the name, by its type
 
-or-false : (b : Bool) → (b || false) ≡ b
-or-false true = refl
-or-false false = refl
-
 module _ (ws : List ℕ) (at a b : ℕ) where
   -- by the test of each type
   pub name-one : {t : Bool} → t ≡ (eqb (typeAt ws at) 1 && (eqb (wordAt ws (at + 16)) a && eqb (wordAt ws (at + 16 + 1)) b)) → t ≡ true → true ≡ hasName ws at a b

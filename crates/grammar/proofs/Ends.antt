@@ -53,9 +53,6 @@ stopped : (depth : ℕ) (ws : List ℕ) (at bound : ℕ) → Stopped depth ws at
 unfolding stopOf
 stopped depth ws at bound = stopped-by ws at bound depth (ltb at bound) refl (eqb (wordAt ws at) 65535) refl
 
-pub stop-more : (depth : ℕ) (ws : List ℕ) (at bound : ℕ) → stopOf depth ws at bound ≡ More → at < bound
-stop-more depth ws at bound e = stopped depth ws at bound .more e
-
 pub stop-ends : (depth : ℕ) (ws : List ℕ) (at bound : ℕ) → stopOf depth ws at bound ≡ Done → at ≤ bound → Ends depth ws at bound
 stop-ends depth ws at bound e l = stopped depth ws at bound .done e l
 

@@ -13,7 +13,7 @@ use Rattle.elements.specs.Rules.{Check, check, firstFault, checks, faultOf, hea
 use Rattle.elements.specs.declared.Head.{Head}
 use Rattle.elements.specs.declared.Head.the-variants.{Bad, Plain, Complex}
 use Rattle.elements.proofs.Laws.{head-means, fault-none, header-within}
-use Rattle.files.specs.Judge.{stopOf, addTo, andThen, enclose, elementBy, listBy, elementFrom, listFrom, topOf, callOk, answer, judgeOf}
+use Rattle.files.specs.Judge.{stopOf, addTo, andThen, enclose, elementBy, listBy, elementFrom, listFrom, elementOf, topOf, callOk, answer, judgeOf}
 use Rattle.files.specs.declared.Stop.{Stop}
 use Rattle.files.specs.declared.Stop.the-variants.{More, Done, Lacking}
 use Rattle.files.specs.declared.Verdict.{Verdict}
@@ -98,9 +98,9 @@ module _ (dim : ℕ) (ws : List ℕ) where
   mutual
     unfolding elementFrom listFrom
 
-    elements-number : (n depth under at bound : ℕ) → 2 * (bound - at) < n → at < bound → Element? at (elementFrom n dim depth under ws at bound)
-    elements-number zero depth under at bound l a = absurd (omega arith)
-    elements-number (suc n) depth under at bound l a =
+    elements-number : (n depth under at bound : ℕ) → 2 * (bound - at) < n → Element? at (elementFrom n dim depth under ws at bound)
+    elements-number zero depth under at bound l = absurd (omega arith)
+    elements-number (suc n) depth under at bound l =
         element-number depth under at bound (λ inner end. listFrom n dim (depth + 1) (typeAt ws at) ws inner end)
         (λ inner end i j k. lists-number n (depth + 1) (typeAt ws at) inner end (omega arith)) (headOf dim depth under ws at bound) refl
 
@@ -108,17 +108,26 @@ module _ (dim : ℕ) (ws : List ℕ) where
     lists-number zero depth under at bound l = absurd (omega arith)
     lists-number (suc n) depth under at bound l =
         list-number at (λ here. elementFrom n dim depth under ws here bound) (λ next. listFrom n dim depth under ws next bound) (stopOf depth ws at bound)
-        (λ m. elements-number n depth under at bound (omega arith) (stop-more depth ws at bound m))
+        (λ m. let a = stop-more depth ws at bound m in elements-number n depth under at bound (omega arith))
         (λ m next h. let a = stop-more depth ws at bound m in lists-number n depth under next bound (omega arith))
+
+  -- the same of an element with its extent, and of all elements of a file
+  pub element-refused : (depth under at bound n p : ℕ) → elementOf dim depth under ws at bound ≡ Fault n p → (1 ≤ n) × (n ≤ 12)
+  unfolding elementOf
+  element-refused depth under at bound n p e =
+      subst (Element? at) e (elements-number (2 * (bound - at) + 1) depth under at bound (omega arith))
+
+  pub top-refused : (n p : ℕ) → topOf dim ws ≡ Fault n p → (1 ≤ n) × (n ≤ 12)
+  unfolding topOf
+  top-refused n p e = subst List? e (lists-number (2 * length ws + 2) 0 0 0 (length ws) (omega arith))
 
 ---- a file
 
 pub refusal-number : (dim : ℕ) (s : List ℕ) (n p : ℕ) → judgeOf dim s ≡ Refused n p → (1 ≤ n) × (n ≤ 12)
-unfolding judgeOf topOf
-refusal-number dim s n p e =
-    go (callOk dim s) (topOf dim (words s)) (lists-number dim (words s) (2 * length (words s) + 2) 0 0 0 (length (words s)) (omega arith)) e
+unfolding judgeOf
+refusal-number dim s n p e = go (callOk dim s) (topOf dim (words s)) refl e
   where
-    go : (b : Bool) (v : Verdict) → List? v → cond b (answer v) (Refused 1 0) ≡ Refused n p → (1 ≤ n) × (n ≤ 12)
+    go : (b : Bool) (v : Verdict) → topOf dim (words s) ≡ v → cond b (answer v) (Refused 1 0) ≡ Refused n p → (1 ≤ n) × (n ≤ 12)
     go true (Good next e d k) h q = let z : _≡_ {A = ℕ} 0 1 = cc in absurd (omega arith)
-    go true (Fault m r) h q = let z : m ≡ n = cc in let a = h .0 in let b = h .1 in (omega arith, omega arith)
+    go true (Fault m r) h q = let z : m ≡ n = cc in let t = top-refused dim (words s) m r h in (omega arith, omega arith)
     go false v h q = let z : 1 ≡ n = cc in (omega arith, omega arith)

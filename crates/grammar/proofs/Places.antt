@@ -14,7 +14,7 @@ use Rattle.elements.specs.Header.{typeAt}
 use Rattle.files.specs.Spots.{Spot, firstIf, spotIn}
 use Rattle.grammar.proofs.Forest.{Forest, nil, node, flat, weight, Wf, spots, length-node}
 
-none-some : {x : Spot} → _≡_ {A = Option Spot} none (some x) → ⊥
+pub none-some : {x : Spot} → _≡_ {A = Option Spot} none (some x) → ⊥
 none-some e = let z : _≡_ {A = ℕ} 0 1 = cc in omega arith
 
 -- an element of n words, with its extent, at a place

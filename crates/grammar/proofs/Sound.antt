@@ -20,12 +20,13 @@ use Rattle.files.specs.declared.Stop.{Stop}
 use Rattle.files.specs.declared.Stop.the-variants.{More, Done, Lacking}
 use Rattle.files.specs.declared.Verdict.{Verdict}
 use Rattle.files.specs.declared.Verdict.the-variants.{Good, Fault}
+use Rattle.files.proofs.Laws.{stop-more}
 use Rattle.grammar.specs.Grammar.{Own}
 use Rattle.grammar.proofs.Forest.{Forest, nil, node, flat, num, weight, Wf, spots, length-node, deepest-append}
 use Rattle.grammar.proofs.Stands.{Stands, stands-nil, stands-part, stands-join}
 use Rattle.elements.proofs.Laws.{Checked}
 use Rattle.grammar.proofs.Rules.{plain-read, complex-read, plain-own, header-own, checked-type, checked-extent}
-use Rattle.grammar.proofs.Ends.{Ends, stop-more, stop-ends}
+use Rattle.grammar.proofs.Ends.{Ends, stop-ends}
 
 ---- what a good verdict was made of
 

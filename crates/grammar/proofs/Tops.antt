@@ -13,8 +13,8 @@ use Rattle.elements.specs.Rules.{headOf}
 use Rattle.elements.specs.declared.Head.{Head}
 use Rattle.elements.specs.declared.Head.the-variants.{Bad, Plain, Complex}
 use Rattle.files.specs.Judge.{stopOf, addTo, andThen, enclose, elementBy, listBy, elementFrom, listFrom, elementOf, callOk, judgeOf}
-use Rattle.files.specs.Progress.{IsElement, Passed, stopsAfter}
-use Rattle.files.specs.Reach.{reachedIf, reachedBy, reachedFrom, reachedOf}
+use Rattle.files.specs.Progress.{IsElement, Passed}
+use Rattle.files.specs.Reach.{reachedIf, reachedBy, reachedFrom, reachedOf, stopsAfter}
 use Rattle.files.specs.declared.Reached.{Reached}
 use Rattle.files.specs.declared.Reached.the-variants as reached
 use Rattle.files.specs.declared.Stop.{Stop}

@@ -1,4 +1,3 @@
 pub mod Laws
 pub mod Meaning
 pub mod Local
-pub mod Count

@@ -1,6 +1,6 @@
 -- The element at the top whose extent holds a place: what the descent finds from it on is what it finds from the start,
 -- since every extent before it ends by the place.
-use Prim.Native.Nat.{ℕ, _+_, _-_, _/_, _≤_, _<_}
+use Prim.Native.Nat.{ℕ, _+_, _/_, _≤_, _<_}
 use mathlib.Core.Path.{_≡_, refl, sym, ap, _∙_, subst}
 use mathlib.Core.Bool.{true, false}
 use mathlib.Core.List.{List}

@@ -1,6 +1,6 @@
 -- What the contracts of the five calls allow is what their steps say, so demand 3 holds of the calls.
 use Prim.Native.Nat.{ℕ, _*_}
-use mathlib.Core.Path.{_≡_, refl, sym, _∙_, subst}
+use mathlib.Core.Path.{_≡_, refl, sym, ap, _∙_, subst}
 use mathlib.Core.Bool.{not}
 use mathlib.Core.List.{List, [], _∷_}
 use mathlib.Core.Option.{none, some}
@@ -10,13 +10,15 @@ use Rattle.words.specs.Words.{words}
 use Rattle.names.specs.Names.{packed}
 use Rattle.files.specs.Spots.{spotsOf}
 use Rattle.edits.specs.declared.Edited.{Edited}
+use Rattle.edits.specs.declared.Edited.the-variants.{Refused}
 use Rattle.edits.specs.Edits.{Edit, mark, insert, remove, apply}
 use Rattle.edits.specs.Allowed.{Fault?, fine, fault, orElse, unless, renameFault, editFault}
 use Rattle.edits.specs.Records.{Last, recordOf, recordWords, lastRecord, reversal, reversible}
 use Rattle.edits.specs.Calls.{Session, Call, mark-call, rename-call, insert-call, remove-call, undo-call, usedWords, openFault, Result, resultBy, editMade, editWithin, edited, undoMade, undoBy, undone, nameOfText, textOk, callOn, step}
-use Rattle.edits.specs.Book.{Run, ran}
+use Rattle.edits.specs.Book.{Run, ran, wasRefused}
+use Rattle.edits.proofs.Refusals.{refusal-keeps}
 use Rattle.edits.proofs.Every.{demand-three}
-use Rattle.edits.specs.Demand.{Demand3}
+use Rattle.edits.specs.Demand.{PiecesBytes, Demand3}
 use Rattle.steps.specs.Steps.{Stepped}
 use Rattle.sessions.specs.Runs as runs
 use Rattle.sessions.specs.Runs.{leaves, Called, EveryCall}
@@ -62,12 +64,34 @@ left-step dim s c = left-by (openFault dim s c) s (callOn dim s (usedWords (s .f
 step-left : (dim : ℕ) (s : Session) (c : Call) (a : Edited) (file journal : List ℕ) → Stepped dim s c a file journal → leaves a s file journal ≡ step dim s c .after
 step-left dim s c a file journal t = rw (t .answer, t .file-is, t .journal-is) (left-step dim s c)
 
-called-ran : (dim : ℕ) (r last : Run) (cs : List Call) → Called dim r cs last → last ≡ ran dim r cs
-called-ran dim r last [] (runs.none _) = refl
+-- a refused call with another dimension leaves the session as it was
+other-left : (d : ℕ) (s : Session) (c : Call) (n p : ℕ) (file journal : List ℕ) → Stepped d s c (Refused n p) file journal → leaves (Refused n p) s file journal ≡ s
+other-left d s c n p file journal t = step-left d s c (Refused n p) file journal t ∙ refusal-keeps d s c (ap wasRefused (sym (t .answer)))
+
+-- what a list comes to is what those of its calls come to that have the session's dimension
+record Ran (dim : ℕ) (r last : Run) (cs : List Call) : Type 0 where
+  pub calls : List Call
+  pub pieces : PiecesBytes cs → PiecesBytes calls
+  pub is : last ≡ ran dim r calls
+
+called-ran : (dim : ℕ) (r last : Run) (cs : List Call) → Called dim r cs last → Ran dim r last cs
+called-ran dim r last [] (runs.none _) = record { calls = []; pieces = λ p. p; is = refl }
 called-ran dim r last (c ∷ cs) (runs.next _ _ _ a file journal _ t rest) =
-    called-ran dim _ last cs rest
-    ∙ rw (step-left dim (r .session) c a file journal t, t .answer) refl
+    let x = called-ran dim _ last cs rest in
+    record {
+      calls = c ∷ x .calls;
+      pieces = λ p. (p .0, x .pieces (p .1));
+      is = x .is ∙ rw (step-left dim (r .session) c a file journal t, t .answer) refl;
+    }
+called-ran dim r last (c ∷ cs) (runs.other _ d _ _ n p file journal _ t rest) =
+    let x = called-ran dim _ last cs rest in
+    record {
+      calls = x .calls;
+      pieces = λ q. x .pieces (q .1);
+      is = x .is ∙ rw (other-left d (r .session) c n p file journal t) refl;
+    }
 
 pub every-call : EveryCall
 every-call dim s cs last opened pieces called =
-    subst (Demand3 dim s) (sym (called-ran dim (record { session = s; book = [] }) last cs called)) (demand-three dim s cs opened pieces)
+    let x = called-ran dim (record { session = s; book = [] }) last cs called in
+    subst (Demand3 dim s) (sym (x .is)) (demand-three dim s (x .calls) opened (x .pieces pieces))

@@ -1,5 +1,6 @@
 -- Demand 3 of the calls themselves: a list of calls on two lent buffers, each lent what the last one left.
 use Prim.Native.Nat.{ℕ}
+use mathlib.Core.Bool.{true}
 use mathlib.Core.List.{List, [], _∷_}
 use Rattle.edits.specs.declared.Edited.{Edited}
 use Rattle.edits.specs.declared.Edited.the-variants.{Made, Refused}
@@ -15,12 +16,17 @@ leaves (Made used jused) s file journal = record { file = file; used = used; jou
 leaves (Refused n p) s file journal = record { file = file; used = s .used; journal = journal; jused = s .jused }
 
 -- the calls of a list made one after another, with any answers and bytes that their contracts allow; the book is fed the
--- calls and whether each was refused
+-- calls and whether each was refused. A call with another dimension than the session's may stand among them where it is
+-- refused
 pub data Called (dim : ℕ) : Run → List Call → Run → Type 0 where
   none : (r : Run) → Called dim r [] r
   next : (r : Run) (c : Call) (cs : List Call) (answer : Edited) (file journal : List ℕ) (last : Run) →
       Stepped dim (r .session) c answer file journal →
       Called dim (record { session = leaves answer (r .session) file journal; book = noted (r .book) c (wasRefused answer) }) cs last →
+      Called dim r (c ∷ cs) last
+  other : (r : Run) (d : ℕ) (c : Call) (cs : List Call) (n p : ℕ) (file journal : List ℕ) (last : Run) →
+      Stepped d (r .session) c (Refused n p) file journal →
+      Called dim (record { session = leaves (Refused n p) (r .session) file journal; book = noted (r .book) c true }) cs last →
       Called dim r (c ∷ cs) last
 
 -- the demand, of every dimension, session and list of calls

@@ -1,14 +1,14 @@
 // Writing an element of type 3, 4, 6 or 11 into a lent buffer: the checks in document 01's order, then the words one
 // after another. The definitions are in specs/: Words (an element's words), Writing (the checks and the answer).
 ghost use mathlib.Core.Path.{_≡_};
-ghost use mathlib.Core.Bool.{true, false};
+ghost use mathlib.Core.Bool.{true};
 ghost use mathlib.Core.List.{[], _∷_, map};
 ghost use Prim.Native.Nat.{_+_, _*_, _/_, _<_, _≤_};
 ghost use lib.ListN.{length};
 ghost use Rattle.words.specs.Words.{words, unsigned};
 ghost use Rattle.kinds.specs.Kinds.{oneOf};
 ghost use Rattle.elements.specs.Attributes.{linkagesOk};
-ghost use Rattle.writer.specs.Words.{longs, bit, firstWord, symbology, rangeOf, displayWords, headerWords, countWords, pointCount, sizeOf, elementWords};
+ghost use Rattle.writer.specs.Words.{longs, bit, firstWord, rangeOf, displayWords, headerWords, countWords, pointCount, sizeOf, elementWords};
 ghost use Rattle.writer.specs.Writing.{eachAtMost, isWritten, wordsOk, symbologyOk, fieldsOk, pointsFit, callOk, countOk, writeFault, laid, Writes};
 
 // All header fields of an element; its size and N follow from its points and its tail.

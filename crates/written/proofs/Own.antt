@@ -1,6 +1,6 @@
 -- The words that the writer makes, by themselves: what is read of the first one and of the symbology word, that all are
 -- words, and that they are the own words of an element of the grammar where C is as the depth asks.
-use Prim.Native.Nat.{ℕ, _+_, _-_, _/_, _%_, _≤_, _<_}
+use Prim.Native.Nat.{ℕ, _-_, _/_, _%_, _≤_, _<_}
 use mathlib.Core.Path.{_≡_, refl, sym, _∙_}
 use mathlib.Core.Bool.{Bool, true, false, cond, not, _&&_, _||_}
 use mathlib.Core.List.{List, [], _∷_, _++_, map}
