@@ -1,16 +1,16 @@
 // What the C interface's calls of a session have in common: their answer as numbers. What they are handed and leave is
 // in specs/Editing, the laws of it in proofs/Sessions.
-ghost use Prim.Native.Nat.{_≤_};
-ghost use lib.ListN.{length};
 ghost use Rattle.answers.specs.Answers.{Replied};
 ghost use Rattle.edit_answers.specs.Editing.{editReply};
 use edits::Edited;
 
-// The new used lengths, or the refusal's place.
+// The new used lengths, or the refusal's place; 1 and nothing written where the slice is too short.
 pub fn put_edited(out: &mut [usize], answer: Edited) -> usize
-    requires { ⌜ 2 ≤ length (now out) ⌝ }
     ensures { λ r. ⌜ Replied 2 (editReply answer) (now (out .entry)) r (now (out .exit)) ⌝ }
 {
+    if out.len() < 2 {
+        return 1;
+    }
     match answer {
         Edited::Made { used, jused } => {
             out[0] = used;

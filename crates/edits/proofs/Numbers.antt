@@ -49,11 +49,11 @@ whole-number (Fault n p) size h = let x = h n p refl in (omega arith, omega arit
 
 room-number : (n : ℕ) (ws qs : List ℕ) → Numbered (roomFault n ws qs)
 room-number n ws [] = tt
-room-number n ws (q ∷ qs) = go (leb (extentAt ws q + n) 65535)
+room-number n ws (q ∷ qs) = go (leb (extentAt ws q + n) 65535) (room-number n ws qs)
   where
-    go : (b : Bool) → Numbered (cond b (roomFault n ws qs) (fault 8 q))
-    go true = room-number n ws qs
-    go false = (omega arith, omega arith)
+    go : (b : Bool) → Numbered (roomFault n ws qs) → Numbered (cond b (roomFault n ws qs) (fault 8 q))
+    go true h = h
+    go false h = (omega arith, omega arith)
 
 rename-number : (xs : List Spot) (ws : List ℕ) (p : ℕ) (named : Bool) → Numbered (renameFault xs ws p named)
 unfolding renameFault
@@ -93,22 +93,28 @@ Answered r = (n p : ℕ) → r .answer ≡ Refused n p → Number n
 
 by-number : (f : Fault?) (s : Session) (r : Result) → Numbered f → Answered r → Answered (resultBy f s r)
 by-number fine s r h k = k
-by-number (fault n p) s r h k m q e = let z : n ≡ m = cc in (omega arith, omega arith)
+by-number (fault n p) s r h k = λ m q e. let z : n ≡ m = cc in (omega arith, omega arith)
 
 made-number : (dim : ℕ) (s : Session) (e : Edit) (own : Fault?) → Numbered own → Answered (edited dim s e own)
 unfolding edited editMade editWithin
 made-number dim s e own h =
-    by-number (orElse own (editWithin s _ _)) s _
-    (orElse-number own _ h (orElse-number (unless _ 15) _ (unless-number _ 15 (omega arith, omega arith)) (unless-number _ 16 (omega arith, omega arith))))
+    let w = apply dim (usedWords (s .file) (s .used)) e in
+    let r = recordWords (recordOf dim (usedWords (s .file) (s .used)) e) in
+    by-number (orElse own (editWithin s w r)) s (editMade s w r)
+    (orElse-number own (editWithin s w r) h
+    (orElse-number (unless (leb (2 * length w) (length (s .file))) 15) (unless (leb (s .jused + 2 * length r) (length (s .journal))) 16)
+    (unless-number (leb (2 * length w) (length (s .file))) 15 (omega arith, omega arith))
+    (unless-number (leb (s .jused + 2 * length r) (length (s .journal))) 16 (omega arith, omega arith))))
     (λ n p q. let z : _≡_ {A = ℕ} 0 1 = cc in absurd (omega arith))
 
 undo-number : (dim : ℕ) (s : Session) (ws : List ℕ) (l : Last) → Answered (undoBy dim s ws l)
 unfolding undoMade
-undo-number dim s ws none n p q = let z : 19 ≡ n = cc in (omega arith, omega arith)
+undo-number dim s ws none = λ n p q. let z : 19 ≡ n = cc in (omega arith, omega arith)
 undo-number dim s ws (some l) =
-    by-number (orElse (unless (reversible dim ws (l .0)) 19) (unless (leb (2 * length (apply dim ws (reversal ws (l .0)))) (length (s .file))) 15)) s
-    (undoMade s (apply dim ws (reversal ws (l .0))) (2 * length (l .1)))
-    (orElse-number (unless (reversible dim ws (l .0)) 19) _ (unless-number (reversible dim ws (l .0)) 19 (omega arith, omega arith)) (unless-number _ 15 (omega arith, omega arith)))
+    let back = apply dim ws (reversal ws (l .0)) in
+    let fits = leb (2 * length back) (length (s .file)) in
+    by-number (orElse (unless (reversible dim ws (l .0)) 19) (unless fits 15)) s (undoMade s back (2 * length (l .1)))
+    (orElse-number (unless (reversible dim ws (l .0)) 19) (unless fits 15) (unless-number (reversible dim ws (l .0)) 19 (omega arith, omega arith)) (unless-number fits 15 (omega arith, omega arith)))
     (λ n p q. let z : _≡_ {A = ℕ} 0 1 = cc in absurd (omega arith))
 
 on-number : (dim : ℕ) (s : Session) (ws : List ℕ) (c : Call) → Answered (callOn dim s ws c)

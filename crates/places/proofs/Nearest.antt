@@ -10,8 +10,7 @@ use borrow.Author.Tests.{ltb-true, ltb-false}
 use Rattle.words.specs.Words.{words}
 use Rattle.words.proofs.Laws.{length-words}
 use Rattle.files.specs.Judge.{stopOf, elementOf, callOk}
-use Rattle.files.specs.Progress.{stopsAfter}
-use Rattle.files.specs.Reach.{reachedOf}
+use Rattle.files.specs.Reach.{reachedOf, stopsAfter}
 use Rattle.files.specs.declared.Stop.the-variants.{More}
 use Rattle.files.specs.declared.Verdict.the-variants.{Good}
 use Rattle.files.specs.declared.Reached.{Reached}

@@ -14,7 +14,7 @@ insert-requires : tie.Need-insert-requires
 insert-requires c κs = search needs
 
 put-edited-requires : tie.Need-put-edited-requires
-put-edited-requires c κs = search needs
+put-edited-requires c κs = tt
 
 same-length : tie.Need-same-length
 same-length c = search needs
