@@ -1,7 +1,7 @@
 -- What the contracts of the five calls allow is what their steps say, so demand 3 holds of the calls.
 use Prim.Native.Nat.{ℕ, _*_}
 use mathlib.Core.Path.{_≡_, refl, sym, ap, _∙_, subst}
-use mathlib.Core.Bool.{not}
+use mathlib.Core.Bool.{true, not}
 use mathlib.Core.List.{List, [], _∷_}
 use mathlib.Core.Option.{none, some}
 use lib.ListN.{length}
@@ -15,7 +15,7 @@ use Rattle.edits.specs.Edits.{Edit, mark, insert, remove, apply}
 use Rattle.edits.specs.Allowed.{Fault?, fine, fault, orElse, unless, renameFault, editFault}
 use Rattle.edits.specs.Records.{Last, recordOf, recordWords, lastRecord, reversal, reversible}
 use Rattle.edits.specs.Calls.{Session, Call, mark-call, rename-call, insert-call, remove-call, undo-call, usedWords, openFault, Result, resultBy, editMade, editWithin, edited, undoMade, undoBy, undone, nameOfText, textOk, callOn, step}
-use Rattle.edits.specs.Book.{Run, ran, wasRefused}
+use Rattle.edits.specs.Book.{Run, noted, noting, ran, wasRefused}
 use Rattle.edits.proofs.Refusals.{refusal-keeps}
 use Rattle.edits.proofs.Every.{demand-three}
 use Rattle.edits.specs.Demand.{PiecesBytes, Demand3}
@@ -68,28 +68,34 @@ step-left dim s c a file journal t = rw (t .answer, t .file-is, t .journal-is) (
 other-left : (d : ℕ) (s : Session) (c : Call) (n p : ℕ) (file journal : List ℕ) → Stepped d s c (Refused n p) file journal → leaves (Refused n p) s file journal ≡ s
 other-left d s c n p file journal t = step-left d s c (Refused n p) file journal t ∙ refusal-keeps d s c (ap wasRefused (sym (t .answer)))
 
+after-next : (dim : ℕ) (r : Run) (c : Call) (a : Edited) (file journal : List ℕ) → Stepped dim (r .session) c a file journal →
+    _≡_ {A = Run} (record { session = leaves a (r .session) file journal; book = noted (r .book) c (wasRefused a) }) (noting (r .book) c (step dim (r .session) c))
+after-next dim r c a file journal t = rw (step-left dim (r .session) c a file journal t, t .answer) refl
+
+after-other : (d : ℕ) (r : Run) (c : Call) (n p : ℕ) (file journal : List ℕ) → Stepped d (r .session) c (Refused n p) file journal →
+    _≡_ {A = Run} (record { session = leaves (Refused n p) (r .session) file journal; book = noted (r .book) c true }) r
+after-other d r c n p file journal t = rw (other-left d (r .session) c n p file journal t) refl
+
 -- what a list comes to is what those of its calls come to that have the session's dimension
 record Ran (dim : ℕ) (r last : Run) (cs : List Call) : Type 0 where
   pub calls : List Call
   pub pieces : PiecesBytes cs → PiecesBytes calls
   pub is : last ≡ ran dim r calls
 
+ran-next : (dim : ℕ) (q r last : Run) (c : Call) (cs : List Call) → q ≡ noting (r .book) c (step dim (r .session) c) → Ran dim q last cs → Ran dim r last (c ∷ cs)
+ran-next dim q r last c cs e x =
+    record { calls = c ∷ x .calls; pieces = λ p. (p .0, x .pieces (p .1)); is = x .is ∙ ap (λ a. ran dim a (x .calls)) e }
+
+ran-other : (dim : ℕ) (q r last : Run) (c : Call) (cs : List Call) → q ≡ r → Ran dim q last cs → Ran dim r last (c ∷ cs)
+ran-other dim q r last c cs e x =
+    record { calls = x .calls; pieces = λ p. x .pieces (p .1); is = x .is ∙ ap (λ a. ran dim a (x .calls)) e }
+
 called-ran : (dim : ℕ) (r last : Run) (cs : List Call) → Called dim r cs last → Ran dim r last cs
 called-ran dim r last [] (runs.none _) = record { calls = []; pieces = λ p. p; is = refl }
 called-ran dim r last (c ∷ cs) (runs.next _ _ _ a file journal _ t rest) =
-    let x = called-ran dim _ last cs rest in
-    record {
-      calls = c ∷ x .calls;
-      pieces = λ p. (p .0, x .pieces (p .1));
-      is = x .is ∙ rw (step-left dim (r .session) c a file journal t, t .answer) refl;
-    }
+    ran-next dim _ r last c cs (after-next dim r c a file journal t) (called-ran dim _ last cs rest)
 called-ran dim r last (c ∷ cs) (runs.other _ d _ _ n p file journal _ t rest) =
-    let x = called-ran dim _ last cs rest in
-    record {
-      calls = x .calls;
-      pieces = λ q. x .pieces (q .1);
-      is = x .is ∙ rw (other-left d (r .session) c n p file journal t) refl;
-    }
+    ran-other dim _ r last c cs (after-other d r c n p file journal t) (called-ran dim _ last cs rest)
 
 pub every-call : EveryCall
 every-call dim s cs last opened pieces called =
