@@ -1,4 +1,4 @@
--- What a move or a store leaves of a buffer's bytes.
+-- What a move or a store leaves of a buffer's bytes. All but `copied` serves private functions.
 use Prim.Native.Nat.{ℕ, _+_}
 use mathlib.Core.List.{List, _++_}
 use mathlib.Core.Bool.{cond}

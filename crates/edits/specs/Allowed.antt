@@ -90,11 +90,12 @@ abbrev pub typeUnder : List ℕ → Option ℕ → ℕ
 typeUnder ws none = 0
 typeUnder ws (some h) = typeAt ws h
 
--- the piece's own: judged at its new depth and header, places in the piece; words left over last, at the first of them
+-- one whole extent: words left over last, at the first of them
 abbrev pub wholeBy : Verdict → ℕ → Fault?
 wholeBy (Good next e d k) size = cond (eqb next size) fine (fault 3 next)
 wholeBy (Fault n p) size = fault n p
 
+-- the piece's own: judged at its new depth and header, places in the piece
 unfoldable pub pieceFault : ℕ → List Spot → List ℕ → Option ℕ → List ℕ → Fault?
 pieceFault dim xs ws h x = wholeBy (elementOf dim (depthUnder xs h) (typeUnder ws h) x 0 (length x)) (length x)
 

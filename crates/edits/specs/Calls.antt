@@ -126,6 +126,7 @@ undoMade s ws jused = record {
   after = record { file = stored (s .file) (s .used) ws; used = 2 * length ws; journal = s .journal; jused = jused };
 }
 
+-- an undo by the last record: 19 where it is ill-formed or may not be reversed, 15, or it is made
 abbrev pub undoBy : ℕ → Session → List ℕ → Last → Result
 undoBy dim s ws none = refused s 19 0
 undoBy dim s ws (some l) =
@@ -134,6 +135,7 @@ undoBy dim s ws (some l) =
     s
     (undoMade s (apply dim ws (reversal ws (l .0))) (2 * length (l .1)))
 
+-- an undo: 17 where the journal is empty, then these
 unfoldable pub undone : ℕ → Session → Result
 undone dim s =
     resultBy (unless (not (eqb (s .jused) 0)) 17) s

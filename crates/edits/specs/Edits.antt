@@ -27,11 +27,12 @@ flagged false w = w % 32768
 abbrev pub namePlace : List ℕ → ℕ → ℕ
 namePlace ws p = p + cond (eqb (typeAt ws p) 1) 16 19
 
--- the headers around a place, outermost first: those begun before it whose extents it lies in
+-- a place kept in a list where a test holds
 abbrev pub keepIf : Bool → ℕ → List ℕ → List ℕ
 keepIf true q qs = q ∷ qs
 keepIf false q qs = qs
 
+-- the headers around a place, outermost first: those begun before it whose extents it lies in
 abbrev pub around : List Spot → ℕ → List ℕ
 around [] p = []
 around (x ∷ xs) p = keepIf (ltb (x .place) p && ltb p (x .end)) (x .place) (around xs p)

@@ -23,10 +23,11 @@ reservedOk w = eqb (typeOf w) 9 || eqb (reservedOf w) 0
 unfoldable pub placeOk : ℕ → ℕ → Bool
 placeOk depth w = eqb (typeOf w) 9 || eqb (cOf w) (cond (eqb depth 0) 0 1)
 
--- 7 unless N is from 2 to 101, and the element is not shorter than its fixed part
+-- N, which stands in the element's own words, is from 2 to 101
 abbrev pub pointsOk : List ℕ → ℕ → Bool
 pointsOk ws at = leb 19 (sizeAt ws at) && (leb 2 (pointsAt ws at) && leb (pointsAt ws at) 101)
 
+-- 7 unless N is right where there is one, and the element is not shorter than its fixed part
 unfoldable pub fixedOk : ℕ → List ℕ → ℕ → Bool
 fixedOk dim ws at =
     (not (isPointed (typeAt ws at)) || pointsOk ws at)

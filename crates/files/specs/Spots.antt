@@ -36,6 +36,7 @@ spotsBy More (Plain next) at depth header under rest =
 spotsBy More (Complex inner end) at depth header under rest =
     record { place = at; end = end; depth = depth; header = header } ∷ (under inner end ++ rest end)
 
+-- the first number bounds how many elements follow or stand under one another; every element has a word
 unfoldable pub spotsFrom : ℕ → ℕ → ℕ → ℕ → Option ℕ → List ℕ → ℕ → ℕ → List Spot
 spotsFrom zero dim depth under header ws at bound = []
 spotsFrom (suc n) dim depth under header ws at bound =
@@ -47,11 +48,12 @@ spotsFrom (suc n) dim depth under header ws at bound =
 unfoldable pub spotsOf : ℕ → List ℕ → List Spot
 spotsOf dim ws = spotsFrom (suc (length ws)) dim 0 0 none ws 0 (length ws)
 
--- the element that starts at a place
+-- the first of two where a test holds
 abbrev pub firstIf : Bool → Spot → Option Spot → Option Spot
 firstIf true x rest = some x
 firstIf false x rest = rest
 
+-- the element that starts at a place
 abbrev pub spotIn : List Spot → ℕ → Option Spot
 spotIn [] p = none
 spotIn (x ∷ xs) p = firstIf (eqb (x .place) p) x (spotIn xs p)

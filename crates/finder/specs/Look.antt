@@ -1,4 +1,4 @@
--- A look at the elements of a part of a file, one after another.
+-- A look at the elements of a part of a file, one after another. Only private functions promise it.
 use Prim.Native.Nat.{ℕ, _+_, _≤_, _<_, _^_}
 use mathlib.Core.Path.{_≡_}
 use mathlib.Core.List.{List, [], _∷_}
@@ -14,7 +14,7 @@ abbrev pub InOrder : List ℕ → ℕ → List Spot → ℕ → Type 0
 InOrder ws at [] end = at ≡ end
 InOrder ws at (x ∷ xs) end = (x .place ≡ at) × InOrder ws (at + sizeAt ws at) xs end
 
--- the part lies in the file s, and n elements, each with a word, stand before it
+-- n elements, each with a word, stand before the part, whose end is below the bytes of the file s
 abbrev pub MayLook : List ℕ → ℕ → ℕ → ℕ → Type 0
 MayLook s n at end = (n ≤ at) × (end < length s)
 

@@ -1,4 +1,4 @@
--- What a rename owes once its text is packed.
+-- What a rename owes once its text is packed: a promise of private functions.
 use Prim.Native.Nat.{ℕ}
 use mathlib.Core.Bool.{Bool}
 use Rattle.files.specs.Spots.{spotsOf}

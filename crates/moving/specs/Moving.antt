@@ -1,4 +1,4 @@
--- What a remove finds.
+-- What a remove finds: a promise of private functions.
 use Prim.Native.Nat.{ℕ}
 use mathlib.Core.List.{List}
 use Rattle.places.specs.declared.Above.{Above}

@@ -23,11 +23,12 @@ abbrev pub aboveOf : Option ℕ → Above
 aboveOf none = Top
 aboveOf (some h) = Under h
 
--- what a call on a file at a place finds: the element's spot, or the refusal
+-- an element that starts at a place, 13 where none does
 abbrev pub foundBy : Option Spot → Spotted
 foundBy none = spotted.Refused 13 0
 foundBy (some x) = spotted.At (x .end) (x .depth) (aboveOf (x .header))
 
+-- what a call on a file at a place finds: the file's own refusals come first
 abbrev pub spottedBy : Judged → Option Spot → Spotted
 spottedBy (judged.Refused n p) found = spotted.Refused n p
 spottedBy (judged.Accepted e d m) found = foundBy found

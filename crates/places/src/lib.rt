@@ -39,11 +39,13 @@ pub enum Extent {
     Refused { number: usize, place: usize },
 }
 
-// The words of the element at a place with its extent.
-fn extent_words(file: &[u8], at: usize) -> usize
-    requires { ⌜ at < length (now file) / 2 ⌝ }
+// The words of the extent of the element at a place: a header's by its total, any other's its size.
+pub fn extent_words(file: &[u8], at: usize) -> usize
     ensures { λ r. ⌜ r ≡ extentWords (words (now (file .entry))) at ⌝ }
 {
+    if file.len() <= at {
+        return 2;
+    }
     if kinds::is_header(elements::type_at(file, at)) {
         return 19 + words::word(file, at + 18);
     }

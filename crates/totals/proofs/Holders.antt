@@ -8,29 +8,12 @@ use mathlib.Core.Bool.{Bool, true, false, cond}
 use mathlib.Core.List.{List}
 use lib.Dec.{eqb, leb}
 use borrow.Author.Tests.{eq-eqb, ne-eqb, le-leb, lt-leb, leb-true, leb-false}
-use Rattle.elements.specs.Header.{typeAt, sizeAt, extentAt}
-use Rattle.kinds.specs.Kinds.{isHeader}
-use Rattle.totals.specs.Totals.{extentOf, holderAt, holderFrom, holderOf}
+use Rattle.elements.specs.Header.{sizeAt}
+use Rattle.places.specs.Descent.{extentWords}
+use Rattle.places.proofs.Descent.{words-two}
+use Rattle.totals.specs.Totals.{holderAt, holderFrom, holderOf}
 use Rattle.totals.specs.declared.Holder.{Holder}
 use Rattle.totals.specs.declared.Holder.the-variants.{Nowhere, Itself, Inside}
-
----- an element's extent
-
-pub extent-header : (ws : List ℕ) (at : ℕ) → isHeader (typeAt ws at) ≡ true → extentOf ws at ≡ extentAt ws at
-unfolding extentOf
-extent-header ws at h = rw h refl
-
-pub extent-plain : (ws : List ℕ) (at : ℕ) → isHeader (typeAt ws at) ≡ false → extentOf ws at ≡ sizeAt ws at
-unfolding extentOf
-extent-plain ws at h = rw h refl
-
-pub extent-two : (ws : List ℕ) (at : ℕ) → 2 ≤ extentOf ws at
-unfolding extentOf
-extent-two ws at = go (isHeader (typeAt ws at))
-  where
-    go : (b : Bool) → 2 ≤ cond b (extentAt ws at) (sizeAt ws at)
-    go true = omega arith
-    go false = omega arith
 
 ---- one element
 
@@ -49,13 +32,13 @@ module _ (ws : List ℕ) (at p : ℕ) where
 
 ---- the search
 
-from-past : (k : ℕ) (ws : List ℕ) (at p : ℕ) → at + extentOf ws at ≤ p → holderFrom (suc k) ws at p ≡ holderFrom k ws (at + extentOf ws at) p
+from-past : (k : ℕ) (ws : List ℕ) (at p : ℕ) → at + extentWords ws at ≤ p → holderFrom (suc k) ws at p ≡ holderFrom k ws (at + extentWords ws at) p
 unfolding holderFrom
-from-past k ws at p h = rw (le-leb (at + extentOf ws at) p h) refl
+from-past k ws at p h = rw (le-leb (at + extentWords ws at) p h) refl
 
-from-here : (k : ℕ) (ws : List ℕ) (at p : ℕ) → p < at + extentOf ws at → holderFrom (suc k) ws at p ≡ holderAt ws at p
+from-here : (k : ℕ) (ws : List ℕ) (at p : ℕ) → p < at + extentWords ws at → holderFrom (suc k) ws at p ≡ holderAt ws at p
 unfolding holderFrom
-from-here k ws at p h = rw (lt-leb (at + extentOf ws at) p h) refl
+from-here k ws at p h = rw (lt-leb (at + extentWords ws at) p h) refl
 
 from-beyond : (k : ℕ) (ws : List ℕ) (at p : ℕ) → p < at → holderFrom k ws at p ≡ Nowhere
 unfolding holderFrom
@@ -65,27 +48,27 @@ from-beyond (suc k) ws at p h = from-here k ws at p (omega arith) ∙ at-neither
 from-enough : (j k : ℕ) (ws : List ℕ) (at p : ℕ) → p < at + j → p < at + k → holderFrom j ws at p ≡ holderFrom k ws at p
 from-enough zero k ws at p h i = from-beyond zero ws at p (omega arith) ∙ sym (from-beyond k ws at p (omega arith))
 from-enough (suc j) zero ws at p h i = from-beyond (suc j) ws at p (omega arith) ∙ sym (from-beyond zero ws at p (omega arith))
-from-enough (suc j) (suc k) ws at p h i = go (leb (at + extentOf ws at) p) refl (from-enough j k ws (at + extentOf ws at) p)
+from-enough (suc j) (suc k) ws at p h i = go (leb (at + extentWords ws at) p) refl (from-enough j k ws (at + extentWords ws at) p)
   where
-    go : (b : Bool) → leb (at + extentOf ws at) p ≡ b →
-        (p < at + extentOf ws at + j → p < at + extentOf ws at + k → holderFrom j ws (at + extentOf ws at) p ≡ holderFrom k ws (at + extentOf ws at) p) →
+    go : (b : Bool) → leb (at + extentWords ws at) p ≡ b →
+        (p < at + extentWords ws at + j → p < at + extentWords ws at + k → holderFrom j ws (at + extentWords ws at) p ≡ holderFrom k ws (at + extentWords ws at) p) →
         holderFrom (suc j) ws at p ≡ holderFrom (suc k) ws at p
     go true e r =
-        let l = leb-true (at + extentOf ws at) p e in
-        let two = extent-two ws at in
+        let l = leb-true (at + extentWords ws at) p e in
+        let two = words-two ws at in
         from-past j ws at p l ∙ r (omega arith) (omega arith) ∙ sym (from-past k ws at p l)
     go false e r =
-        let l = leb-false (at + extentOf ws at) p e in
+        let l = leb-false (at + extentWords ws at) p e in
         from-here j ws at p l ∙ sym (from-here k ws at p l)
 
 module _ (ws : List ℕ) (at p : ℕ) where
-  pub holder-past : at + extentOf ws at ≤ p → holderOf ws at p ≡ holderOf ws (at + extentOf ws at) p
+  pub holder-past : at + extentWords ws at ≤ p → holderOf ws at p ≡ holderOf ws (at + extentWords ws at) p
   unfolding holderOf
   holder-past h =
-      let two = extent-two ws at in
-      from-past p ws at p h ∙ from-enough p (suc p) ws (at + extentOf ws at) p (omega arith) (omega arith)
+      let two = words-two ws at in
+      from-past p ws at p h ∙ from-enough p (suc p) ws (at + extentWords ws at) p (omega arith) (omega arith)
 
-  pub holder-here : p < at + extentOf ws at → holderOf ws at p ≡ holderAt ws at p
+  pub holder-here : p < at + extentWords ws at → holderOf ws at p ≡ holderAt ws at p
   unfolding holderOf
   holder-here h = from-here p ws at p h
 
@@ -112,9 +95,9 @@ around-at ws at p = go (eqb at p) (leb (at + sizeAt ws at) p) refl
 around-from : (k : ℕ) (ws : List ℕ) (at p : ℕ) → Around p (holderFrom k ws at p)
 unfolding holderFrom
 around-from zero ws at p = tt
-around-from (suc k) ws at p = go (leb (at + extentOf ws at) p) (around-from k ws (at + extentOf ws at) p)
+around-from (suc k) ws at p = go (leb (at + extentWords ws at) p) (around-from k ws (at + extentWords ws at) p)
   where
-    go : (b : Bool) → Around p (holderFrom k ws (at + extentOf ws at) p) → Around p (cond b (holderFrom k ws (at + extentOf ws at) p) (holderAt ws at p))
+    go : (b : Bool) → Around p (holderFrom k ws (at + extentWords ws at) p) → Around p (cond b (holderFrom k ws (at + extentWords ws at) p) (holderAt ws at p))
     go true r = r
     go false r = around-at ws at p
 

@@ -7,17 +7,14 @@ use lib.ListN.{length}
 use lib.Dec.{eqb, ltb, leb}
 use Rattle.words.specs.Words.{words, wordAt, putWord}
 use Rattle.elements.specs.Header.{typeAt, sizeAt, extentAt}
-use Rattle.kinds.specs.Kinds.{isHeader, isCounted}
+use Rattle.kinds.specs.Kinds.{isCounted}
+use Rattle.places.specs.Descent.{extentWords}
 use Rattle.edits.specs.Edits.{moved}
 use Rattle.edits.specs.Allowed.{Fault?, fine, fault}
 use Rattle.totals.specs.declared.Holder.{Holder}
 use Rattle.totals.specs.declared.Holder.the-variants.{Nowhere, Itself, Inside}
 use Rattle.totals.specs.declared.Room.{Room}
 use Rattle.totals.specs.declared.Room.the-variants.{Fine, Full}
-
--- the words of an element's extent: a header's by its total, any other's its size
-unfoldable pub extentOf : List ℕ → ℕ → ℕ
-extentOf ws at = cond (isHeader (typeAt ws at)) (extentAt ws at) (sizeAt ws at)
 
 -- what the element at a place is to a place p before its extent's end: it starts there; or it is a header around p, which
 -- is not in the header's own words; or neither
@@ -27,7 +24,7 @@ holderAt ws at p = cond (eqb at p) Itself (cond (leb (at + sizeAt ws at) p) (Ins
 -- the element, among k that follow one another from the place `at` on, whose extent holds the place p
 unfoldable pub holderFrom : ℕ → List ℕ → ℕ → ℕ → Holder
 holderFrom zero ws at p = Nowhere
-holderFrom (suc k) ws at p = cond (leb (at + extentOf ws at) p) (holderFrom k ws (at + extentOf ws at) p) (holderAt ws at p)
+holderFrom (suc k) ws at p = cond (leb (at + extentWords ws at) p) (holderFrom k ws (at + extentWords ws at) p) (holderAt ws at p)
 
 -- among all of them: each has at least two words, so no more than p start before p
 unfoldable pub holderOf : List ℕ → ℕ → ℕ → Holder

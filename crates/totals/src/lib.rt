@@ -8,7 +8,7 @@ ghost use lib.Dec.{leb};
 ghost use Rattle.words.specs.Words.{words};
 ghost use Rattle.elements.specs.Header.{extentAt};
 ghost use Rattle.edits.specs.Edits.{moved};
-ghost use Rattle.totals.specs.Totals.{extentOf, holderAt, holderOf, wordMoved, headerPut, totalsFrom, totalsPut, roomOf};
+ghost use Rattle.totals.specs.Totals.{holderAt, holderOf, wordMoved, headerPut, totalsFrom, totalsPut, roomOf};
 
 // Which element, of those that follow one another in a list, has a place in its extent: none; the one that starts
 // there; or a header around it, whose components start at `inner`.
@@ -22,19 +22,6 @@ pub enum Holder {
 pub enum Room {
     Fine,
     Full { place: usize },
-}
-
-// The words of an element's extent: a header's by its total, any other's by its size.
-fn extent_at(file: &[u8], at: usize) -> usize
-    ensures { λ r. ⌜ r ≡ extentOf (words (now (file .entry))) at ⌝ }
-{
-    if file.len() <= at {
-        return 2;
-    }
-    if kinds::is_header(elements::type_at(file, at)) {
-        return 19 + words::word(file, at + 18);
-    }
-    elements::size_at(file, at)
 }
 
 // What an element is to a place that is before its extent's end.
@@ -61,7 +48,7 @@ fn find_holder(file: &[u8], start: usize, place: usize) -> Holder
 {
     let mut here = start;
     while here <= place {
-        let extent = extent_at(file, here);
+        let extent = places::extent_words(file, here);
         if place - here < extent {
             return holder_at(file, here, place);
         }

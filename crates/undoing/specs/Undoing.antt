@@ -1,4 +1,4 @@
--- What an undo reads, and what the reversal of one record owes.
+-- What an undo reads, and what the reversal of one record owes: promises of private functions.
 use Prim.Native.Nat.{ℕ, _+_, _*_, _%_, _≤_}
 use mathlib.Core.Path.{_≡_}
 use mathlib.Core.List.{List}

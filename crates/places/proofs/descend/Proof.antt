@@ -25,7 +25,7 @@ loop-holds : tie.Need-loop-holds Inv-loop μ-loop
 loop-holds c = (omega arith, λ r i. i)
 
 extent-words-requires : tie.Need-extent-words-requires Inv-loop μ-loop
-extent-words-requires c κs = omega arith
+extent-words-requires c κs = tt
 
 add-end : tie.Need-add-end Inv-loop μ-loop
 add-end c = let s = (c .before .before .before .before .args .file .now) in omega (arith, (c .extent-words .ensures), words-small s (lent-below s (c .before .before .before .shared-slice-known .given)) (c .before .before .loop .here))
@@ -61,7 +61,7 @@ loop-again-2 : tie.Need-loop-again-2 Inv-loop μ-loop
 loop-again-2 c = (omega (arith, (c .size-at .ensures)), λ r i. (c .before .before .before .before .before .before .before .loop .inv .1) r (step-into _ _ _ _ _ _ (c .before .before .before .before .before .extent-words .ensures) (c .before .before .before .before .before .before .loop-test .taken) (c .before .before .before .before .if1 .left) r _ (c .size-at .ensures) (ap isHeader (sym (c .before .before .before .type-at .ensures)) ∙ sym (c .before .before .is-header .ensures) ∙ not-false _ (c .before .if2 .left)) i))
 
 extent-words-requires-2 : tie.Need-extent-words-requires-2 Inv-loop μ-loop
-extent-words-requires-2 c κs = omega arith
+extent-words-requires-2 c κs = tt
 
 add-end-2 : tie.Need-add-end-2 Inv-loop μ-loop
 add-end-2 c = let s = (c .before .before .before .before .before .args .file .now) in omega (arith, (c .extent-words2 .ensures), words-small s (lent-below s (c .before .before .before .before .shared-slice-known .given)) (c .before .before .before .loop .here))

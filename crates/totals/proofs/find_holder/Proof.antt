@@ -5,8 +5,9 @@ use mathlib.Core.Path.{_≡_, refl, sym, _∙_}
 use native.Mathlib.Omega.{arith}
 use borrow.Author.Needs.{needs}
 use Rattle.words.specs.Words.{words}
+use Rattle.places.proofs.Descent.{words-two}
 use Rattle.totals.specs.Totals.{holderOf}
-use Rattle.totals.proofs.Holders.{extent-two, holder-past, holder-here, holder-beyond}
+use Rattle.totals.proofs.Holders.{holder-past, holder-here, holder-beyond}
 use Rattle.totals.proofs.find_holder.Statement.{statement}
 use Rattle.totals.proofs.find_holder.Tie as tie
 
@@ -19,8 +20,8 @@ abbrev μ-loop : tie.MeasureT-loop
 loop-holds : tie.Need-loop-holds Inv-loop μ-loop
 loop-holds c = refl
 
-extent-at-requires : tie.Need-extent-at-requires Inv-loop μ-loop
-extent-at-requires c κs = search needs
+extent-words-requires : tie.Need-extent-words-requires Inv-loop μ-loop
+extent-words-requires c κs = search needs
 
 holder-at-requires : tie.Need-holder-at-requires Inv-loop μ-loop
 holder-at-requires c κs = search needs
@@ -32,10 +33,10 @@ add-here : tie.Need-add-here Inv-loop μ-loop
 add-here c = search needs
 
 loop-less : tie.Need-loop-less Inv-loop μ-loop
-loop-less c = omega (arith, extent-two (words (c .before .before .before .before .before .args .file .now)) (c .before .before .before .loop .here))
+loop-less c = omega (arith, words-two (words (c .before .before .before .before .before .args .file .now)) (c .before .before .before .loop .here))
 
 loop-again : tie.Need-loop-again Inv-loop μ-loop
-loop-again c = c .before .before .before .loop .inv ∙ rw (c .before .extent-at .ensures) (holder-past _ _ _ (omega arith))
+loop-again c = c .before .before .before .loop .inv ∙ rw (c .before .extent-words .ensures) (holder-past _ _ _ (omega arith))
 
 returns-2 : tie.Need-returns-2 Inv-loop μ-loop
 returns-2 c = sym (c .before .loop .inv ∙ holder-beyond _ _ _ (c .loop-test .left))
@@ -47,7 +48,7 @@ find-holder-spec =
     Inv-loop
     μ-loop
     loop-holds
-    extent-at-requires
+    extent-words-requires
     holder-at-requires
     returns
     add-here
