@@ -25,6 +25,10 @@ run() {
     count $status "$(tail -n 1 "$work/$name" | sed -E 's/^([0-9]+) passed.*/\1/')"
 }
 
+# the proved library as an archive, made beside the second reader's own tests
+./archive > "$work/archive" 2>&1 &
+archiving=$!
+
 # the second reader's own tests
 if (cd tests/reader && cargo test --release --offline) > "$work/reader" 2>&1; then
     n=$(grep -E '^test result: ok' "$work/reader" | sed -E 's/.* ([0-9]+) passed.*/\1/' | awk '{ n += $1 } END { print n }')
@@ -35,8 +39,7 @@ else
     count 1 0
 fi
 
-# the proved library as an archive
-./archive > "$work/archive" 2>&1
+wait "$archiving"
 status=$?
 [ $status -eq 0 ] || cat "$work/archive" target/archive.log
 count $status 1
