@@ -29,11 +29,11 @@ use Rattle.edits.proofs.Gaps.{under-starts, file-long, gap-found}
 use Rattle.edits.proofs.Judging.{tree-spots, judged-tree, tree-judged}
 use Rattle.edits.proofs.Sound.{sound}
 use Rattle.writer.proofs.Bounds.{both}
-use Rattle.written.specs.RoundTrip.{AcceptedFile}
+use Rattle.written.specs.RoundTrip.{AcceptedBytes}
 
 ---- accepted files as bytes and as words
 
-pub accepted-words : (dim : ℕ) (s : List ℕ) → AcceptedFile dim s → Accepted dim (words s)
+pub accepted-words : (dim : ℕ) (s : List ℕ) → AcceptedBytes dim s → Accepted dim (words s)
 accepted-words dim s a =
     let t = file-top (accepted-is dim s (a .elements) (a .deepest) (a .marker) (a .judged) .file) in
     judged-tree dim (words s) (a .marker) _ _ (t .0) (words-below s (a .file-bytes)) (t .1) (a .last)
@@ -42,7 +42,7 @@ call-ok : (dim : ℕ) (s : List ℕ) (n : ℕ) → (eqb dim 2 || eqb dim 3) ≡ 
 unfolding callOk
 call-ok dim s n d e l = rw (d, eq-eqb (length s % 2) 0 (omega arith), le-leb (length s) 1048576 l) refl
 
-pub accepted-bytes : (dim : ℕ) (ws : List ℕ) → (eqb dim 2 || eqb dim 3) ≡ true → 2 * length ws ≤ 1048576 → Accepted dim ws → AcceptedFile dim (bytes ws)
+pub accepted-bytes : (dim : ℕ) (ws : List ℕ) → (eqb dim 2 || eqb dim 3) ≡ true → 2 * length ws ≤ 1048576 → Accepted dim ws → AcceptedBytes dim (bytes ws)
 unfolding judgeOf
 accepted-bytes dim ws d l a =
     let same = words-bytes ws (a .below) in

@@ -28,7 +28,7 @@ use Rattle.writer.specs.declared.Written.the-variants as written
 use Rattle.written.specs.Parts.{Shows, GivesPoints, tailRead, tailLinkage}
 
 -- a file of bytes that judging accepts, its marker the last word
-pub record AcceptedFile (dim : ℕ) (s : List ℕ) : Type 0 where
+pub record AcceptedBytes (dim : ℕ) (s : List ℕ) : Type 0 where
   pub elements : ℕ
   pub deepest : ℕ
   pub marker : ℕ
@@ -57,7 +57,7 @@ under (some h) = true
 -- where the element is put: at the top of an accepted file, or under a header that its type may stand under, at a place
 -- where a direct component starts or the list ends, not too deep, and with room in the headers around it and in the file
 pub record Place (dim : ℕ) (s : List ℕ) (h : Option ℕ) (p : ℕ) (c : Bool) (kind size : ℕ) : Type 0 where
-  pub file : AcceptedFile dim s
+  pub file : AcceptedBytes dim s
   pub gap : gapOk (spotsOf dim (words s)) (words s) h p ≡ true
   pub stands : mayStand dim (typeUnder (words s) h) kind ≡ true
   pub as-c-says : c ≡ under h
@@ -67,7 +67,7 @@ pub record Place (dim : ℕ) (s : List ℕ) (h : Option ℕ) (p : ℕ) (c : Bool
 
 -- what reading then gives: the file s is accepted; view, points, linkages and tail are those handed in
 pub record ReadBack (dim : ℕ) (s : List ℕ) (h : Option ℕ) (p : ℕ) (f : Fields) (points : List ℤ) (tail : List ℕ) : Type 0 where
-  pub file : AcceptedFile dim s
+  pub file : AcceptedBytes dim s
   pub element : Element
   pub seen : viewOf dim s p ≡ Seen element
   pub shows : Shows element f
