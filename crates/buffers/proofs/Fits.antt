@@ -7,10 +7,10 @@ use mathlib.Core.Bool.{Bool, true, false, cond, _&&_, and-eq-true-iff}
 use lib.ListN.{length}
 use lib.Dec.{eqb, leb}
 use borrow.Author.Tests.{eq-eqb, le-leb, eqb-true, leb-true}
-use Rattle.words.specs.Words.{words}
+use Rattle.words.specs.Words.{words, over}
 use Rattle.edits.specs.Edits.{splice, cut}
 use Rattle.edits.specs.Calls.{usedWords, stored}
-use Rattle.buffers.specs.Moves.{over, copied}
+use Rattle.buffers.specs.Moves.{copied}
 use Rattle.buffers.specs.Files.{insertFits, wordsInserted, removeFits, wordsRemoved}
 
 -- a choice by a test that does not hold

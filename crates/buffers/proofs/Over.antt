@@ -1,61 +1,12 @@
--- Bytes written over a part of a buffer: one store more behind them or before them writes one byte more, and what
--- stands beside them is as it was. So each turn of a move writes the next byte of what it moves.
+-- Each turn of a move or a copy writes the next byte of what it moves.
 use Prim.Native.Nat.{ℕ, zero, suc, _+_, _-_, _≤_, _<_}
-use mathlib.Core.Path.{_≡_, refl, sym, ap, _∙_}
-use mathlib.Core.List.{List, [], _∷_, _++_, append-assoc}
+use mathlib.Core.Path.{_≡_, refl, sym, ap}
+use mathlib.Core.List.{List, [], _∷_, _++_}
 use native.Mathlib.Omega.{arith}
-use native.Mathlib.Nat.{add-zero}
-use lib.ListN.{length, take, drop, set, getD, replicate, length-append, length-take, length-replicate, take-append-drop, List·getD-append}
-use lib.Seq.{slice, slice-empty, slice-cons, length-slice, take-at, drop-at, set-at, take-suc, drop-cons, length-take-le, getD-append-add, getD-drop, getD-take, drop-drop, drop-append-le, append-snoc}
-use Rattle.buffers.specs.Moves.{over}
-
-pub over-nil : (s : List ℕ) (a : ℕ) → over s a [] ≡ s
-unfolding over
-over-nil s a = rw add-zero (take-append-drop a s)
-
--- a store behind what was written, and one before it
-pub over-snoc : (s : List ℕ) (a : ℕ) (x : List ℕ) (i v : ℕ) → i ≡ a + length x → i < length s → set (over s a x) i v ≡ over s a (x ++ (v ∷ []))
-unfolding over
-over-snoc s a x i v e h =
-    let l : length (take a s ++ x) ≡ i = simp (length-append, length-take) (omega arith) in
-    let n : a + length (x ++ (v ∷ [])) ≡ suc i = simp length-append (omega arith) in
-    rw (n, ← e, drop-cons s i 0 h, ← append-assoc (take a s) x (getD s i 0 ∷ drop (suc i) s), set-at (take a s ++ x) (getD s i 0) (drop (suc i) s) v i l) (simp append-assoc)
-
-pub over-cons : (s : List ℕ) (a b : ℕ) (x : List ℕ) (v : ℕ) → b ≡ suc a → a < length s → set (over s b x) a v ≡ over s a (v ∷ x)
-unfolding over
-over-cons s a b x v e h =
-    let n : a + suc (length x) ≡ suc a + length x = omega arith in
-    rw (n, e, take-suc s a 0 h, append-snoc (take a s) (getD s a 0), set-at (take a s) (getD s a 0) _ v a (length-take-le a s (omega arith))) refl
-
--- the bytes before what was written, and those behind it
-pub over-below : (s : List ℕ) (a : ℕ) (x : List ℕ) (i : ℕ) → i < a → a ≤ length s → getD (over s a x) i 0 ≡ getD s i 0
-unfolding over
-over-below s a x i h l = List·getD-append (take a s) _ 0 i (simp length-take (omega arith)) ∙ getD-take a s i 0 h
-
-pub over-above : (s : List ℕ) (a : ℕ) (x : List ℕ) (i : ℕ) → a + length x ≤ i → a ≤ length s → getD (over s a x) i 0 ≡ getD s i 0
-unfolding over
-over-above s a x i h l =
-    let j = i - (a + length x) in
-    let p : length (take a s ++ x) + j ≡ i = simp (length-append, length-take) (omega arith) in
-    rw (← append-assoc, ← p, getD-append-add (take a s ++ x) (drop (a + length x) s) j 0, getD-drop (a + length x) s j 0)
-    (ap (λ k. getD s k 0) (simp (length-append, length-take) (omega arith)))
-
--- written one behind the other
-pub over-over : (s : List ℕ) (a : ℕ) (x : List ℕ) (b : ℕ) (y : List ℕ) → b ≡ a + length x → b ≤ length s → over (over s a x) b y ≡ over s a (x ++ y)
-unfolding over
-over-over s a x b y e h =
-    let l : length (take a s ++ x) ≡ b = simp (length-append, length-take) (omega arith) in
-    let q : take a s ++ (x ++ drop (a + length x) s) ≡ (take a s ++ x) ++ drop b s = rw (e, append-assoc) refl in
-    let m : a + length (x ++ y) ≡ b + length y = simp length-append (omega arith) in
-    rw (
-      q,
-      m,
-      take-at (take a s ++ x) (drop b s) b l,
-      ← drop-drop (length y) b ((take a s ++ x) ++ drop b s),
-      drop-at (take a s ++ x) (drop b s) b l,
-      drop-drop (length y) b s,
-    )
-    (simp append-assoc)
+use lib.ListN.{length, take, set, getD, replicate, length-take, length-replicate}
+use lib.Seq.{slice, slice-empty, slice-cons, length-slice, take-suc, length-take-le, drop-append-le}
+use Rattle.words.specs.Words.{over}
+use Rattle.words.proofs.Over.{over-nil, over-snoc, over-cons, over-below, over-above}
 
 ---- one turn of each loop: s is what the turns before left of d
 

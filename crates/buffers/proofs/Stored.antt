@@ -6,13 +6,12 @@ use mathlib.Core.List.{List, _++_, append-assoc}
 use native.Mathlib.Omega.{arith}
 use lib.ListN.{length, take, drop, replicate, length-append, length-take, length-drop, length-replicate}
 use lib.Seq.{slice, length-slice, length-take-le, take-append-le, take-take, drop-at}
-use Rattle.words.specs.Words.{words, Below}
+use Rattle.words.specs.Words.{words, Below, over}
 use Rattle.words.proofs.Laws.{length-words, bytes-words, words-append, words-take, words-drop}
 use Rattle.edits.specs.Edits.{splice, cut}
 use Rattle.edits.specs.Calls.{usedWords, stored}
 use Rattle.edits.proofs.Bounds.{below-append, below-take, below-drop}
-use Rattle.buffers.specs.Moves.{over}
-use Rattle.buffers.proofs.Over.{over-over}
+use Rattle.words.proofs.Over.{over-over}
 
 ---- a change of bytes at even places, in words
 

@@ -5,7 +5,8 @@ ghost use mathlib.Core.Path.{_≡_};
 ghost use Prim.Native.Nat.{_+_, _-_, _≤_};
 ghost use lib.ListN.{length, replicate};
 ghost use lib.Seq.{slice};
-ghost use Rattle.buffers.specs.Moves.{over, copied};
+ghost use Rattle.words.specs.Words.{over};
+ghost use Rattle.buffers.specs.Moves.{copied};
 ghost use Rattle.buffers.specs.Files.{wordsInserted, wordsRemoved};
 
 // The bytes from `at` to `used` move up by n.

@@ -1,5 +1,5 @@
 // Program celllist: the elements of a 2D file from standard input, a line for each in file order, or the line of its
-// refusal. The lines are those of the crate listing, and the order is that of finder::next.
+// refusal. The lines are those of the crates listing and lines, and the order is that of walking::next.
 use libc::STDIN_FILENO;
 use libc::STDOUT_FILENO;
 ghost use Prim.Native.Nat.{_≤_};
@@ -24,14 +24,14 @@ fn print_elements(file: &[u8], elements: usize, marker: usize) {
     let mut line = [0u8; 128];
     let n = listing::heading(&mut line);
     print(&line, n);
-    let mut w = finder::start();
+    let mut w = walking::start();
     let mut k = 0;
     while k < elements {
         let at = w.place;
         let depth = w.depth;
-        let n = listing::line(file, at, depth, &mut line);
+        let n = lines::line(file, at, depth, &mut line);
         print(&line, n);
-        w = finder::next(file, w);
+        w = walking::next(file, w);
         k += 1;
     }
     let n = listing::end_line(&mut line, marker);

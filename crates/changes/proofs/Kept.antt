@@ -10,13 +10,15 @@ use Rattle.words.specs.Words.{words, Below, wordAt, putWord}
 use Rattle.words.proofs.Laws.{length-put, words-put}
 use Rattle.places.specs.declared.Above.{Above}
 use Rattle.places.specs.declared.Above.the-variants.{Top, Under}
-use Rattle.edits.specs.Edits.{flagged, namePlace}
+use Rattle.edits.specs.Edits.{flagged}
+use Rattle.headers.specs.Header.{namePlace}
 use Rattle.edits.specs.Calls.{stored}
 use Rattle.edits.proofs.Fields.{flagged-small}
 use Rattle.buffers.proofs.Stored.{stored-bytes}
 use Rattle.totals.proofs.Corrected.{below-put}
 use Rattle.totals.proofs.Totals.{length-totals, below-totals}
-use Rattle.changes.specs.Changes.{flagPut, namePut, totalsUnder}
+use Rattle.cell_names.specs.CellNames.{namePut}
+use Rattle.changes.specs.Changes.{flagPut, totalsUnder}
 
 kept-stored : (f : List ℕ) (used : ℕ) (y : List ℕ) → used % 2 ≡ 0 → length y ≡ used → Below 256 y → y ++ drop used f ≡ stored f used (words y)
 kept-stored f used y even l b =

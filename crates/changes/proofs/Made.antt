@@ -16,7 +16,8 @@ use Rattle.places.specs.declared.Spotted.the-variants.{At}
 use Rattle.places.specs.Descent.{locateOf}
 use Rattle.places.proofs.Places.{spot-inside}
 use Rattle.edits.proofs.Lengths.{length-raise}
-use Rattle.edits.specs.Edits.{mark, rename, insert, remove, namePlace, around, downTo, extentIn, raise, apply}
+use Rattle.edits.specs.Edits.{mark, rename, insert, remove, around, downTo, extentIn, raise, apply}
+use Rattle.headers.specs.Header.{namePlace}
 use Rattle.edits.specs.Allowed.{fine, orElse, unless, gapOk, pieceFault, roomFault, insertFault}
 use Rattle.edits.specs.Records.{removed, headerBy, recordOf}
 use Rattle.edits.specs.Calls.{usedWords, stored}
@@ -30,7 +31,8 @@ use Rattle.buffers.proofs.Laws.{inserted-stored, removed-stored}
 use Rattle.opening.specs.Opening.{headerOf}
 use Rattle.opening.proofs.Opening.{AcceptedUsed}
 use Rattle.opening.proofs.Accepted.{standing, found-is}
-use Rattle.changes.specs.Changes.{flagPut, namePut, totalsUnder, usedTotals, pieceIn, extentOut}
+use Rattle.cell_names.specs.CellNames.{namePut}
+use Rattle.changes.specs.Changes.{flagPut, totalsUnder, usedTotals, pieceIn, extentOut}
 use Rattle.changes.proofs.Steps.{piece-within, extent-within}
 use Rattle.changes.proofs.Kept.{below-under, flag-stored, name-stored, totals-stored}
 use Rattle.changes.proofs.Found.{gap-within, raised-under, Found, found-at, found-extent, lowered-under}

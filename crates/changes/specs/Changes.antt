@@ -1,32 +1,21 @@
 -- The bytes that an edit leaves of a file's buffer once nothing refuses it; proofs/Made: they are the buffer with the words
--- of edits' `apply` stored. Mark and rename change the used part alone; insert and remove correct totals in it and move what
--- follows.
-use Prim.Native.Nat.{ℕ, _+_, _/_}
-use mathlib.Core.List.{List, [], _∷_, _++_}
+-- of edits' `apply` stored. Mark changes the used part alone, as rename does (crate cell_names); insert and remove correct
+-- totals in it and move what follows.
+use Prim.Native.Nat.{ℕ, _/_}
+use mathlib.Core.List.{List, _++_}
 use mathlib.Core.Bool.{Bool, true, false, cond}
 use lib.ListN.{length, take, drop}
 use lib.Dec.{leb}
-use Rattle.words.specs.Words.{words, bytes, wordAt, putWord}
+use Rattle.words.specs.Words.{words, wordAt, putWord}
 use Rattle.places.specs.declared.Above.{Above}
 use Rattle.places.specs.declared.Above.the-variants.{Top, Under}
-use Rattle.edits.specs.Edits.{flagged, namePlace}
+use Rattle.edits.specs.Edits.{flagged}
 use Rattle.totals.specs.Totals.{totalsPut}
 use Rattle.buffers.specs.Files.{wordsInserted, wordsRemoved}
 
 -- the bytes with bit 15 of the word at a place set or clear
 unfoldable pub flagPut : Bool → ℕ → List ℕ → List ℕ
 flagPut deleted p s = putWord s p (flagged deleted (wordAt (words s) p))
-
--- the bytes with two words written over the name of the cell at a place
-unfoldable pub namePut : ℕ → ℕ → ℕ → List ℕ → List ℕ
-namePut p a b s = putWord (putWord s (namePlace (words s) p) a) (namePlace (words s) p + 1) b
-
--- two name words as bytes, and those of the cell at a place
-abbrev pub nameBytes : ℕ → ℕ → List ℕ
-nameBytes a b = bytes (a ∷ b ∷ [])
-
-unfoldable pub cellName : List ℕ → ℕ → List ℕ
-cellName ws p = nameBytes (wordAt ws (namePlace ws p)) (wordAt ws (namePlace ws p + 1))
 
 -- the bytes with the totals on the path down to a named header corrected; at the top there is none
 abbrev pub totalsUnder : Bool → ℕ → Above → List ℕ → List ℕ

@@ -1,12 +1,8 @@
-// The four edits on a file's buffer, made once nothing refuses them: the deleted flag, a cell's name, a piece put in, an
-// extent taken out, with the totals on the path. Definitions: specs/Changes; proofs/Made: on an accepted file these
-// bytes are the book's words, stored.
-ghost use Prim.Native.Nat.{_<_};
+// Three edits on a file's buffer, made once nothing refuses them: the deleted flag, a piece put in, an extent taken out,
+// with the totals on the path. Definitions: specs/Changes; proofs/Made: on an accepted file these bytes, and those of the
+// fourth edit, cell_names::rename_cell, are the book's words, stored.
 ghost use mathlib.Core.Path.{_≡_};
-ghost use lib.ListN.{length};
-ghost use Rattle.words.specs.Words.{words};
-ghost use Rattle.edits.specs.Edits.{namePlace};
-ghost use Rattle.changes.specs.Changes.{flagPut, namePut, nameBytes, cellName, totalsUnder, pieceIn, extentOut};
+ghost use Rattle.changes.specs.Changes.{flagPut, totalsUnder, pieceIn, extentOut};
 use places::Above;
 
 // Marks the element at a place of a file's used part deleted, or live.
@@ -18,54 +14,6 @@ pub fn mark_element(used: &mut [u8], place: usize, deleted: bool)
         words::put_word(used, place, (32768 + w) as u16);
     } else {
         words::put_word(used, place, w as u16);
-    }
-}
-
-// Where the name of the cell at a place stands.
-fn name_place(used: &[u8], place: usize) -> usize
-    requires { ⌜ place < length (now used) ⌝ }
-    ensures { λ r. ⌜ r ≡ namePlace (words (now (used .entry))) place ⌝ }
-{
-    if elements::type_at(used, place) == 1 {
-        return place + 16;
-    }
-    place + 19
-}
-
-// Two name words as bytes.
-pub fn name_bytes(first: u16, second: u16) -> [u8; 4]
-    ensures { λ r. ⌜ r ≡ nameBytes first second ⌝ }
-{
-    [
-        (first % 256) as u8,
-        (first / 256 % 256) as u8,
-        (second % 256) as u8,
-        (second / 256 % 256) as u8,
-    ]
-}
-
-// The name words of the cell at a place of a file's used part, as bytes.
-pub fn cell_name(used: &[u8], place: usize) -> [u8; 4]
-    ensures { λ r. ⌜ r ≡ cellName (words (now (used .entry))) place ⌝ }
-{
-    if place < used.len() {
-        let at = name_place(used, place);
-        return name_bytes(
-            words::word(used, at) as u16,
-            words::word(used, at + 1) as u16,
-        );
-    }
-    [0; 4]
-}
-
-// Writes two words over the name of the cell at a place of a file's used part.
-pub fn rename_cell(used: &mut [u8], place: usize, first: u16, second: u16)
-    ensures { λ _. ⌜ now (used .exit) ≡ namePut place first second (now (used .entry)) ⌝ }
-{
-    if place < used.len() {
-        let at = name_place(used, place);
-        words::put_word(used, at, first);
-        words::put_word(used, at + 1, second);
     }
 }
 

@@ -10,10 +10,11 @@ use lib.Signed.{mag}
 use Rattle.words.specs.Words.{words, wordAt, longAt, signed, unsigned, putWord, putLong}
 use Rattle.words.proofs.Laws as stores
 use Rattle.words.proofs.Signed as signs
-use Rattle.names.specs.Names.{packed, unpacked, answerOf, textOf, nameOk}
+use Rattle.names.specs.Names.{packed, unpacked, textAnswer, textOf, nameOk}
 use Rattle.names.specs.declared.Packed.the-variants.{Words}
 use Rattle.names.proofs.OneToOne as names
-use Rattle.files.specs.Judge.{callOk, judgeOf}
+use Rattle.limits.specs.Limits.{callOk}
+use Rattle.files.specs.Judge.{judgeOf}
 use Rattle.files.specs.Spots.{Spot, deepest, spotsOf}
 use Rattle.files.specs.declared.Judged.the-variants.{Accepted, Refused}
 use Rattle.grammar.specs.Grammar.{File}
@@ -27,14 +28,14 @@ use Rattle.finder.specs.Finder.{findOf}
 use Rattle.finder.specs.Answers.{Finds, Stored}
 use Rattle.finder.specs.declared.Found.the-variants as found
 use Rattle.finder.proofs.Named as named
-use Rattle.finder.specs.Walk.{walkStart}
+use Rattle.walking.specs.Walk.{walkStart}
 use Rattle.linkages.specs.Linkages.{Linkages, fillFrom, linkagesFill}
 use Rattle.linkages.proofs.Meaning as meaning
 use Rattle.listing.specs.Lines.{headingLine, endLine}
 use Rattle.written.specs.RoundTrip.{ReadsBack, Rewrites}
 use Rattle.written.proofs.InFile as back
 use Rattle.written.proofs.Again as again
-use Rattle.demands.specs.Listing.{listingOf, walkLines}
+use Rattle.demands.specs.Listing.{listingOf, walkLines, walkPlace}
 use Rattle.demands.specs.Starred.{allHold, starred}
 use Rattle.demands.proofs.Listing as listing
 use Rattle.demands.proofs.Starred as worked
@@ -93,9 +94,9 @@ after-marker = exact.judged-after-marker
 pub count-is-length : (dim : ℕ) (s : List ℕ) (e d k : ℕ) → judgeOf dim s ≡ Accepted e d k → e ≡ length (spotsOf dim (words s))
 count-is-length = exact.count-is-length
 
--- the lines along the walk, between the heading and the end, are the listing of celllist
+-- the lines along the walk, between the heading and the end, are the listing of celllist, and the walk is then at the marker
 pub listing-is : (s : List ℕ) (e d m : ℕ) → length s ≤ 65536 → judgeOf 2 s ≡ Accepted e d m →
-    headingLine ++ (walkLines e (words s) walkStart ++ endLine m) ≡ listingOf s
+    (headingLine ++ (walkLines e (words s) walkStart ++ endLine m) ≡ listingOf s) × (walkPlace e (words s) walkStart ≡ m)
 listing-is = listing.listing-is
 
 -- the test that linkages fill an attribute part is their meaning
@@ -118,7 +119,7 @@ finder-count = named.finder-count
 
 -- the stored name of the cell that is found unpacks to the text, so 00417 never finds 417
 pub never-another : (dim : ℕ) (s t : List ℕ) (place looked : ℕ) → findOf dim s t ≡ found.At place looked →
-    Stored (words s) place (λ x y. unpacked x y ≡ answerOf t)
+    Stored (words s) place (λ x y. unpacked x y ≡ textAnswer t)
 never-another = named.never-another
 
 -- two texts that find the same place are the same text
@@ -132,7 +133,7 @@ one-text = named.one-text
 pub reads-back : ReadsBack
 reads-back = back.reads-back
 
--- writing what view, points and the extent's bytes give of an accepted element of a written kind makes the same bytes
+-- writing what view, points and the extent's bytes give of an accepted element of a type that is written makes the same bytes
 pub rewrites : Rewrites
 rewrites = again.rewrites
 
@@ -144,14 +145,14 @@ starred-hold = worked.starred-hold
 ---- demand 2: texts and stored names match one to one
 
 -- unpacking what a text packs to gives that text, and packing the text of two accepted words gives those words
-pub text-back : (t : List ℕ) (a b : ℕ) → packed t ≡ Words a b → unpacked a b ≡ answerOf t
+pub text-back : (t : List ℕ) (a b : ℕ) → packed t ≡ Words a b → unpacked a b ≡ textAnswer t
 text-back = names.unpack-pack
 
 pub words-back : (a b : ℕ) → nameOk a b ≡ true → packed (textOf a b) ≡ Words a b
 words-back = names.pack-unpack
 
 -- a text packs to two words exactly where they unpack to it
-pub one-to-one : (t : List ℕ) (a b : ℕ) → packed t ≡ Words a b ↔ unpacked a b ≡ answerOf t
+pub one-to-one : (t : List ℕ) (a b : ℕ) → packed t ≡ Words a b ↔ unpacked a b ≡ textAnswer t
 one-to-one = names.one-to-one
 
 -- no two part codes share a stored name

@@ -10,9 +10,10 @@ use Rattle.files.specs.Judge.{judgeOf}
 use Rattle.files.specs.Spots.{Spot, spotsOf}
 use Rattle.files.specs.declared.Judged.{Judged}
 use Rattle.files.specs.declared.Judged.the-variants.{Accepted, Refused}
-use Rattle.finder.specs.declared.Walk.{Walk}
-use Rattle.finder.specs.Walk.{nextOf}
-use Rattle.listing.specs.Lines.{lineOf, headingLine, refusedLine, endLine}
+use Rattle.walking.specs.declared.Walk.{Walk}
+use Rattle.walking.specs.Walk.{nextOf}
+use Rattle.listing.specs.Lines.{headingLine, refusedLine, endLine}
+use Rattle.lines.specs.Element.{lineOf}
 
 -- a line for each element
 abbrev pub elementLines : List ℕ → List Spot → List ℕ
@@ -32,3 +33,8 @@ listingOf s = cond (leb (length s) 65536) (listingBy (judgeOf 2 s) (words s) (sp
 abbrev pub walkLines : ℕ → List ℕ → Walk → List ℕ
 walkLines zero ws w = []
 walkLines (suc n) ws w = lineOf ws (w .place) (w .depth) ++ walkLines n ws (nextOf ws w)
+
+-- where the walk is after n steps
+abbrev pub walkPlace : ℕ → List ℕ → Walk → ℕ
+walkPlace zero ws w = w .place
+walkPlace (suc n) ws w = walkPlace n ws (nextOf ws w)

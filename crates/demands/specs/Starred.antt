@@ -1,5 +1,6 @@
--- The worked cases of document 01 that it marks with *, its table of fixed parts and its rules of what may stand where, as
--- one list. That all hold is one statement of the page of demands.
+-- The worked cases of document 01 that it marks with *, its table of fixed parts, its rules of what may stand where and of
+-- bits 6 and 7, and cases of its counts, stored names and attribute parts, as one list. That all hold is one statement of the
+-- page of demands.
 use Prim.Native.Nat.{ℕ, suc, _+_, _*_, _-_}
 use mathlib.Core.List.{List, [], _∷_, _++_}
 use mathlib.Core.Bool.{Bool, true, false, cond, _&&_}
@@ -138,8 +139,8 @@ tableCases =
 abbrev pub standing : ℕ → ℕ → ℕ
 standing under kind = cond (mayStand 3 under kind) 1 0
 
-abbrev pub standsUnder : ℕ → List ℕ
-standsUnder under =
+abbrev pub standingUnder : ℕ → List ℕ
+standingUnder under =
     standing under 1
     ∷ standing under 2
     ∷ standing under 3
@@ -154,14 +155,14 @@ standsUnder under =
 -- bits 6 and 7 of word 0 are not judged in type 9, in others 4 and 5
 abbrev pub placeCases : List Case
 placeCases =
-    case (standsUnder 0) (1 ∷ 1 ∷ 1 ∷ 1 ∷ 1 ∷ 1 ∷ 1 ∷ 1 ∷ []) ∷
-    case (standsUnder 1) (0 ∷ 1 ∷ 1 ∷ 1 ∷ 1 ∷ 1 ∷ 1 ∷ 1 ∷ []) ∷
-    case (standsUnder 2) (0 ∷ 1 ∷ 1 ∷ 1 ∷ 1 ∷ 1 ∷ 1 ∷ 1 ∷ []) ∷
-    case (standsUnder 7) (0 ∷ 0 ∷ 0 ∷ 0 ∷ 0 ∷ 1 ∷ 0 ∷ 0 ∷ []) ∷
-    case (standsUnder 12) (0 ∷ 0 ∷ 1 ∷ 0 ∷ 0 ∷ 1 ∷ 0 ∷ 1 ∷ []) ∷
-    case (standsUnder 14) (0 ∷ 0 ∷ 1 ∷ 0 ∷ 0 ∷ 1 ∷ 0 ∷ 1 ∷ []) ∷
-    case (standsUnder 18) (0 ∷ 0 ∷ 1 ∷ 0 ∷ 0 ∷ 1 ∷ 0 ∷ 1 ∷ []) ∷
-    case (standsUnder 19) (0 ∷ 0 ∷ 1 ∷ 0 ∷ 0 ∷ 1 ∷ 0 ∷ 1 ∷ []) ∷
+    case (standingUnder 0) (1 ∷ 1 ∷ 1 ∷ 1 ∷ 1 ∷ 1 ∷ 1 ∷ 1 ∷ []) ∷
+    case (standingUnder 1) (0 ∷ 1 ∷ 1 ∷ 1 ∷ 1 ∷ 1 ∷ 1 ∷ 1 ∷ []) ∷
+    case (standingUnder 2) (0 ∷ 1 ∷ 1 ∷ 1 ∷ 1 ∷ 1 ∷ 1 ∷ 1 ∷ []) ∷
+    case (standingUnder 7) (0 ∷ 0 ∷ 0 ∷ 0 ∷ 0 ∷ 1 ∷ 0 ∷ 0 ∷ []) ∷
+    case (standingUnder 12) (0 ∷ 0 ∷ 1 ∷ 0 ∷ 0 ∷ 1 ∷ 0 ∷ 1 ∷ []) ∷
+    case (standingUnder 14) (0 ∷ 0 ∷ 1 ∷ 0 ∷ 0 ∷ 1 ∷ 0 ∷ 1 ∷ []) ∷
+    case (standingUnder 18) (0 ∷ 0 ∷ 1 ∷ 0 ∷ 0 ∷ 1 ∷ 0 ∷ 1 ∷ []) ∷
+    case (standingUnder 19) (0 ∷ 0 ∷ 1 ∷ 0 ∷ 0 ∷ 1 ∷ 0 ∷ 1 ∷ []) ∷
     case (standing 0 24 ∷ standing 0 27 ∷ standing 0 87 ∷ []) (0 ∷ 0 ∷ 0 ∷ []) ∷
     case (judgedNumbers (judgeOf 3 (bytes (plain 0 18 21 2 ++ (65535 ∷ []))))) (0 ∷ 1 ∷ 0 ∷ 21 ∷ []) ∷
     case (judged2D (2496 ∷ 0 ∷ [])) (0 ∷ 1 ∷ 0 ∷ 2 ∷ []) ∷
@@ -169,6 +170,41 @@ placeCases =
     case (judged2D (1408 ∷ 0 ∷ [])) (5 ∷ 0 ∷ []) ∷
     []
 
+-- a 2D complex chain of 20 words around one line, with a count
+abbrev pub chain : ℕ → List ℕ
+chain count = 3072 ∷ 18 ∷ replicate 16 0 ++ (27 ∷ count ∷ plain 1 3 26 0)
+
+-- a library cell and a 2D cell, each with a name of two words and nothing under it
+abbrev pub libraryCell : ℕ → ℕ → List ℕ
+libraryCell first second = 256 ∷ 33 ∷ replicate 14 0 ++ (first ∷ second ∷ 16 ∷ replicate 16 0)
+
+abbrev pub cell : ℕ → ℕ → List ℕ
+cell first second = 512 ∷ 44 ∷ replicate 16 0 ++ (27 ∷ first ∷ second ∷ replicate 25 0)
+
+-- a 2D line with A set, its attribute part from word 16 + index on and four words behind its fixed part
+abbrev pub linked : ℕ → ℕ → List ℕ
+linked index first = 768 ∷ 28 ∷ replicate 13 0 ++ (index ∷ 2048 ∷ replicate 9 0 ++ (first ∷ 0 ∷ 0 ∷ 0 ∷ []))
+
+-- a count in word 19 that differs from the direct components: 9; a stored name with a word above 63999, in words 16-17 of
+-- type 1 and 19-20 of type 2: 12; an attribute part that linkages fill, else 11, and 11 where it begins in the fixed part
+abbrev pub ruleCases : List Case
+ruleCases =
+    case (judged2D (chain 1)) (0 ∷ 2 ∷ 1 ∷ 46 ∷ []) ∷
+    case (judged2D (chain 0)) (9 ∷ 0 ∷ []) ∷
+    case (judged2D (libraryCell 49234 51080)) (0 ∷ 1 ∷ 0 ∷ 35 ∷ []) ∷
+    case (judged2D (libraryCell 64000 0)) (12 ∷ 0 ∷ []) ∷
+    case (judged2D (libraryCell 0 64000)) (12 ∷ 0 ∷ []) ∷
+    case (judged2D (cell 55677 0)) (0 ∷ 1 ∷ 0 ∷ 46 ∷ []) ∷
+    case (judged2D (cell 64000 0)) (12 ∷ 0 ∷ []) ∷
+    case (judged2D (cell 0 64000)) (12 ∷ 0 ∷ []) ∷
+    case (judged2D (linked 10 0)) (0 ∷ 1 ∷ 0 ∷ 30 ∷ []) ∷
+    case (judged2D (linked 10 32768)) (0 ∷ 1 ∷ 0 ∷ 30 ∷ []) ∷
+    case (judged2D (linked 10 4099)) (0 ∷ 1 ∷ 0 ∷ 30 ∷ []) ∷
+    case (judged2D (linked 10 4096)) (11 ∷ 0 ∷ []) ∷
+    case (judged2D (linked 10 1)) (11 ∷ 0 ∷ []) ∷
+    case (judged2D (linked 9 0)) (11 ∷ 0 ∷ []) ∷
+    []
+
 -- the one list
 abbrev pub starred : List Case
-starred = longCases ++ nameCases ++ fileCases ++ lineCases ++ pointCases ++ cellCases ++ tableCases ++ placeCases
+starred = longCases ++ nameCases ++ fileCases ++ lineCases ++ pointCases ++ cellCases ++ tableCases ++ placeCases ++ ruleCases

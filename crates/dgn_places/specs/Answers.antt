@@ -1,9 +1,9 @@
 -- The numbers of each answer about an extent or a point. The library's own definitions decide them.
 use Prim.Native.Nat.{ℕ}
 use lib.IntN.{ℤ}
-use Rattle.places.specs.Numbers.{extentNumbers}
+use Rattle.extents.specs.Extents.{extentNumbers}
 use Rattle.reading.specs.Numbers.{pointNumber, pointGiven}
-use Rattle.places.specs.declared.Extent.{Extent}
+use Rattle.extents.specs.declared.Extent.{Extent}
 use Rattle.reading.specs.declared.Point.{Point}
 use Rattle.answers.specs.Answers.{Reply, replyOf}
 

@@ -1,6 +1,6 @@
 // The C interface of a place, as in include/dgn.h: an element's extent and its points. No logic: each contract is the
 // library's own equation, put into numbers by specs/Answers.
-ghost use Rattle.places.specs.Places.{extentAnswer};
+ghost use Rattle.extents.specs.Extents.{extentAnswer};
 ghost use Rattle.reading.specs.Points.{pointOf};
 ghost use Rattle.answers.specs.Answers.{Replied};
 ghost use Rattle.dgn_places.specs.Answers.{extentReply, pointReply};
@@ -12,13 +12,13 @@ pub extern "C" fn dgn_extent(file: &[u8], dim: usize, place: usize, out: &mut [u
     if out.len() < 2 {
         return 1;
     }
-    match places::extent_answer(file, dim, place) {
-        places::Extent::At { start, end } => {
+    match extents::extent_answer(file, dim, place) {
+        extents::Extent::At { start, end } => {
             out[0] = start;
             out[1] = end;
             0
         }
-        places::Extent::Refused {
+        extents::Extent::Refused {
             number,
             place: fault,
         } => {

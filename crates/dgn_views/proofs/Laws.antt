@@ -1,11 +1,11 @@
 -- Numbers put one behind another, and the parts of a view.
-use Prim.Native.Nat.{ℕ, suc, _+_, _<_}
-use mathlib.Core.Path.{_≡_, refl, sym, ap, _∙_}
-use mathlib.Core.List.{List, [], _∷_, _++_}
+use Prim.Native.Nat.{ℕ}
+use mathlib.Core.Path.{_≡_, refl, sym, _∙_}
+use mathlib.Core.List.{List, [], _∷_}
 use native.Mathlib.Omega.{arith}
-use native.Mathlib.Nat.{add-zero}
-use lib.ListN.{length, getD, set, take, length-append}
-use lib.Seq.{sets, take-suc, length-take-le}
+use lib.ListN.{length, set, length-append}
+use lib.Seq.{sets}
+use Rattle.words.proofs.Puts.{sets-then}
 use Rattle.places.specs.declared.Above.{Above}
 use Rattle.places.specs.declared.Above.the-variants as aboves
 use Rattle.views.specs.declared.Number.{Number}
@@ -17,21 +17,8 @@ use Rattle.views.specs.declared.Display.the-variants as displays
 use Rattle.views.specs.declared.Name.{Name}
 use Rattle.views.specs.declared.Name.the-variants as cells
 use Rattle.views.specs.declared.Element.{Element}
-use Rattle.places.specs.Numbers.{flag}
+use Rattle.kinds.specs.FirstWord.{bit}
 use Rattle.views.specs.Numbers.{aboveNumbers, numberNumbers, rangeNumbers, displayNumbers, nameNumbers, commonNumbers, kindNumbers, elementNumbers}
-
--- numbers put behind others
-sets-then : (s : List ℕ) (at : ℕ) (x y : List ℕ) (m : ℕ) → m ≡ at + length x → sets s at (x ++ y) ≡ sets (sets s at x) m y
-sets-then s at [] y m e = ap (λ i. sets s i y) (sym (e ∙ add-zero at))
-sets-then s at (a ∷ x) y m e = sets-then (set s at a) (suc at) x y m (omega arith)
-
--- a turn of the loop that puts the numbers of x
-pub put-turn : (s t x : List ℕ) (at k : ℕ) → t ≡ sets s at (take k x) → k < length x → set t (at + k) (getD x k 0) ≡ sets s at (take (suc k) x)
-put-turn s t x at k e h =
-    let l = length-take-le k x (omega arith) in
-    ap (λ u. set u (at + k) (getD x k 0)) e
-    ∙ sym (sets-then s at (take k x) (getD x k 0 ∷ []) (at + k) (omega arith))
-    ∙ ap (sets s at) (sym (take-suc x k 0 h))
 
 -- how many numbers each part of a view has
 above-two : (x : Above) → length (aboveNumbers x) ≡ 2
@@ -58,9 +45,9 @@ name-three (cells.Words first second) = refl
 module _ (s : List ℕ) (e : Element) where
   pub common-put :
       sets s 0 (commonNumbers e)
-      ≡ sets (sets (sets s 0 (e .level ∷ flag (e .c) ∷ e .kind ∷ flag (e .deleted) ∷ e .size ∷ e .depth ∷ [])) 6 (aboveNumbers (e .above)))
+      ≡ sets (sets (sets s 0 (e .level ∷ bit (e .c) ∷ e .kind ∷ bit (e .deleted) ∷ e .size ∷ e .depth ∷ [])) 6 (aboveNumbers (e .above)))
       8 (rangeNumbers (e .range))
-  common-put = let a = above-two (e .above) in sets-then _ 6 (aboveNumbers (e .above)) _ 8 (omega arith)
+  common-put = let a = above-two (e .above) in sym (sets-then _ 6 (aboveNumbers (e .above)) _ 8 (omega arith))
 
   pub kind-put :
       sets s 15 (kindNumbers e)
@@ -72,15 +59,15 @@ module _ (s : List ℕ) (e : Element) where
       let n = name-three (e .name) in
       let t = number-two (e .total) in
       let c = number-two (e .count) in
-      sets-then _ 15 (displayNumbers (e .display)) _ 22 (omega arith)
-      ∙ sets-then _ 22 (numberNumbers (e .points)) _ 24 (omega arith)
-      ∙ sets-then _ 24 (nameNumbers (e .name)) _ 27 (omega arith)
-      ∙ sets-then _ 27 (numberNumbers (e .total)) _ 29 (omega arith)
-      ∙ sets-then _ 29 (numberNumbers (e .count)) (0 ∷ []) 31 (omega arith)
+      sym (sets-then _ 15 (displayNumbers (e .display)) _ 22 (omega arith))
+      ∙ sym (sets-then _ 22 (numberNumbers (e .points)) _ 24 (omega arith))
+      ∙ sym (sets-then _ 24 (nameNumbers (e .name)) _ 27 (omega arith))
+      ∙ sym (sets-then _ 27 (numberNumbers (e .total)) _ 29 (omega arith))
+      ∙ sym (sets-then _ 29 (numberNumbers (e .count)) (0 ∷ []) 31 (omega arith))
 
   pub element-put : sets s 0 (elementNumbers e) ≡ sets (sets s 0 (commonNumbers e)) 15 (kindNumbers e)
   element-put =
       let a = above-two (e .above) in
       let r = range-seven (e .range) in
       let l = length-append (aboveNumbers (e .above)) (rangeNumbers (e .range)) in
-      sets-then s 0 (commonNumbers e) (kindNumbers e) 15 (omega arith)
+      sym (sets-then s 0 (commonNumbers e) (kindNumbers e) 15 (omega arith))

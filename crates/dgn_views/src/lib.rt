@@ -1,15 +1,13 @@
-// The C interface of an element, as in include/dgn.h: its view and its linkages. No logic: each contract is the
-// library's own equation, put into numbers by specs/Views.
+// The C interface of an element's view, as in include/dgn.h. No logic: the contract is the library's own equation, put
+// into numbers by specs/Views.
 ghost use mathlib.Core.Path.{_≡_};
 ghost use Prim.Native.Nat.{_+_, _≤_};
 ghost use lib.ListN.{length};
 ghost use lib.Seq.{sets};
 ghost use Rattle.views.specs.Views.{viewOf};
-ghost use Rattle.reading.specs.Linkages.{linkageOf};
-ghost use Rattle.places.specs.Numbers.{flag};
 ghost use Rattle.views.specs.Numbers.{aboveNumbers, numberNumbers, rangeNumbers, displayNumbers, nameNumbers, commonNumbers, kindNumbers};
 ghost use Rattle.answers.specs.Answers.{Replied};
-ghost use Rattle.dgn_views.specs.Views.{viewReply, linkageReply};
+ghost use Rattle.dgn_views.specs.Views.{viewReply};
 
 // Numbers, from a place of the answer slice on.
 fn put_numbers(out: &mut [usize], at: usize, numbers: &[usize])
@@ -21,13 +19,6 @@ fn put_numbers(out: &mut [usize], at: usize, numbers: &[usize])
         out[at + k] = numbers[k];
         k += 1;
     }
-}
-
-// True is 1.
-fn flag_of(b: bool) -> usize
-    ensures { λ r. ⌜ r ≡ flag b ⌝ }
-{
-    if b { 1 } else { 0 }
 }
 
 // The direct header.
@@ -99,8 +90,8 @@ fn put_common(out: &mut [usize], element: views::Element)
     requires { ⌜ 15 ≤ length (now out) ⌝ }
     ensures { λ _. ⌜ now (out .exit) ≡ sets (now (out .entry)) 0 (commonNumbers element) ⌝ }
 {
-    let c = flag_of(element.c);
-    let deleted = flag_of(element.deleted);
+    let c = kinds::pick(element.c, 1, 0);
+    let deleted = kinds::pick(element.deleted, 1, 0);
     let own = [
         element.level,
         c,
@@ -148,43 +139,6 @@ pub extern "C" fn dgn_view(file: &[u8], dim: usize, place: usize, out: &mut [usi
             0
         }
         views::View::Refused {
-            number,
-            place: fault,
-        } => {
-            out[0] = fault;
-            number
-        }
-    }
-}
-
-#[no_mangle]
-pub extern "C" fn dgn_linkage(
-    file: &[u8],
-    dim: usize,
-    place: usize,
-    k: usize,
-    out: &mut [usize],
-) -> usize
-    ensures { λ r. ⌜ Replied 4 (linkageReply (linkageOf dim (now (file .entry)) place k)) (now (out .entry)) r (now (out .exit)) ⌝ }
-{
-    if out.len() < 4 {
-        return 1;
-    }
-    match reading::linkage_at(file, dim, place, k) {
-        reading::Attribute::At {
-            user,
-            place: start,
-            size,
-            id,
-        } => {
-            let kind = flag_of(user);
-            out[0] = kind;
-            out[1] = start;
-            out[2] = size;
-            out[3] = id;
-            0
-        }
-        reading::Attribute::Refused {
             number,
             place: fault,
         } => {

@@ -7,9 +7,10 @@ use mathlib.Core.List.{List}
 use lib.ListN.{length, getD}
 use lib.Dec.{eqb, leb}
 use lib.IntN.{ℤ}
-use Rattle.writer.specs.declared.Fields.{Fields}
-use Rattle.writer.specs.Words.{sizeOf, elementWords}
-use Rattle.writer.specs.Writing.{writeFault, answerBy, bytesBy, writtenNumbers}
+use Rattle.fields.specs.declared.Fields.{Fields}
+use Rattle.fields.specs.Words.{sizeOf, elementWords}
+use Rattle.fields.specs.Faults.{writeFault}
+use Rattle.writer.specs.Writing.{writtenBy, bytesBy, writtenNumbers}
 use Rattle.writer.specs.declared.Written.{Written}
 use Rattle.answers.specs.Answers.{Reply, Replied, replyOf}
 
@@ -39,13 +40,13 @@ fieldsOf f = record {
 }
 
 -- the number of the first fault, 0 where there is none: 1 for the slice of fields, then the writer's own
-unfoldable pub faultOf : ℕ → List ℕ → List ℤ → List ℕ → ℕ → ℕ
-faultOf dim f points tail room = cond (fieldsGiven f) (writeFault dim (fieldsOf f) points tail room) 1
+unfoldable pub givenFault : ℕ → List ℕ → List ℤ → List ℕ → ℕ → ℕ
+givenFault dim f points tail room = cond (fieldsGiven f) (writeFault dim (fieldsOf f) points tail room) 1
 
 abbrev pub writeReply : Written → Reply ℕ
 writeReply r = replyOf (writtenNumbers r)
 
 -- the number that is returned, the answer slice and the buffer as they then are; with no room for the answer both stay
 pub record Wrote (dim : ℕ) (f : List ℕ) (points : List ℤ) (tail buffer out : List ℕ) (n : ℕ) (last t : List ℕ) : Type 0 where
-  pub answer : Replied 1 (writeReply (answerBy (faultOf dim f points tail (length buffer)) (sizeOf dim (fieldsOf f) points tail))) out n t
-  pub bytes : last ≡ cond (leb 1 (length out)) (bytesBy (faultOf dim f points tail (length buffer)) (elementWords dim (fieldsOf f) points tail) buffer) buffer
+  pub answer : Replied 1 (writeReply (writtenBy (givenFault dim f points tail (length buffer)) (sizeOf dim (fieldsOf f) points tail))) out n t
+  pub bytes : last ≡ cond (leb 1 (length out)) (bytesBy (givenFault dim f points tail (length buffer)) (elementWords dim (fieldsOf f) points tail) buffer) buffer

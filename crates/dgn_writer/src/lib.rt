@@ -18,11 +18,11 @@ fn fields_given(fields: &[usize]) -> bool
 }
 
 // The header fields of a slice.
-fn fields_of(fields: &[usize]) -> writer::Fields
+fn fields_of(fields: &[usize]) -> fields::Fields
     requires { ⌜ length (now fields) ≡ 16 ⌝ }
     ensures { λ r. ⌜ r ≡ fieldsOf (now (fields .entry)) ⌝ }
 {
-    writer::Fields {
+    fields::Fields {
         kind: fields[0],
         level: fields[1],
         c: fields[2] == 1,

@@ -9,9 +9,10 @@ use lib.ListN.{length, take, drop, replicate, length-append, length-drop, length
 use lib.Seq.{take-at, take-take, length-take-le, getD-append-seam}
 use lib.Dec.{eqb, leb}
 use borrow.Author.Tests.{le-leb, eq-eqb, leb-true, eqb-true}
-use Rattle.words.specs.Words.{words, bytes, Below}
+use Rattle.words.specs.Words.{words, bytes, Below, over}
 use Rattle.words.proofs.Laws.{words-bytes, words-append, words-take, words-same, length-words, length-bytes}
-use Rattle.edits.specs.Calls.{bufferOk, usedOk, usedWords, endsInMarker, stored, pushed}
+use Rattle.limits.specs.Limits.{sizeOk, usedOk}
+use Rattle.edits.specs.Calls.{usedWords, endsInMarker, stored, pushed}
 use Rattle.edits.proofs.Bounds.{below-append, below-take, below-drop, below-zeros, bytes-below}
 
 -- a buffer of `size` bytes whose n used bytes hold the words ws
@@ -23,9 +24,9 @@ pub record Holds (size : ℕ) (s : List ℕ) (n : ℕ) (ws : List ℕ) : Type 0 
   pub words : usedWords s n ≡ ws
 
 -- a buffer with a good used length holds its used words
-pub used-holds : (s : List ℕ) (n : ℕ) → Below 256 s → usedOk s n ≡ true → Holds (length s) s n (usedWords s n)
+pub used-holds : (s : List ℕ) (n : ℕ) → Below 256 s → usedOk (length s) n ≡ true → Holds (length s) s n (usedWords s n)
 used-holds s n b e =
-    let p = and-eq-true-iff (bufferOk s) (eqb (n % 2) 0 && leb n (length s)) .0 e in
+    let p = and-eq-true-iff (sizeOk (length s)) (eqb (n % 2) 0 && leb n (length s)) .0 e in
     let q = and-eq-true-iff (eqb (n % 2) 0) (leb n (length s)) .0 (p .1) in
     let even = eqb-true (n % 2) 0 (q .0) in
     let within = leb-true n (length s) (q .1) in
@@ -35,7 +36,7 @@ used-holds s n b e =
 
 module _ {size : ℕ} {s : List ℕ} {n : ℕ} {ws : List ℕ} (H : Holds size s n ws) where
   -- its used length is good wherever its own length is
-  pub holds-ok : (t : List ℕ) → length t ≡ size → bufferOk t ≡ true → usedOk s n ≡ true
+  pub holds-ok : (t : List ℕ) → length t ≡ size → sizeOk (length t) ≡ true → usedOk (length s) n ≡ true
   holds-ok t e ok =
       let l : length s ≡ length t = H .whole ∙ sym e in
       let u = H .used in
@@ -62,7 +63,7 @@ module _ {size : ℕ} {s : List ℕ} {n : ℕ} {ws : List ℕ} (H : Holds size s
 
   -- a record pushed: its words stand behind the used ones
   pub holds-pushed : (x : List ℕ) → Below 65536 x → n + 2 * length x ≤ size → Holds size (pushed s n x) (n + 2 * length x) (ws ++ x)
-  unfolding pushed
+  unfolding over
   holds-pushed x b h =
       let a = H .whole in
       let w = H .within in
@@ -73,14 +74,14 @@ module _ {size : ℕ} {s : List ℕ} {n : ℕ} {ws : List ℕ} (H : Holds size s
       let both : length (take n s ++ bytes x) ≡ n + 2 * length x = length-append (take n s) (bytes x) ∙ (omega arith) in
       let front : take (n + 2 * length x) (take n s ++ (bytes x ++ drop (n + 2 * length x) s)) ≡ take n s ++ bytes x =
       ap (take (n + 2 * length x)) (sym (append-assoc (take n s) (bytes x) rest)) ∙ take-at (take n s ++ bytes x) rest (n + 2 * length x) both in
-      record {
+      rw l (record {
         whole = simp (length-append, length-drop, t, l) (omega arith);
         bytes = below-append 256 (take n s) (bytes x ++ rest) (below-take 256 n s (omega arith) (H .bytes))
             (below-append 256 (bytes x) rest (bytes-below x) (below-drop 256 (n + 2 * length x) s (H .bytes)));
         used = rw (length-append ws x) (omega arith);
         within = h;
         words = rw front (words-append (length ws) (take n s) (bytes x) (t ∙ u) ∙ rw (H .words, words-bytes x b) refl);
-      }
+      })
 
 -- the last words taken off: the used length is that of the words before them, and the bytes stay
 pub holds-front : (size : ℕ) (s : List ℕ) (n : ℕ) (ws x : List ℕ) → Holds size s n (ws ++ x) → Holds size s (2 * length ws) ws

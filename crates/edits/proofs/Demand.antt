@@ -2,7 +2,7 @@
 -- journal their records, and every statement is read off these two.
 use Prim.Native.Nat.{ℕ, _-_, _*_, _/_, _%_, _≤_}
 use mathlib.Core.Path.{_≡_, refl, sym, ap, _∙_, subst}
-use mathlib.Core.Bool.{true, _||_, and-eq-true-iff}
+use mathlib.Core.Bool.{true, and-eq-true-iff}
 use mathlib.Core.List.{List, []}
 use native.Mathlib.Omega.{arith}
 use lib.ListN.{length, take}
@@ -11,12 +11,13 @@ use lib.Dec.{eqb, leb}
 use borrow.Author.Tests.{le-leb, leb-true, eq-eqb, eqb-true}
 use Rattle.words.specs.Words.{Below}
 use Rattle.words.proofs.Laws.{words-below}
-use Rattle.files.specs.Judge.{topOf, callOk, judgeOf}
+use Rattle.limits.specs.Limits.{dimOk, sizeOk, usedOk, callOk}
+use Rattle.files.specs.Judge.{topOf, judgeOf}
 use Rattle.files.specs.declared.Verdict.{Verdict}
 use Rattle.files.specs.declared.Verdict.the-variants.{Good, Fault}
 use Rattle.edits.specs.Edits.{Edit}
 use Rattle.edits.specs.Allowed.{fine, unless}
-use Rattle.edits.specs.Calls.{Session, Call, bufferOk, usedOk, usedWords, endsInMarker, sessionOk, fileFault, sessionFault}
+use Rattle.edits.specs.Calls.{Session, Call, usedWords, endsInMarker, sessionOk, fileFault, sessionFault}
 use Rattle.edits.specs.Book.{Run, ran, applied, undos}
 use Rattle.edits.specs.Demand.{OpenedEmpty, PiecesBytes, runOf, usedBytes, AcceptedFile, Demand3, EveryRun}
 use Rattle.edits.proofs.Accepted.{Accepted}
@@ -49,14 +50,14 @@ unfolding sessionFault sessionOk
 begin dim hyp s O =
     let u = usedWords (s .file) (s .used) in
     let two = orElse-fine (unless (sessionOk dim s) 1) (fileFault (topOf dim u) (length u - 1)) (O .ready) in
-    let p = and-eq-true-iff (eqb dim 2 || eqb dim 3) _ .0 (unless-fine (sessionOk dim s) 1 (two .0)) in
-    let q = and-eq-true-iff (usedOk (s .file) (s .used)) _ .0 (p .1) in
-    let r = and-eq-true-iff (usedOk (s .journal) (s .jused)) (endsInMarker u) .0 (q .1) in
+    let p = and-eq-true-iff (dimOk dim) _ .0 (unless-fine (sessionOk dim s) 1 (two .0)) in
+    let q = and-eq-true-iff (usedOk (length (s .file)) (s .used)) _ .0 (p .1) in
+    let r = and-eq-true-iff (usedOk (length (s .journal)) (s .jused)) (endsInMarker u) .0 (q .1) in
     let none = O .journal-empty in
     record {
       dimension = p .0;
-      file-ok = and-eq-true-iff (bufferOk (s .file)) _ .0 (q .0) .0;
-      journal-ok = and-eq-true-iff (bufferOk (s .journal)) _ .0 (r .0) .0;
+      file-ok = and-eq-true-iff (sizeOk (length (s .file))) _ .0 (q .0) .0;
+      journal-ok = and-eq-true-iff (sizeOk (length (s .journal))) _ .0 (r .0) .0;
       file = used-holds (s .file) (s .used) (O .file-bytes) (q .0);
       journal = record { whole = refl; bytes = O .journal-bytes; used = none; within = omega arith; words = ap (usedWords (s .journal)) none };
       tree = file-tree dim hyp u (words-below (take (s .used) (s .file)) (below-take 256 (s .used) (s .file) (omega arith) (O .file-bytes))) (r .1) (two .1);

@@ -3,8 +3,8 @@
 use Prim.Native.Nat.{ℕ, _+_, _≤_, _<_, _/_, _%_}
 use mathlib.Core.Path.{_≡_, refl, sym, ap, _∙_}
 use mathlib.Core.Logic.{_≢_, _⊎_, inl, inr}
-use mathlib.Core.Bool.{Bool, true, false, not, cond, false≢true}
-use mathlib.Core.List.{List}
+use mathlib.Core.Bool.{Bool, true, false, not, false≢true}
+use mathlib.Core.List.{List, [], _∷_}
 use native.Mathlib.Omega.{arith}
 use lib.ListN.{length, set, length-set}
 use lib.Seq.{getD-set-same, getD-set-other, set-set, set-getD}
@@ -13,18 +13,19 @@ use borrow.Author.Tests.{eqb-true, eq-eqb, ne-eqb}
 use Rattle.words.specs.Words.{Below, wordAt}
 use Rattle.names.specs.Names.{nameOk}
 use Rattle.kinds.specs.FirstWord.{reservedOf, cOf, typeOf, deletedOf}
-use Rattle.elements.specs.Header.{typeAt, pointsAt}
-use Rattle.kinds.specs.Kinds.{isHeader, isCounted, isPointed, isLinked, fixedPart}
+use Rattle.headers.specs.Header.{typeAt, pointsAt}
+use Rattle.kinds.specs.Kinds.{isHeader, isCounted, isPointed, isLinked, isCell, nameWord, fixedPart}
+use Rattle.headers.proofs.Laws.{own-first, own-second}
 use Rattle.elements.specs.Rules.{storedNameOk, countOk}
 use Rattle.grammar.specs.Grammar.{Own, Extent}
-use Rattle.kinds.proofs.Types.{linked-long}
+use Rattle.kinds.proofs.Types.{linked-long, each-named, name-late}
 use Rattle.grammar.proofs.Types.{cell-long}
 use Rattle.edits.specs.Edits.{flagged}
-use Rattle.edits.specs.Allowed.{flagDiffers, isCell}
-use Rattle.edits.proofs.Tests.{or-either, rule-of}
+use Rattle.edits.specs.Allowed.{flagDiffers}
+use Rattle.edits.proofs.Tests.{rule-of}
 use Rattle.edits.proofs.Parts.{set2, length-set2, set2-other, set2-first, set2-second, set2-back, below-set}
 use Rattle.grammar.proofs.Rules.{own-two}
-use Rattle.edits.proofs.OwnLaws.{Alike, own-alike, own-fixed, name-parts}
+use Rattle.edits.proofs.OwnLaws.{Alike, own-alike, own-fixed}
 
 -- the extent is the same where the total is
 extent-alike : {dim : ℕ} {own own′ : List ℕ} (inside k : ℕ) → Alike dim own own′ → wordAt own′ 18 ≡ wordAt own 18 →
@@ -109,13 +110,16 @@ own-marked {dim} {inside = inside} {k} {own} d o =
     }
 
     named : storedNameOk own 0 ≡ true → storedNameOk (marked d own) 0 ≡ true
-    named e = rw (
-      type-marked d own (own-two o),
-      marked-other d own 16 (omega arith),
-      marked-other d own 17 (omega arith),
-      marked-other d own 19 (omega arith),
-      marked-other d own 20 (omega arith),
-    ) e
+    named e =
+        let t = typeAt own 0 in
+        let l = name-late t in
+        rw (
+          own-first (marked d own),
+          own-second (marked d own),
+          type-marked d own (own-two o),
+          marked-other d own (nameWord t) (omega arith),
+          marked-other d own (nameWord t + 1) (omega arith),
+        ) (rw (own-first own, own-second own) at e)
 
     counted : countOk own 0 k ≡ true → countOk (marked d own) 0 k ≡ true
     counted e = rw (type-marked d own (own-two o), marked-other d own 19 (omega arith)) e
@@ -124,30 +128,16 @@ own-marked {dim} {inside = inside} {k} {own} d o =
 
 -- where it stands in the cell's own words
 abbrev pub nameIn : List ℕ → ℕ
-nameIn own = cond (eqb (typeAt own 0) 1) 16 19
+nameIn own = nameWord (typeAt own 0)
 
 abbrev pub named : ℕ → ℕ → List ℕ → List ℕ
 named a b own = set2 own (nameIn own) a b
 
-pub name-late : (own : List ℕ) → 16 ≤ nameIn own
-name-late own = go (eqb (typeAt own 0) 1)
-  where
-    go : (b : Bool) → 16 ≤ cond b 16 19
-    go true = omega arith
-    go false = omega arith
-
-pub name-early : (own : List ℕ) → nameIn own ≤ 19
-name-early own = go (eqb (typeAt own 0) 1)
-  where
-    go : (b : Bool) → cond b 16 19 ≤ 19
-    go true = omega arith
-    go false = omega arith
-
 pub type-named : (a b : ℕ) (own : List ℕ) → typeAt (named a b own) 0 ≡ typeAt own 0
-type-named a b own = let l = name-late own in ap typeOf (set2-other own (nameIn own) a b 0 (omega arith) (omega arith))
+type-named a b own = let l = name-late (typeAt own 0) in ap typeOf (set2-other own (nameIn own) a b 0 (omega arith) (omega arith))
 
 pub name-same : (a b : ℕ) (own : List ℕ) → nameIn (named a b own) ≡ nameIn own
-name-same a b own = ap (λ t. cond (eqb t 1) 16 19) (type-named a b own)
+name-same a b own = ap nameWord (type-named a b own)
 
 pub named-back : (a b : ℕ) (own : List ℕ) → named (wordAt own (nameIn own)) (wordAt own (nameIn own + 1)) (named a b own) ≡ own
 named-back a b own =
@@ -155,28 +145,17 @@ named-back a b own =
     ∙ set2-back own (nameIn own) a b
 
 -- the two types of cells
-cell-types : (own : List ℕ) → isCell own 0 ≡ true → (typeAt own 0 ≡ 1) ⊎ (typeAt own 0 ≡ 2)
-cell-types own e = go (or-either (eqb (typeAt own 0) 1) (eqb (typeAt own 0) 2) e)
-  where
-    go : (eqb (typeAt own 0) 1 ≡ true) ⊎ (eqb (typeAt own 0) 2 ≡ true) → (typeAt own 0 ≡ 1) ⊎ (typeAt own 0 ≡ 2)
-    go (inl p) = inl (eqb-true _ _ p)
-    go (inr p) = inr (eqb-true _ _ p)
+cell-types : (own : List ℕ) → isCell (typeAt own 0) ≡ true → (typeAt own 0 ≡ 1) ⊎ (typeAt own 0 ≡ 2)
+cell-types own e = each-named (λ k. (k ≡ 1) ⊎ (k ≡ 2)) (1 ∷ 2 ∷ []) (typeAt own 0) (inl refl, (inr refl, tt)) e
 
 module _ {dim depth under inside k : ℕ} {own : List ℕ} (o : Own dim depth under own inside k) where
-  pub cell-words : isCell own 0 ≡ true → 21 ≤ length own
-  cell-words e = go (cell-types own e)
-    where
-      go : (typeAt own 0 ≡ 1) ⊎ (typeAt own 0 ≡ 2) → 21 ≤ length own
-      go (inl p) = let l = cell-long dim (typeAt own 0) (pointsAt own 0) (rw p refl) in let f = own-fixed o in omega arith
-      go (inr p) = let l = cell-long dim (typeAt own 0) (pointsAt own 0) (rw p refl) in let f = own-fixed o in omega arith
+  pub cell-words : isCell (typeAt own 0) ≡ true → 21 ≤ length own
+  cell-words e = let l = cell-long dim (typeAt own 0) (pointsAt own 0) e in let f = own-fixed o in omega arith
 
   -- the name that stands there is one
-  pub cell-named : isCell own 0 ≡ true → nameOk (wordAt own (nameIn own)) (wordAt own (nameIn own + 1)) ≡ true
-  cell-named e = go (cell-types own e)
-    where
-      go : (typeAt own 0 ≡ 1) ⊎ (typeAt own 0 ≡ 2) → nameOk (wordAt own (nameIn own)) (wordAt own (nameIn own + 1)) ≡ true
-      go (inl p) = rw p (rule-of (eqb (typeAt own 0) 1) (nameOk (wordAt own 16) (wordAt own 17)) (name-parts own (o .name) .0) (eq-eqb _ _ p))
-      go (inr p) = rw p (rule-of (eqb (typeAt own 0) 2) (nameOk (wordAt own 19) (wordAt own 20)) (name-parts own (o .name) .1) (eq-eqb _ _ p))
+  pub cell-named : isCell (typeAt own 0) ≡ true → nameOk (wordAt own (nameIn own)) (wordAt own (nameIn own + 1)) ≡ true
+  unfolding storedNameOk
+  cell-named e = rule-of (isCell (typeAt own 0)) (nameOk (wordAt own (nameIn own)) (wordAt own (nameIn own + 1))) (rw (own-first own, own-second own) at (o .name)) e
 
   -- two words of the fixed part stored that no rule but the name's reads
   alike-two : (i a b : ℕ) → 2 ≤ i → isPointed (typeAt own 0) ≡ false → (isLinked (typeAt own 0) ≡ true → (17 ≤ i) × (i + 1 < fixedPart dim (typeAt own 0) (pointsAt own 0))) →
@@ -233,7 +212,7 @@ module _ {dim depth under inside k : ℕ} {own : List ℕ} (o : Own dim depth un
           let x = far in
           rw (l .type, t, set2-first own 19 a b (omega arith), set2-second own 19 a b (omega arith), n) refl
 
-  pub own-named : (a b : ℕ) → isCell own 0 ≡ true → nameOk a b ≡ true → Own dim depth under (named a b own) inside k
+  pub own-named : (a b : ℕ) → isCell (typeAt own 0) ≡ true → nameOk a b ≡ true → Own dim depth under (named a b own) inside k
   own-named a b e n = go (cell-types own e)
     where
       go : (typeAt own 0 ≡ 1) ⊎ (typeAt own 0 ≡ 2) → Own dim depth under (named a b own) inside k

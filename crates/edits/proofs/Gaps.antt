@@ -11,7 +11,7 @@ use lib.ListN.{length, length-append}
 use lib.Dec.{eqb}
 use borrow.Author.Tests.{eqb-true, eq-eqb}
 use Rattle.kinds.specs.FirstWord.{typeOf}
-use Rattle.elements.specs.Header.{typeAt}
+use Rattle.headers.specs.Header.{typeAt}
 use Rattle.kinds.specs.Kinds.{isHeader}
 use Rattle.files.specs.Spots.{Spot, spotIn}
 use Rattle.grammar.proofs.Forest.{Forest, nil, node, flat, weight, Wf, spots, own-stands}

@@ -3,7 +3,7 @@
 use Prim.Native.Nat.{ℕ, _+_, _≤_, _<_}
 use mathlib.Core.Path.{_≡_, refl, sym, ap, _∙_, subst}
 use mathlib.Core.Logic.{_≢_}
-use mathlib.Core.Bool.{Bool, true, false, not, _&&_, _||_, false≢true, and-eq-true-iff}
+use mathlib.Core.Bool.{Bool, true, false, not, _&&_, false≢true, and-eq-true-iff}
 use mathlib.Core.List.{List, [], _∷_, _++_}
 use native.Mathlib.Omega.{arith}
 use lib.ListN.{length, set, length-set}
@@ -13,15 +13,16 @@ use borrow.Author.Tests.{eqb-true, eqb-false, eq-eqb}
 use Rattle.words.specs.Words.{Below, wordAt}
 use Rattle.names.specs.Names.{nameOk}
 use Rattle.kinds.specs.FirstWord.{reservedOf, cOf, typeOf}
-use Rattle.elements.specs.Header.{typeAt, pointsAt, countAt}
-use Rattle.kinds.specs.Kinds.{isHeader, isCounted, isPointed}
+use Rattle.headers.specs.Header.{typeAt, pointsAt, countAt}
+use Rattle.kinds.specs.Kinds.{isHeader, isCounted, isCell, nameWord}
+use Rattle.headers.proofs.Laws.{own-first, own-second}
 use Rattle.elements.specs.Rules.{storedNameOk, countOk}
 use Rattle.grammar.specs.Grammar.{Own, Extent}
-use Rattle.kinds.proofs.Types.{header-long, header-pointless}
+use Rattle.kinds.proofs.Types.{header-long, header-pointless, each-named}
 use Rattle.edits.specs.Edits.{moved, countMoved, corrected}
 use Rattle.edits.proofs.Tests.{both-and, rule-of, of-rule}
 use Rattle.edits.proofs.Parts.{read-in, read-first, set-in}
-use Rattle.edits.proofs.OwnLaws.{Alike, own-alike, own-fixed, name-parts}
+use Rattle.edits.proofs.OwnLaws.{Alike, own-alike, own-fixed}
 
 -- the header's own words, corrected
 abbrev pub grown : Bool → ℕ → Bool → List ℕ → List ℕ
@@ -136,21 +137,21 @@ header-extent {inside = inside} {k} {own} o h = subst (λ b. Extent b own inside
 
 name-grown : (up : Bool) (n : ℕ) (direct : Bool) (own : List ℕ) → storedNameOk own 0 ≡ true → storedNameOk (grown up n direct own) 0 ≡ true
 unfolding storedNameOk
-name-grown up n direct own e =
-    let p = name-parts own e in
-    both-and (of-rule _ _ (first (p .0))) (of-rule _ _ (second (p .1)))
+name-grown up n direct own e = rw (own-first (grown up n direct own), own-second (grown up n direct own), type-grown up n direct own) (of-rule (isCell (typeAt own 0)) _ go)
   where
-    first : (not (eqb (typeAt own 0) 1) || nameOk (wordAt own 16) (wordAt own 17)) ≡ true → eqb (typeAt (grown up n direct own) 0) 1 ≡ true →
-        nameOk (wordAt (grown up n direct own) 16) (wordAt (grown up n direct own) 17) ≡ true
-    first r t = rw (grown-other up n direct own 16 (omega arith) (omega arith), grown-other up n direct own 17 (omega arith) (omega arith))
-        (rule-of (eqb (typeAt own 0) 1) (nameOk (wordAt own 16) (wordAt own 17)) r (rw (type-grown up n direct own) at t))
+    kept : (t : ℕ) → typeAt own 0 ≡ t → isCell t ≡ true →
+        (wordAt (grown up n direct own) (nameWord t) ≡ wordAt own (nameWord t)) × (wordAt (grown up n direct own) (nameWord t + 1) ≡ wordAt own (nameWord t + 1))
+    kept t p c = each-named (λ k. typeAt own 0 ≡ k → (wordAt (grown up n direct own) (nameWord k) ≡ wordAt own (nameWord k)) × (wordAt (grown up n direct own) (nameWord k + 1) ≡ wordAt own (nameWord k + 1)))
+        (1 ∷ 2 ∷ []) t (
+          λ q. (grown-other up n direct own 16 (omega arith) (omega arith), grown-other up n direct own 17 (omega arith) (omega arith)),
+          (λ q. (count-kept up n direct own (cell-uncounted direct (typeAt own 0) q), grown-other up n direct own 20 (omega arith) (omega arith)), tt),
+        )
+        c p
 
-    second : (not (eqb (typeAt own 0) 2) || nameOk (wordAt own 19) (wordAt own 20)) ≡ true → eqb (typeAt (grown up n direct own) 0) 2 ≡ true →
-        nameOk (wordAt (grown up n direct own) 19) (wordAt (grown up n direct own) 20) ≡ true
-    second r t =
-        let u : eqb (typeAt own 0) 2 ≡ true = rw (type-grown up n direct own) at t in
-        rw (count-kept up n direct own (cell-uncounted direct (typeAt own 0) (eqb-true _ _ u)), grown-other up n direct own 20 (omega arith) (omega arith))
-        (rule-of (eqb (typeAt own 0) 2) (nameOk (wordAt own 19) (wordAt own 20)) r u)
+    go : isCell (typeAt own 0) ≡ true → nameOk (wordAt (grown up n direct own) (nameWord (typeAt own 0))) (wordAt (grown up n direct own) (nameWord (typeAt own 0) + 1)) ≡ true
+    go c =
+        let k = kept (typeAt own 0) refl c in
+        rw (k .0, k .1) (rule-of (isCell (typeAt own 0)) (nameOk (wordAt own (nameWord (typeAt own 0))) (wordAt own (nameWord (typeAt own 0) + 1))) (rw (own-first own, own-second own) at e) c)
 
 module _ {dim depth under inside k : ℕ} {own : List ℕ} (o : Own dim depth under own inside k) (h : isHeader (typeAt own 0) ≡ true) where
   alike-grown : (up : Bool) (n : ℕ) (direct : Bool) → Alike dim own (grown up n direct own)

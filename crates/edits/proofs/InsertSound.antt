@@ -9,7 +9,7 @@ use lib.ListN.{length, length-append}
 use Rattle.words.specs.Words.{Below}
 use Rattle.files.specs.Spots.{spotsOf, spotIn}
 use Rattle.grammar.proofs.Forest.{Forest, node, flat, weight, Wf, spots}
-use Rattle.edits.specs.Edits.{insert, remove, around, downTo, extentBy, extentIn, raise, splice, cut, apply}
+use Rattle.edits.specs.Edits.{insert, remove, around, downTo, spotWords, extentIn, raise, splice, cut, apply}
 use Rattle.edits.specs.Allowed.{fine, orElse, unless, under?, gapOk, pieceFault, roomFault, insertFault, removeFault, editFault}
 use Rattle.edits.specs.Records.{inserted, recordOf, reversal}
 use Rattle.edits.proofs.Accepted.{Accepted, SmallHeader, Sound}
@@ -29,7 +29,7 @@ pub remove-way : (dim : ℕ) (w : Way) (own : List ℕ) (k r : Forest) (p : ℕ)
 unfolding apply
 remove-way dim w own k r p ws ep ew x =
     let xs = spotsOf dim ws in
-    let n : extentIn xs p ≡ weight own k = ap extentBy (spot-there dim w own k r ws ew x p ep) ∙ (omega arith) in
+    let n : extentIn xs p ≡ weight own k = ap spotWords (spot-there dim w own k r ws ew x p ep) ∙ (omega arith) in
     let qs : around xs p ≡ heads 0 w =
     ap (λ ys. around ys p) (tree-spots dim (plug w (node own k r)) ws x ew) ∙ around-way dim own k r 0 0 none w x 0 p (omega arith) in
     let l = long-of dim 0 0 w (node own k r) x (heads-of dim own k r 0 0 w x) in

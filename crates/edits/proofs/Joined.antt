@@ -6,7 +6,7 @@ use mathlib.Core.Bool.{Bool, true, false, false≢true}
 use mathlib.Core.List.{List, [], _∷_, _++_, append-assoc}
 use mathlib.Core.Option.{Option, some}
 use lib.ListN.{length, length-append}
-use Rattle.elements.specs.Header.{typeAt}
+use Rattle.headers.specs.Header.{typeAt}
 use Rattle.grammar.proofs.Forest.{Forest, nil, node, flat, weight}
 use Rattle.edits.proofs.Ways.{Way, stop, past, into, plug, direct, front, rear, heads, headerOf, typeOver, depthOf, Heads}
 

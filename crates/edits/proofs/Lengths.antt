@@ -5,7 +5,7 @@ use mathlib.Core.Bool.{Bool, true, false, _&&_}
 use mathlib.Core.List.{List, [], _∷_}
 use lib.ListN.{length, set, length-set}
 use Rattle.words.specs.Words.{wordAt}
-use Rattle.elements.specs.Header.{typeAt}
+use Rattle.headers.specs.Header.{typeAt}
 use Rattle.kinds.specs.Kinds.{isCounted}
 use Rattle.edits.specs.Edits.{moved, countMoved, corrected, isLast, raise}
 

@@ -3,13 +3,13 @@ use Prim.Native.Nat.{ℕ, _+_, _*_, _≤_}
 use mathlib.Core.Path.{_≡_, refl}
 use mathlib.Core.Bool.{Bool, true, false, cond, not}
 use mathlib.Core.List.{List, [], _∷_}
-use mathlib.Core.Option.{Option, none, some}
+use mathlib.Core.Option.{none, some}
 use native.Mathlib.Omega.{arith}
 use lib.ListN.{length}
 use lib.Dec.{eqb, leb}
 use Rattle.words.specs.Words.{words, wordAt}
 use Rattle.names.specs.Names.{packed}
-use Rattle.elements.specs.Header.{extentAt}
+use Rattle.headers.specs.Header.{extentAt, typeAt}
 use Rattle.files.specs.Judge.{elementOf, topOf}
 use Rattle.files.specs.Spots.{Spot, spotsOf}
 use Rattle.files.specs.declared.Verdict.{Verdict}
@@ -17,9 +17,10 @@ use Rattle.files.specs.declared.Verdict.the-variants.{Good, Fault}
 use Rattle.grammar.proofs.Numbers.{element-refused, top-refused}
 use Rattle.edits.specs.declared.Edited.the-variants.{Refused}
 use Rattle.edits.specs.Edits.{Edit, mark, rename, insert, remove, apply, downTo}
-use Rattle.edits.specs.Allowed.{Fault?, fine, fault, orElse, unless, startsAt, flagDiffers, isCell, markFault, renameFault, gapOk, depthUnder, typeUnder, wholeBy, pieceFault, roomFault, insertFault, removeFault, editFault}
-use Rattle.edits.specs.Records.{Last, recordOf, recordWords, lastRecord, reversal, reversible}
-use Rattle.edits.specs.Calls.{Session, Call, mark-call, rename-call, insert-call, remove-call, undo-call, usedWords, sessionOk, pieceOk, fileFault, sessionFault, openFault, Result, resultBy, editMade, editWithin, edited, undoMade, undoBy, undone, nameOfText, textOk, callOn, step}
+use Rattle.edits.specs.Allowed.{Fault?, fine, fault, orElse, unless, startsAt, flagDiffers, markFault, renameFault, gapOk, depthUnder, typeUnder, wholeBy, pieceRefusal, pieceFault, roomFault, insertFault, removeFault, editFault}
+use Rattle.kinds.specs.Kinds.{isCell}
+use Rattle.edits.specs.Records.{Newest, recordOf, recordWords, lastRecord, reversal, reversible}
+use Rattle.edits.specs.Calls.{Session, Call, mark-call, rename-call, insert-call, remove-call, undo-call, usedWords, sessionOk, pieceOk, fileFault, sessionFault, openFault, Result, resultBy, editMade, editWithin, edited, undoMade, reversalFault, undoBy, undone, nameOfText, textOk, callOn, step}
 
 -- a number of the table
 abbrev Number : ℕ → Type 0
@@ -59,7 +60,7 @@ rename-number : (xs : List Spot) (ws : List ℕ) (p : ℕ) (named : Bool) → Nu
 unfolding renameFault
 rename-number xs ws p named =
     orElse-number (unless (startsAt xs p) 13) _ (unless-number (startsAt xs p) 13 (omega arith, omega arith))
-    (orElse-number (unless (isCell ws p) 18) (unless named 12) (unless-number (isCell ws p) 18 (omega arith, omega arith)) (unless-number named 12 (omega arith, omega arith)))
+    (orElse-number (unless (isCell (typeAt ws p)) 18) (unless named 12) (unless-number (isCell (typeAt ws p)) 18 (omega arith, omega arith)) (unless-number named 12 (omega arith, omega arith)))
 
 edit-number : (dim : ℕ) (ws : List ℕ) (e : Edit) → Numbered (editFault dim ws e)
 unfolding editFault markFault insertFault pieceFault removeFault
@@ -70,7 +71,7 @@ edit-number dim ws (rename p a b) = rename-number (spotsOf dim ws) ws p _
 edit-number dim ws (insert h p x) =
     let xs = spotsOf dim ws in
     orElse-number (unless (gapOk xs ws h p) 13) _ (unless-number (gapOk xs ws h p) 13 (omega arith, omega arith))
-    (orElse-number (wholeBy (elementOf dim (depthUnder xs h) (typeUnder ws h) x 0 (length x)) (length x)) _
+    (orElse-number (pieceRefusal dim (depthUnder xs h) (typeUnder ws h) x) _
     (whole-number (elementOf dim (depthUnder xs h) (typeUnder ws h) x 0 (length x)) (length x) (element-refused dim x (depthUnder xs h) (typeUnder ws h) 0 (length x)))
     (room-number (length x) ws (downTo xs h)))
 edit-number dim ws (remove p) = unless-number (startsAt (spotsOf dim ws) p) 13 (omega arith, omega arith)
@@ -107,13 +108,13 @@ made-number dim s e own h =
     (unless-number (leb (s .jused + 2 * length r) (length (s .journal))) 16 (omega arith, omega arith))))
     (λ n p q. let z : _≡_ {A = ℕ} 0 1 = cc in absurd (omega arith))
 
-undo-number : (dim : ℕ) (s : Session) (ws : List ℕ) (l : Last) → Answered (undoBy dim s ws l)
+undo-number : (dim : ℕ) (s : Session) (ws : List ℕ) (l : Newest) → Answered (undoBy dim s ws l)
 unfolding undoMade
 undo-number dim s ws none = λ n p q. let z : 19 ≡ n = cc in (omega arith, omega arith)
 undo-number dim s ws (some l) =
     let back = apply dim ws (reversal ws (l .0)) in
     let fits = leb (2 * length back) (length (s .file)) in
-    by-number (orElse (unless (reversible dim ws (l .0)) 19) (unless fits 15)) s (undoMade s back (2 * length (l .1)))
+    by-number (reversalFault dim ws (length (s .file)) (l .0)) s (undoMade s back (2 * length (l .1)))
     (orElse-number (unless (reversible dim ws (l .0)) 19) (unless fits 15) (unless-number (reversible dim ws (l .0)) 19 (omega arith, omega arith)) (unless-number fits 15 (omega arith, omega arith)))
     (λ n p q. let z : _≡_ {A = ℕ} 0 1 = cc in absurd (omega arith))
 

@@ -6,17 +6,17 @@ use mathlib.Core.Bool.{Bool, true, false, not, _&&_, _||_, and-eq-true-iff}
 use mathlib.Core.List.{List}
 use native.Mathlib.Omega.{arith}
 use lib.ListN.{length}
-use lib.Dec.{eqb, leb}
+use lib.Dec.{leb}
 use borrow.Author.Tests.{le-leb, leb-true}
 use Rattle.words.specs.Words.{wordAt}
-use Rattle.names.specs.Names.{nameOk}
 use Rattle.linkages.specs.Linkages.{linkagesFill}
 use Rattle.linkages.proofs.Local.{fill-local}
 use Rattle.kinds.specs.FirstWord.{reservedOf, cOf}
-use Rattle.elements.specs.Header.{typeAt, sizeAt, pointsAt, attributesAt, attributePartAt}
+use Rattle.headers.specs.Header.{typeAt, sizeAt, pointsAt, attributesAt, attributePartAt}
 use Rattle.kinds.specs.Kinds.{isHeader, isPointed, isLinked, fixedPart}
 use Rattle.elements.specs.Attributes.{hasAttributes, attributesOk, linkagesOk}
-use Rattle.elements.specs.Rules.{reservedOk, placeOk, pointsOk, fixedOk, storedNameOk, countOk}
+use Rattle.headers.specs.Flags.{reservedOk, placeOk}
+use Rattle.elements.specs.Rules.{pointsOk, fixedOk, storedNameOk, countOk}
 use Rattle.grammar.specs.Grammar.{Own, Extent}
 use Rattle.kinds.proofs.Types.{fixed-any}
 use Rattle.elements.proofs.Laws.{fixed-least}
@@ -46,13 +46,6 @@ own-fixed {dim} {own = own} o =
     let l = fixed-least dim own 0 (o .fixed) in
     let s = o .size in
     omega arith
-
--- the parts of rule 12
-pub name-parts : (own : List ℕ) → storedNameOk own 0 ≡ true →
-    ((not (eqb (typeAt own 0) 1) || nameOk (wordAt own 16) (wordAt own 17)) ≡ true) × ((not (eqb (typeAt own 0) 2) || nameOk (wordAt own 19) (wordAt own 20)) ≡ true)
-unfolding storedNameOk
-name-parts own e =
-    and-eq-true-iff (not (eqb (typeAt own 0) 1) || nameOk (wordAt own 16) (wordAt own 17)) (not (eqb (typeAt own 0) 2) || nameOk (wordAt own 19) (wordAt own 20)) .0 e
 
 -- the parts of rule 11
 attribute-parts : (dim : ℕ) (own : List ℕ) → attributesOk dim own 0 ≡ true →

@@ -3,15 +3,14 @@
 use Prim.Native.Nat.{ℕ, suc, _+_, _≤_, _<_}
 use native.Mathlib.Omega.{arith}
 use mathlib.Core.Path.{_≡_, refl, sym, ap, _∙_}
-use mathlib.Core.Logic.{_≢_}
 use mathlib.Core.Bool.{Bool, true, false, _&&_, and-false}
 use mathlib.Core.List.{List, [], _∷_, _++_, append-nil}
 use mathlib.Core.Option.{Option, none, some}
 use lib.ListN.{length, length-append}
 use lib.Dec.{eqb, ltb}
-use borrow.Author.Tests.{eqb-true, eqb-false, eq-eqb, ne-eqb, lt-ltb, le-ltb}
-use Rattle.elements.specs.Header.{typeAt}
-use Rattle.files.specs.Spots.{Spot, firstIf, spotIn}
+use borrow.Author.Tests.{eqb-true, eqb-false, lt-ltb, le-ltb}
+use Rattle.headers.specs.Header.{typeAt}
+use Rattle.files.specs.Spots.{Spot, spotIn}
 use Rattle.grammar.proofs.Forest.{Forest, nil, node, flat, weight, Wf, spots, length-node}
 use Rattle.grammar.proofs.Places.{none-some, spotOf, spot-else, spot-first, spot-here, spot-there, spot-after}
 use Rattle.edits.specs.Edits.{keepIf, around}

@@ -9,7 +9,7 @@ use lib.ListN.{length, length-append}
 use lib.Dec.{leb}
 use borrow.Author.Tests.{leb-true, le-leb}
 use Rattle.words.specs.Words.{Below}
-use Rattle.elements.specs.Header.{typeAt, extentAt}
+use Rattle.headers.specs.Header.{typeAt, extentAt}
 use Rattle.kinds.specs.Kinds.{isHeader}
 use Rattle.grammar.specs.Grammar.{Own}
 use Rattle.grammar.proofs.Forest.{Forest, nil, node, flat, num, weight, Wf, own-stands, components-stand, rest-stand}

@@ -5,14 +5,16 @@ use mathlib.Core.Bool.{true, false, not, false≢true}
 use mathlib.Core.List.{List}
 use mathlib.Core.Option.{none, some}
 use lib.ListN.{length}
-use lib.Dec.{eqb, leb}
+use lib.Dec.{eqb}
 use Rattle.words.specs.Words.{words}
 use Rattle.names.specs.Names.{packed}
 use Rattle.files.specs.Spots.{Spot, spotsOf}
 use Rattle.edits.specs.Edits.{Edit, mark, insert, remove, apply}
-use Rattle.edits.specs.Allowed.{Fault?, fine, fault, orElse, unless, startsAt, isCell, renameFault, editFault}
-use Rattle.edits.specs.Records.{Last, recordOf, recordWords, lastRecord, reversal, reversible}
-use Rattle.edits.specs.Calls.{Session, Call, mark-call, rename-call, insert-call, remove-call, undo-call, usedWords, openFault, Result, resultBy, editMade, editWithin, edited, undoMade, undoBy, undone, nameOfText, textOk, callOn, step}
+use Rattle.edits.specs.Allowed.{Fault?, fine, fault, orElse, unless, startsAt, renameFault, editFault}
+use Rattle.headers.specs.Header.{typeAt}
+use Rattle.kinds.specs.Kinds.{isCell}
+use Rattle.edits.specs.Records.{Newest, recordOf, recordWords, lastRecord, reversal}
+use Rattle.edits.specs.Calls.{Session, Call, mark-call, rename-call, insert-call, remove-call, undo-call, usedWords, openFault, Result, resultBy, editMade, editWithin, edited, undoMade, reversalFault, undoBy, undone, nameOfText, textOk, callOn, step}
 use Rattle.edits.specs.Book.{wasRefused}
 use Rattle.edits.proofs.Faults.{orElse-fine, unless-fine}
 
@@ -25,11 +27,11 @@ unchanged-by : (f : Fault?) (s : Session) (r : Result) → Unchanged s r → Unc
 unchanged-by fine s r h = h
 unchanged-by (fault n p) s r h = λ e. refl
 
-unchanged-undo : (dim : ℕ) (s : Session) (ws : List ℕ) (l : Last) → Unchanged s (undoBy dim s ws l)
+unchanged-undo : (dim : ℕ) (s : Session) (ws : List ℕ) (l : Newest) → Unchanged s (undoBy dim s ws l)
 unfolding undoMade
 unchanged-undo dim s ws none = λ q. refl
 unchanged-undo dim s ws (some l) =
-    unchanged-by (orElse (unless (reversible dim ws (l .0)) 19) (unless (leb (2 * length (apply dim ws (reversal ws (l .0)))) (length (s .file))) 15)) s
+    unchanged-by (reversalFault dim ws (length (s .file)) (l .0)) s
     (undoMade s (apply dim ws (reversal ws (l .0))) (2 * length (l .1))) (λ q. absurd (false≢true q))
 
 -- the words after an edit, and its record's
@@ -66,4 +68,4 @@ refusal-keeps dim s c =
 -- a rename's text that is none is refused
 pub not-named : (xs : List Spot) (ws : List ℕ) (p : ℕ) → renameFault xs ws p false ≡ fine → ⊥
 unfolding renameFault
-not-named xs ws p f = false≢true (unless-fine false 12 (orElse-fine (unless (isCell ws p) 18) _ (orElse-fine (unless (startsAt xs p) 13) _ f .1) .1))
+not-named xs ws p f = false≢true (unless-fine false 12 (orElse-fine (unless (isCell (typeAt ws p)) 18) _ (orElse-fine (unless (startsAt xs p) 13) _ f .1) .1))

@@ -8,12 +8,12 @@ use mathlib.Core.Option.{none}
 use lib.ListN.{length, take, drop, length-append}
 use lib.Seq.{take-at, drop-at}
 use Rattle.words.specs.Words.{Below}
-use Rattle.elements.specs.Header.{typeAt}
+use Rattle.headers.specs.Header.{typeAt}
 use Rattle.kinds.specs.Kinds.{isHeader}
 use Rattle.files.specs.Spots.{spotsOf}
 use Rattle.grammar.specs.Grammar.{Own, Extent}
 use Rattle.grammar.proofs.Forest.{Forest, node, flat, num, weight, Wf, spots}
-use Rattle.edits.specs.Edits.{insert, remove, downTo, extentBy, extentIn}
+use Rattle.edits.specs.Edits.{insert, remove, downTo, spotWords, extentIn}
 use Rattle.edits.specs.Allowed.{fine, startsAt, gapOk, roomFault, depthUnder, typeUnder, insertFault, removeFault, editFault}
 use Rattle.edits.specs.Records.{removed, headerBy, recordOf, reversal}
 use Rattle.edits.proofs.Accepted.{Accepted, Sound}
@@ -50,7 +50,7 @@ module _ (dim : ℕ) (w : Way) (own : List ℕ) (k r : Forest) (p : ℕ) (ws : L
 
   extent-words : take (extentIn (spotsOf dim ws) p) (drop p ws) ≡ own ++ flat k
   extent-words =
-      let n : extentIn (spotsOf dim ws) p ≡ weight own k = ap extentBy (spot-there dim w own k r ws ew x p ep) ∙ (omega arith) in
+      let n : extentIn (spotsOf dim ws) p ≡ weight own k = ap spotWords (spot-there dim w own k r ws ew x p ep) ∙ (omega arith) in
       rw n (ap (λ v. take (weight own k) (drop p v)) around-extent
       ∙ ap (take (weight own k)) (drop-at (front w) ((own ++ flat k) ++ (flat r ++ (rear w ++ marker))) p (sym ep))
       ∙ take-at (own ++ flat k) (flat r ++ (rear w ++ marker)) (weight own k) (length-append own (flat k)))

@@ -8,7 +8,7 @@ use mathlib.Core.List.{List, [], _∷_, _++_, append-assoc}
 use mathlib.Core.Option.{Option, none, some}
 use lib.ListN.{length, length-append}
 use Rattle.words.specs.Words.{Below, wordAt}
-use Rattle.elements.specs.Header.{typeAt}
+use Rattle.headers.specs.Header.{typeAt}
 use Rattle.files.specs.Spots.{spotsOf, spotIn}
 use Rattle.grammar.specs.Grammar.{Own}
 use Rattle.grammar.proofs.Forest.{Forest, node, flat, num, weight, Wf, spots}

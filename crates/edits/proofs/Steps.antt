@@ -2,7 +2,7 @@
 -- journal stays their records.
 use Prim.Native.Nat.{ℕ, _+_, _-_, _*_, _%_, _≤_}
 use mathlib.Core.Path.{_≡_, refl, sym, ap, _∙_, subst}
-use mathlib.Core.Bool.{true, false, _||_, and-eq-true-iff}
+use mathlib.Core.Bool.{true, false, and-eq-true-iff}
 use mathlib.Core.List.{List, [], _∷_, _++_}
 use native.Mathlib.Omega.{arith}
 use lib.ListN.{length}
@@ -13,12 +13,13 @@ use Rattle.words.proofs.Laws.{words-below}
 use Rattle.names.specs.Names.{packed}
 use Rattle.names.specs.declared.Packed.{Packed}
 use Rattle.names.specs.declared.Packed.the-variants as name
+use Rattle.limits.specs.Limits.{dimOk, sizeOk}
 use Rattle.files.specs.Spots.{spotsOf}
 use Rattle.grammar.proofs.Forest.{flat}
 use Rattle.edits.specs.Edits.{Edit, mark, insert, remove, apply}
 use Rattle.edits.specs.Allowed.{Fault?, fine, fault, orElse, renameFault, editFault}
 use Rattle.edits.specs.Records.{recordOf, recordWords}
-use Rattle.edits.specs.Calls.{Session, Call, mark-call, rename-call, insert-call, remove-call, undo-call, bufferOk, usedWords, endsInMarker, sessionOk, sessionFault, Result, resultBy, editMade, editWithin, edited, undone, nameOfText, textOk, callOn}
+use Rattle.edits.specs.Calls.{Session, Call, mark-call, rename-call, insert-call, remove-call, undo-call, usedWords, endsInMarker, sessionOk, sessionFault, Result, resultBy, editMade, editWithin, edited, undone, nameOfText, textOk, callOn}
 use Rattle.edits.specs.Book.{Run, noted, noting}
 use Rattle.edits.specs.Demand.{PieceBytes}
 use Rattle.edits.proofs.Accepted.{Accepted, Carried, Sound}
@@ -39,9 +40,9 @@ Replayed dim s = Replay dim (original s) (length (s .file))
 
 -- a session at a run's start
 pub record Begun (dim : ℕ) (s : Session) : Type 0 where
-  pub dimension : (eqb dim 2 || eqb dim 3) ≡ true
-  pub file-ok : bufferOk (s .file) ≡ true
-  pub journal-ok : bufferOk (s .journal) ≡ true
+  pub dimension : dimOk dim ≡ true
+  pub file-ok : sizeOk (length (s .file)) ≡ true
+  pub journal-ok : sizeOk (length (s .journal)) ≡ true
   pub file : Holds (length (s .file)) (s .file) (s .used) (original s)
   pub journal : Holds (length (s .journal)) (s .journal) (s .jused) []
   pub tree : Accepted dim (original s)

@@ -8,8 +8,8 @@ use lib.Dec.{eqb, leb}
 use Rattle.words.specs.Words.{wordAt}
 use Rattle.names.specs.Names.{nameOk}
 use Rattle.kinds.specs.FirstWord.{deletedOf}
-use Rattle.elements.specs.Header.{typeAt, extentAt}
-use Rattle.kinds.specs.Kinds.{isHeader}
+use Rattle.headers.specs.Header.{typeAt, extentAt}
+use Rattle.kinds.specs.Kinds.{isHeader, isCell}
 use Rattle.files.specs.Judge.{elementOf}
 use Rattle.files.specs.Spots.{Spot, spotsOf, spotIn}
 use Rattle.files.specs.declared.Verdict.{Verdict}
@@ -44,15 +44,12 @@ abbrev pub flagDiffers : Bool → ℕ → Bool
 flagDiffers true w = eqb (deletedOf w) 0
 flagDiffers false w = eqb (deletedOf w) 1
 
--- 18 unless it is a type 1 or 2
-abbrev pub isCell : List ℕ → ℕ → Bool
-isCell ws p = eqb (typeAt ws p) 1 || eqb (typeAt ws p) 2
-
 unfoldable pub markFault : List Spot → List ℕ → ℕ → Bool → Fault?
 markFault xs ws p deleted = orElse (unless (startsAt xs p) 13) (unless (flagDiffers deleted (wordAt ws p)) 14)
 
+-- 18 unless it is a cell, 12 unless the text is a name
 unfoldable pub renameFault : List Spot → List ℕ → ℕ → Bool → Fault?
-renameFault xs ws p named = orElse (unless (startsAt xs p) 13) (orElse (unless (isCell ws p) 18) (unless named 12))
+renameFault xs ws p named = orElse (unless (startsAt xs p) 13) (orElse (unless (isCell (typeAt ws p)) 18) (unless named 12))
 
 -- whether two header places are the same
 abbrev pub sameHeader : Option ℕ → Option ℕ → Bool
@@ -95,19 +92,25 @@ abbrev pub wholeBy : Verdict → ℕ → Fault?
 wholeBy (Good next e d k) size = cond (eqb next size) fine (fault 3 next)
 wholeBy (Fault n p) size = fault n p
 
--- the piece's own: judged at its new depth and header, places in the piece
+-- the refusal of a piece at a depth under a header of a type; places are in the piece
+abbrev pub pieceRefusal : ℕ → ℕ → ℕ → List ℕ → Fault?
+pieceRefusal dim depth under x = wholeBy (elementOf dim depth under x 0 (length x)) (length x)
+
+-- the same, judged at its new depth and header
 unfoldable pub pieceFault : ℕ → List Spot → List ℕ → Option ℕ → List ℕ → Fault?
-pieceFault dim xs ws h x = wholeBy (elementOf dim (depthUnder xs h) (typeUnder ws h) x 0 (length x)) (length x)
+pieceFault dim xs ws h x = pieceRefusal dim (depthUnder xs h) (typeUnder ws h) x
 
 -- 8 at the outermost enclosing header that would grow above 65,535 words
 abbrev pub roomFault : ℕ → List ℕ → List ℕ → Fault?
 roomFault n ws [] = fine
 roomFault n ws (q ∷ qs) = cond (leb (extentAt ws q + n) 65535) (roomFault n ws qs) (fault 8 q)
 
+-- an insert's refusal: 13, the piece's own, 8
 unfoldable pub insertFault : ℕ → List Spot → List ℕ → Option ℕ → ℕ → List ℕ → Fault?
 insertFault dim xs ws h p x =
     orElse (unless (gapOk xs ws h p) 13) (orElse (pieceFault dim xs ws h x) (roomFault (length x) ws (downTo xs h)))
 
+-- a remove's refusal: 13
 unfoldable pub removeFault : List Spot → ℕ → Fault?
 removeFault xs p = unless (startsAt xs p) 13
 

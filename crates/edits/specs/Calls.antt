@@ -1,15 +1,16 @@
 -- The calls of a session on its two lent buffers, with their refusals in document 01's order and what every byte and
 -- length then is.
-use Prim.Native.Nat.{ℕ, _+_, _-_, _*_, _%_, max}
+use Prim.Native.Nat.{ℕ, _+_, _-_, _*_, max}
 use mathlib.Core.List.{List, [], _∷_, _++_}
-use mathlib.Core.Bool.{Bool, true, false, not, _&&_, _||_}
+use mathlib.Core.Bool.{Bool, true, false, not, _&&_}
 use mathlib.Core.Option.{Option, none, some}
 use lib.ListN.{length, take, drop, replicate}
 use lib.Dec.{eqb, leb}
-use Rattle.words.specs.Words.{words, bytes, wordAt}
+use Rattle.words.specs.Words.{words, bytes, wordAt, over}
 use Rattle.names.specs.Names.{packed}
 use Rattle.names.specs.declared.Packed.{Packed}
 use Rattle.names.specs.declared.Packed.the-variants as name
+use Rattle.limits.specs.Limits.{dimOk, sizeOk, usedOk}
 use Rattle.files.specs.Judge.{topOf}
 use Rattle.files.specs.Spots.{spotsOf}
 use Rattle.files.specs.declared.Verdict.{Verdict}
@@ -18,7 +19,7 @@ use Rattle.edits.specs.declared.Edited.{Edited}
 use Rattle.edits.specs.declared.Edited.the-variants.{Made, Refused}
 use Rattle.edits.specs.Edits.{Edit, mark, rename, insert, remove, apply}
 use Rattle.edits.specs.Allowed.{Fault?, fine, fault, orElse, unless, editFault, renameFault}
-use Rattle.edits.specs.Records.{Last, recordOf, recordWords, lastRecord, reversal, reversible}
+use Rattle.edits.specs.Records.{Rec, Newest, recordOf, recordWords, lastRecord, reversal, reversible}
 
 -- a session: the file's buffer and used length, the journal's buffer and used length, in bytes
 pub record Session : Type 0 where
@@ -35,13 +36,6 @@ pub data Call : Type 0 where
   remove-call : ℕ → Call
   undo-call : Call
 
--- a buffer has an even length of at most 1,048,576 bytes, and its used length is even and within it
-abbrev pub bufferOk : List ℕ → Bool
-bufferOk s = eqb (length s % 2) 0 && leb (length s) 1048576
-
-abbrev pub usedOk : List ℕ → ℕ → Bool
-usedOk s n = bufferOk s && (eqb (n % 2) 0 && leb n (length s))
-
 -- the used words
 abbrev pub usedWords : List ℕ → ℕ → List ℕ
 usedWords s n = words (take n s)
@@ -53,14 +47,14 @@ endsInMarker ws = leb 1 (length ws) && eqb (wordAt ws (length ws - 1)) 65535
 -- 1 unless the dimension, the buffers, the used lengths and the last used word are right
 unfoldable pub sessionOk : ℕ → Session → Bool
 sessionOk dim s =
-    (eqb dim 2 || eqb dim 3)
-    && (usedOk (s .file) (s .used) && (usedOk (s .journal) (s .jused) && endsInMarker (usedWords (s .file) (s .used))))
+    dimOk dim
+    && (usedOk (length (s .file)) (s .used) && (usedOk (length (s .journal)) (s .jused) && endsInMarker (usedWords (s .file) (s .used))))
 
 -- 1 unless the piece of an insert may be lent
 abbrev pub pieceOk : Call → Bool
 pieceOk (mark-call p deleted) = true
 pieceOk (rename-call p text) = true
-pieceOk (insert-call h p piece) = bufferOk piece
+pieceOk (insert-call h p piece) = sizeOk (length piece)
 pieceOk (remove-call p) = true
 pieceOk undo-call = true
 
@@ -84,8 +78,8 @@ unfoldable pub stored : List ℕ → ℕ → List ℕ → List ℕ
 stored s n ws = bytes ws ++ (replicate (n - 2 * length ws) 0 ++ drop (max n (2 * length ws)) s)
 
 -- the buffer with the words ws behind its n used bytes
-unfoldable pub pushed : List ℕ → ℕ → List ℕ → List ℕ
-pushed s n ws = take n s ++ (bytes ws ++ drop (n + 2 * length ws) s)
+abbrev pub pushed : List ℕ → ℕ → List ℕ → List ℕ
+pushed s n ws = over s n (bytes ws)
 
 -- what a call answers and what it leaves
 pub record Result : Type 0 where
@@ -126,13 +120,16 @@ undoMade s ws jused = record {
   after = record { file = stored (s .file) (s .used) ws; used = 2 * length ws; journal = s .journal; jused = jused };
 }
 
+-- 19 and 15 of a record's reversal on the words ws, in a file's buffer of so many bytes
+abbrev pub reversalFault : ℕ → List ℕ → ℕ → Rec → Fault?
+reversalFault dim ws size rec =
+    orElse (unless (reversible dim ws rec) 19) (unless (leb (2 * length (apply dim ws (reversal ws rec))) size) 15)
+
 -- an undo by the last record: 19 where it is ill-formed or may not be reversed, 15, or it is made
-abbrev pub undoBy : ℕ → Session → List ℕ → Last → Result
+abbrev pub undoBy : ℕ → Session → List ℕ → Newest → Result
 undoBy dim s ws none = refused s 19 0
 undoBy dim s ws (some l) =
-    resultBy
-    (orElse (unless (reversible dim ws (l .0)) 19) (unless (leb (2 * length (apply dim ws (reversal ws (l .0)))) (length (s .file))) 15))
-    s
+    resultBy (reversalFault dim ws (length (s .file)) (l .0)) s
     (undoMade s (apply dim ws (reversal ws (l .0))) (2 * length (l .1)))
 
 -- an undo: 17 where the journal is empty, then these

@@ -1,12 +1,12 @@
 -- The edits on a file's used words, as document 01's last paragraphs of "Editing" define them.
 use Prim.Native.Nat.{ℕ, _+_, _-_, _%_}
 use mathlib.Core.List.{List, [], _∷_, _++_}
-use mathlib.Core.Bool.{Bool, true, false, cond, _&&_}
+use mathlib.Core.Bool.{Bool, true, false, _&&_}
 use mathlib.Core.Option.{Option, none, some}
 use lib.ListN.{length, take, drop, set}
-use lib.Dec.{eqb, ltb}
+use lib.Dec.{ltb}
 use Rattle.words.specs.Words.{wordAt}
-use Rattle.elements.specs.Header.{typeAt}
+use Rattle.headers.specs.Header.{typeAt, namePlace, totalAt, countAt}
 use Rattle.kinds.specs.Kinds.{isCounted}
 use Rattle.files.specs.Spots.{Spot, spotsOf, spotIn}
 
@@ -22,10 +22,6 @@ pub data Edit : Type 0 where
 abbrev pub flagged : Bool → ℕ → ℕ
 flagged true w = 32768 + w % 32768
 flagged false w = w % 32768
-
--- where the name of a type 1 or 2 cell stands
-abbrev pub namePlace : List ℕ → ℕ → ℕ
-namePlace ws p = p + cond (eqb (typeAt ws p) 1) 16 19
 
 -- a place kept in a list where a test holds
 abbrev pub keepIf : Bool → ℕ → List ℕ → List ℕ
@@ -43,12 +39,12 @@ downTo xs none = []
 downTo xs (some h) = around xs h ++ (h ∷ [])
 
 -- the words of an element's extent, 0 where none starts there
-abbrev pub extentBy : Option Spot → ℕ
-extentBy none = 0
-extentBy (some x) = x .end - x .place
+abbrev pub spotWords : Option Spot → ℕ
+spotWords none = 0
+spotWords (some x) = x .end - x .place
 
 abbrev pub extentIn : List Spot → ℕ → ℕ
-extentIn xs p = extentBy (spotIn xs p)
+extentIn xs p = spotWords (spotIn xs p)
 
 -- a number raised or lowered
 abbrev pub moved : Bool → ℕ → ℕ → ℕ
@@ -57,13 +53,13 @@ moved false n w = w - n
 
 -- a count raised or lowered by 1
 abbrev pub countMoved : Bool → Bool → ℕ → List ℕ → List ℕ
-countMoved true up q ws = set ws (q + 19) (moved up 1 (wordAt ws (q + 19)))
+countMoved true up q ws = set ws (q + 19) (moved up 1 (countAt ws q))
 countMoved false up q ws = ws
 
 -- a header's total raised or lowered by n; the direct header's count, if it has one, by 1
 unfoldable pub corrected : Bool → ℕ → Bool → ℕ → List ℕ → List ℕ
 corrected up n direct q ws =
-    countMoved (direct && isCounted (typeAt ws q)) up q (set ws (q + 18) (moved up n (wordAt ws (q + 18))))
+    countMoved (direct && isCounted (typeAt ws q)) up q (set ws (q + 18) (moved up n (totalAt ws q)))
 
 abbrev pub isLast : List ℕ → Bool
 isLast [] = true

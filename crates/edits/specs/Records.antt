@@ -9,7 +9,8 @@ use lib.Dec.{eqb, leb}
 use Rattle.words.specs.Words.{wordAt, longAt}
 use Rattle.kinds.specs.FirstWord.{deletedOf}
 use Rattle.files.specs.Spots.{Spot, spotsOf, spotIn}
-use Rattle.edits.specs.Edits.{Edit, mark, rename, insert, remove, namePlace, extentIn}
+use Rattle.edits.specs.Edits.{Edit, mark, rename, insert, remove, extentIn}
+use Rattle.headers.specs.Header.{nameFirst, nameSecond}
 use Rattle.edits.specs.Allowed.{Fault?, fine, fault, under?, editFault}
 
 -- kind 1 flag; 2 rename, with the two old words; 3 insert; 4 remove, with the words removed
@@ -27,7 +28,7 @@ headerBy (some x) = x .header
 -- the record of an edit on a file's words
 unfoldable pub recordOf : ℕ → List ℕ → Edit → Rec
 recordOf dim ws (mark p deleted) = flag p
-recordOf dim ws (rename p a b) = renamed p (wordAt ws (namePlace ws p)) (wordAt ws (namePlace ws p + 1))
+recordOf dim ws (rename p a b) = renamed p (nameFirst ws p) (nameSecond ws p)
 recordOf dim ws (insert h p x) = inserted h p
 recordOf dim ws (remove p) = removed (headerBy (spotIn (spotsOf dim ws) p)) p (take (extentIn (spotsOf dim ws) p) (drop p ws))
 
@@ -46,10 +47,10 @@ recordWords (inserted h p) = six 3 h p 0
 recordWords (removed h p x) = x ++ six 4 h p (length x)
 
 -- a journal's last record with the words before it, or none where it is ill-formed
-abbrev pub Last : Type 0
-Last = Option (Rec × List ℕ)
+abbrev pub Newest : Type 0
+Newest = Option (Rec × List ℕ)
 
-abbrev pub keep : Bool → Last → Last
+abbrev pub keep : Bool → Newest → Newest
 keep true l = l
 keep false l = none
 
@@ -62,7 +63,7 @@ atTop none = true
 atTop (some h) = false
 
 -- by kind: the payload and the header place are the kind's
-abbrev pub build : Bool → Bool → Bool → Bool → Option ℕ → ℕ → List ℕ → List ℕ → Last
+abbrev pub build : Bool → Bool → Bool → Bool → Option ℕ → ℕ → List ℕ → List ℕ → Newest
 build true k₂ k₃ k₄ h p x before = keep (atTop h && eqb (length x) 0) (some (flag p, before))
 build false true k₃ k₄ h p x before = keep (atTop h && eqb (length x) 2) (some (renamed p (wordAt x 0) (wordAt x 1), before))
 build false false true k₄ h p x before = keep (eqb (length x) 0) (some (inserted h p, before))
@@ -70,13 +71,13 @@ build false false false true h p x before = some (removed h p x, before)
 build false false false false h p x before = none
 
 -- t: where the six words begin, n: the payload's words
-abbrev pub readAt : List ℕ → ℕ → ℕ → Last
+abbrev pub readAt : List ℕ → ℕ → ℕ → Newest
 readAt js t n =
     keep (leb n t)
     (build (eqb (wordAt js t) 1) (eqb (wordAt js t) 2) (eqb (wordAt js t) 3) (eqb (wordAt js t) 4)
     (placeOf (longAt js (t + 1))) (longAt js (t + 3)) (take n (drop (t - n) js)) (take (t - n) js))
 
-unfoldable pub lastRecord : List ℕ → Last
+unfoldable pub lastRecord : List ℕ → Newest
 lastRecord js = keep (leb 6 (length js)) (readAt js (length js - 6) (wordAt js (length js - 6 + 5)))
 
 -- the reversal: the opposite edit at the recorded places; a flag is turned over, whatever it is

@@ -1,17 +1,19 @@
 -- Laws of the rules of one element: no fault is that every test passes, and what the answer then is.
-use Prim.Native.Nat.{ℕ, _+_, _*_, _-_, _/_, _%_, _<_, _≤_}
+use Prim.Native.Nat.{ℕ, _+_, _-_, _<_, _≤_}
 use mathlib.Core.Path.{_≡_, refl, sym, ap, subst, _∙_}
-use mathlib.Core.List.{List, [], _∷_, _++_}
-use mathlib.Core.Bool.{Bool, true, false, cond, not, _&&_, _||_, false≢true, or-true, and-true, and-false, and-eq-true-iff}
+use mathlib.Core.List.{List, [], _∷_}
+use mathlib.Core.Bool.{Bool, true, false, cond, not, _&&_, _||_, and-true, and-false}
 use native.Mathlib.Omega.{arith}
 use lib.Dec.{eqb, leb}
-use borrow.Author.Tests.{leb-true, leb-false, le-leb, lt-leb, eqb-true, eqb-false, eq-eqb, ne-eqb, not-true, not-false}
+use borrow.Author.Tests.{leb-true, leb-false, le-leb, lt-leb, eqb-true, eqb-false, ne-eqb}
 use Rattle.words.specs.Words.{words, wordAt}
-use Rattle.kinds.specs.FirstWord.{typeOf}
-use Rattle.elements.specs.Header.{typeAt, sizeAt, pointsAt, extentAt, attributesAt}
+use Rattle.headers.specs.Header.{typeAt, sizeAt, pointsAt, extentAt, attributesAt}
 use Rattle.kinds.specs.Kinds.{isHeader, isLinked, isPointed, isUnread, fixedPart, mayStand}
 use Rattle.elements.specs.Attributes.{attributesOk, linkagesOk}
-use Rattle.elements.specs.Rules.{reservedOk, placeOk, pointsOk, fixedOk, extentOk, storedNameOk, Check, check, firstFault, checks, faultOf, headOf, HeadRead}
+use Rattle.headers.specs.Flags.{reservedOk, placeOk}
+use Rattle.elements.specs.Rules.{pointsOk, fixedOk, extentOk, storedNameOk, checks, faultOf, headOf, HeadRead}
+use Rattle.headers.proofs.Checks.{both-true, pass-all}
+use Rattle.headers.specs.Checks.{check, firstFault}
 use Rattle.elements.specs.declared.Head.{Head}
 use Rattle.elements.specs.declared.Head.the-variants.{Bad, Plain, Complex}
 use Rattle.kinds.proofs.Types.{header-long, linked-long, fixed-any, not-header, raw-pointless, raw-part, header-pointless, stands-raw}
@@ -28,17 +30,6 @@ pub record Checked (dim depth under : ℕ) (ws : List ℕ) (at bound : ℕ) : Ty
   pub extent : extentOk ws at (bound - at) ≡ true
   pub linkages : linkagesOk dim ws at ≡ true
   pub name : storedNameOk ws at ≡ true
-
--- the value of a test from what a function answers, whose negation the code asks for
-pub refused : {r t : Bool} → r ≡ t → not r ≡ true → t ≡ false
-refused {r} e h = sym e ∙ not-true r h
-
-pub accepted : {r t : Bool} → r ≡ t → not r ≡ false → t ≡ true
-accepted {r} e h = sym e ∙ not-false r h
-
--- a test of two parts passes where both do
-pub both-true : (a b : Bool) → (a && b) ≡ true → (a ≡ true) × (b ≡ true)
-both-true a b e = and-eq-true-iff a b .0 e
 
 ---- the sizes that the fixed part gives
 
@@ -139,59 +130,6 @@ module _ (dim : ℕ) (ws : List ℕ) (at t size : ℕ) (q : t ≡ typeAt ws at) 
   pub header-part : (fixed : ℕ) → fixed ≡ fixedPart dim t 0 → isHeader t ≡ true → fixed ≡ fixedPart dim (typeAt ws at) (pointsAt ws at)
   header-part fixed e k = e ∙ fixed-any dim t 0 (pointsAt ws at) (header-pointless t k) ∙ ap (λ (u : ℕ). fixedPart dim u (pointsAt ws at)) q
 
----- bits 6 and 7 of word 0
-
-two-bits : (x k : ℕ) → x % 2 ≡ 0 → x / 2 % 2 ≡ k → x % 4 ≡ 2 * k
-two-bits x k p q = omega arith
-
-both-bits : (w k : ℕ) → w / 64 % 2 ≡ 0 → w / 128 % 2 ≡ k → w / 64 % 4 ≡ 2 * k
-both-bits w k p q =
-    let e : w / 128 ≡ w / 64 / 2 = omega arith in
-    two-bits (w / 64) k p (rw e at q)
-
-module _ (w depth : ℕ) where
-  pub flags-met : w / 64 % 4 ≡ cond (eqb depth 0) 0 2 → (reservedOk w && placeOk depth w) ≡ true
-  unfolding reservedOk placeOk
-  flags-met e = let p = go (eqb depth 0) e in simp (p .0, p .1, or-true)
-    where
-      go : (b : Bool) → w / 64 % 4 ≡ cond b 0 2 → (eqb (w / 64 % 2) 0 ≡ true) × (eqb (w / 128 % 2) (cond b 0 1) ≡ true)
-      go true e = (eq-eqb (w / 64 % 2) 0 (omega arith), eq-eqb (w / 128 % 2) 0 (omega arith))
-      go false e = (eq-eqb (w / 64 % 2) 0 (omega arith), eq-eqb (w / 128 % 2) 1 (omega arith))
-
-  pub flags-unmet : (w / 64 % 4 ≡ cond (eqb depth 0) 0 2 → ⊥) → (reservedOk w && placeOk depth w) ≡ eqb (typeOf w) 9
-  unfolding reservedOk placeOk
-  flags-unmet = go (eqb (typeOf w) 9) (eqb (w / 64 % 2) 0) (eqb depth 0) (eqb (w / 128 % 2) (cond (eqb depth 0) 0 1)) refl refl
-    where
-      go : (n r b c : Bool) → eqb (w / 64 % 2) 0 ≡ r → eqb (w / 128 % 2) (cond b 0 1) ≡ c → (w / 64 % 4 ≡ cond b 0 2 → ⊥) → ((n || r) && (n || c)) ≡ n
-      go true r b c p q h = refl
-      go false false b c p q h = refl
-      go false true b false p q h = refl
-      go false true true true p q h = absurd (h (both-bits w 0 (eqb-true (w / 64 % 2) 0 p) (eqb-true (w / 128 % 2) 0 q)))
-      go false true false true p q h = absurd (h (both-bits w 1 (eqb-true (w / 64 % 2) 0 p) (eqb-true (w / 128 % 2) 1 q)))
-
----- the first fault, check by check
-
--- the number n is that of the first test of the list that fails: each test before it passes
-pub data First : List Check → ℕ → Type 0 where
-  pass : {b : Bool} {n m : ℕ} {cs : List Check} → b ≡ true → First cs m → First (check b n ∷ cs) m
-  stop : {b : Bool} {n : ℕ} {cs : List Check} → b ≡ false → First (check b n ∷ cs) n
-  tail : (cs : List Check) {n : ℕ} → n ≡ firstFault cs → First cs n
-
-pub first : (cs : List Check) {n : ℕ} → First cs n → n ≡ firstFault cs
-first _ (pass e p) = rw e (first _ p)
-first _ (stop e) = rw e
-first _ (tail cs e) = e
-
--- bit 6 decides which of the checks 4 and 5 fails
-pub flags-stop : (w depth : ℕ) (cs : List Check) → (reservedOk w && placeOk depth w) ≡ false → First (check (reservedOk w) 4 ∷ check (placeOk depth w) 5 ∷ cs) (cond (eqb (w / 64 % 2) 0) 5 4)
-unfolding reservedOk placeOk
-flags-stop w depth cs = go (eqb (typeOf w) 9) (eqb (w / 64 % 2) 0) (eqb (w / 128 % 2) (cond (eqb depth 0) 0 1))
-  where
-    go : (n r c : Bool) → ((n || r) && (n || c)) ≡ false → First (check (n || r) 4 ∷ check (n || c) 5 ∷ cs) (cond r 5 4)
-    go true r c e = absurd (false≢true (sym e))
-    go false true c e = pass refl (stop e)
-    go false false c e = stop refl
-
 -- the checks that a raw type leaves
 pub raw-same : (dim under : ℕ) (ws : List ℕ) (at t size : ℕ) → t ≡ typeAt ws at → isHeader t ≡ false → isLinked t ≡ false → firstFault (check (not (eqb under 7)) 6 ∷ check (not (isUnread t)) 6 ∷ check (leb size 65535) 8 ∷ []) ≡ firstFault (check (mayStand dim under t) 6 ∷ check (fixedOk dim ws at) 7 ∷ check (leb size 65535) 8 ∷ check (linkagesOk dim ws at) 11 ∷ [])
 raw-same dim under ws at t size q h k =
@@ -218,35 +156,7 @@ simple-same ws at room m f l h =
     go true true true false = refl
     go true true true true = refl
 
--- each number is above 0
-abbrev pub numbered : List Check → Bool
-numbered [] = true
-numbered (check b n ∷ cs) = leb 1 n && numbered cs
-
--- the first fault of two lists, one after the other: that of the first list where it has one, else that of the second
-pub fault-here : (cs ds : List Check) (n : ℕ) → n ≡ firstFault cs → (n ≡ 0 → ⊥) → n ≡ firstFault (cs ++ ds)
-fault-here [] ds n e h = absurd (h e)
-fault-here (check true k ∷ cs) ds n e h = fault-here cs ds n e h
-fault-here (check false k ∷ cs) ds n e h = e
-
-pub fault-later : (cs ds : List Check) (n : ℕ) → numbered cs ≡ true → 0 ≡ firstFault cs → n ≡ firstFault ds → n ≡ firstFault (cs ++ ds)
-fault-later [] ds n k z e = e
-fault-later (check true m ∷ cs) ds n k z e = fault-later cs ds n (both-true (leb 1 m) (numbered cs) k .1) z e
-fault-later (check false m ∷ cs) ds n k z e =
-    let h = leb-true 1 m (both-true (leb 1 m) (numbered cs) k .0) in
-    absurd (omega arith)
-
 ---- no fault: every test passes
-
--- each test passes
-abbrev Pass : List Check → Type 0
-Pass [] = Unit
-Pass (check b n ∷ cs) = (b ≡ true) × Pass cs
-
-pass-all : (cs : List Check) → numbered cs ≡ true → firstFault cs ≡ 0 → Pass cs
-pass-all [] k e = tt
-pass-all (check true n ∷ cs) k e = (refl, pass-all cs (both-true (leb 1 n) (numbered cs) k .1) e)
-pass-all (check false n ∷ cs) k e = let h = leb-true 1 n (both-true (leb 1 n) (numbered cs) k .0) in absurd (omega arith)
 
 module _ (dim depth under : ℕ) (ws : List ℕ) (at bound : ℕ) where
   pub no-fault : faultOf dim depth under ws at bound ≡ 0 → Checked dim depth under ws at bound

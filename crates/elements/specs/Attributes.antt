@@ -4,7 +4,7 @@ use mathlib.Core.List.{List}
 use mathlib.Core.Bool.{Bool, not, _&&_, _||_}
 use lib.Dec.{leb}
 use Rattle.linkages.specs.Linkages.{linkagesFill}
-use Rattle.elements.specs.Header.{typeAt, sizeAt, pointsAt, attributesAt, attributePartAt}
+use Rattle.headers.specs.Header.{typeAt, sizeAt, pointsAt, attributesAt, attributePartAt}
 use Rattle.kinds.specs.Kinds.{isLinked, fixedPart}
 
 -- the element has an attribute part: its type may have one, and A is set

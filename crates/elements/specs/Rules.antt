@@ -4,28 +4,22 @@
 use Prim.Native.Nat.{ℕ, _+_, _-_, _≤_}
 use mathlib.Core.Path.{_≡_}
 use mathlib.Core.List.{List, [], _∷_, _++_}
-use mathlib.Core.Bool.{Bool, true, false, cond, not, _&&_, _||_}
+use mathlib.Core.Bool.{Bool, cond, not, _&&_, _||_}
 use lib.Dec.{eqb, leb}
 use Rattle.words.specs.Words.{words, wordAt}
 use Rattle.names.specs.Names.{nameOk}
-use Rattle.kinds.specs.FirstWord.{reservedOf, cOf, typeOf}
-use Rattle.elements.specs.Header.{typeAt, sizeAt, pointsAt, extentAt, countAt}
-use Rattle.kinds.specs.Kinds.{isHeader, isCounted, isPointed, fixedPart, mayStand}
+use Rattle.kinds.specs.FirstWord.{typeOf}
+use Rattle.headers.specs.Checks.{Check, check, firstFault}
+use Rattle.headers.specs.Flags.{flagChecks}
+use Rattle.headers.specs.Header.{typeAt, sizeAt, pointsAt, extentAt, countAt, nameFirst, nameSecond}
+use Rattle.kinds.specs.Kinds.{isHeader, isCounted, isPointed, isCell, fixedPart, mayStand, pointsWithin}
 use Rattle.elements.specs.Attributes.{linkagesOk}
 use Rattle.elements.specs.declared.Head.{Head}
 use Rattle.elements.specs.declared.Head.the-variants.{Bad, Plain, Complex}
 
--- 4 unless bit 6 of word 0 is zero; in type 9 it is not judged
-unfoldable pub reservedOk : ℕ → Bool
-reservedOk w = eqb (typeOf w) 9 || eqb (reservedOf w) 0
-
--- 5 unless a top-level element has C clear in word 0, a component has it set; in type 9 it is not judged
-unfoldable pub placeOk : ℕ → ℕ → Bool
-placeOk depth w = eqb (typeOf w) 9 || eqb (cOf w) (cond (eqb depth 0) 0 1)
-
 -- N, which stands in the element's own words, is from 2 to 101
 abbrev pub pointsOk : List ℕ → ℕ → Bool
-pointsOk ws at = leb 19 (sizeAt ws at) && (leb 2 (pointsAt ws at) && leb (pointsAt ws at) 101)
+pointsOk ws at = leb 19 (sizeAt ws at) && pointsWithin (pointsAt ws at)
 
 -- 7 unless N is right where there is one, and the element is not shorter than its fixed part
 unfoldable pub fixedOk : ℕ → List ℕ → ℕ → Bool
@@ -41,29 +35,13 @@ extentOk ws at room =
     && (not (isHeader (typeAt ws at))
     || (leb (sizeAt ws at) (extentAt ws at) && (leb (extentAt ws at) room && leb (extentAt ws at) 65535)))
 
--- 12 unless the stored name of a type 1 or 2 is right
+-- 12 unless the stored name of a cell is right
 unfoldable pub storedNameOk : List ℕ → ℕ → Bool
-storedNameOk ws at =
-    (not (eqb (typeAt ws at) 1) || nameOk (wordAt ws (at + 16)) (wordAt ws (at + 17)))
-    && (not (eqb (typeAt ws at) 2) || nameOk (wordAt ws (at + 19)) (wordAt ws (at + 20)))
-
--- a check is a test and the number that is answered where it fails; the first that fails decides, 0 where none does
-pub data Check : Type 0 where
-  check : Bool → ℕ → Check
-
-abbrev pub firstFault : List Check → ℕ
-firstFault [] = 0
-firstFault (check true n ∷ rest) = firstFault rest
-firstFault (check false n ∷ rest) = n
+storedNameOk ws at = not (isCell (typeAt ws at)) || nameOk (nameFirst ws at) (nameSecond ws at)
 
 -- the checks of where an element with the word 0 `w` stands
 abbrev pub placeChecks : ℕ → ℕ → ℕ → ℕ → List Check
-placeChecks dim depth under w =
-    check (reservedOk w) 4
-    ∷ check (placeOk depth w) 5
-    ∷ check (leb depth 8) 10
-    ∷ check (mayStand dim under (typeOf w)) 6
-    ∷ []
+placeChecks dim depth under w = flagChecks depth w ++ (check (mayStand dim under (typeOf w)) 6 ∷ [])
 
 -- the checks of what the element holds, with `room` words from its start to its bound
 abbrev pub contentChecks : ℕ → List ℕ → ℕ → ℕ → List Check
@@ -96,7 +74,8 @@ headOf dim depth under ws at bound =
 unfoldable pub countOk : List ℕ → ℕ → ℕ → Bool
 countOk ws at direct = not (isCounted (typeAt ws at)) || eqb (countAt ws at) direct
 
--- the bounds of an answer: an element has at least two words, ends by its bound, and a header is at depth 8 at most
+-- the bounds of an answer: an element has at least two words, a header 20; it ends by its bound, and a header is at depth 8
+-- at most
 abbrev pub HeadWithin : ℕ → ℕ → ℕ → Head → Type 0
 HeadWithin depth at bound (Bad n) = Unit
 HeadWithin depth at bound (Plain next) = (at + 2 ≤ next) × (next ≤ bound)

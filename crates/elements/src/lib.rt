@@ -1,5 +1,5 @@
-// One element alone: the fields of its header, its type, and all rules that do not look at its components. The
-// definitions are in specs/: Header (fields), Attributes, Rules (the order of checks); those of the types are in kinds.
+// One element alone: all rules that do not look at its components. The definitions are in specs/: Attributes, Rules (the
+// order of checks); those of its fields are in headers, those of the types in kinds.
 ghost use mathlib.Core.Path.{_≡_};
 ghost use mathlib.Core.Bool.{true, false, not, _&&_, _||_};
 ghost use mathlib.Core.List.{[], _∷_};
@@ -7,9 +7,10 @@ ghost use Prim.Native.Nat.{ℕ, _+_, _<_, _≤_, _^_};
 ghost use lib.Dec.{eqb, leb};
 ghost use Rattle.words.specs.Words.{words};
 ghost use Rattle.kinds.specs.Kinds.{isHeader, isLinked, isUnread, fixedPart, mayStand};
-ghost use Rattle.elements.specs.Header.{typeAt, sizeAt, pointsAt, extentAt, attributesAt};
+ghost use Rattle.headers.specs.Checks.{check, firstFault};
+ghost use Rattle.headers.specs.Header.{typeAt, sizeAt, pointsAt, extentAt, attributesAt};
 ghost use Rattle.elements.specs.Attributes.{attributesOk, linkagesOk};
-ghost use Rattle.elements.specs.Rules.{reservedOk, placeOk, fixedOk, storedNameOk, check, firstFault, contentChecks, HeadRead};
+ghost use Rattle.elements.specs.Rules.{fixedOk, storedNameOk, contentChecks, HeadRead};
 
 // What one element is read as: refused with a number; an element that its own words end; or a header, whose
 // components stand from `inner` to `end`.
@@ -17,47 +18,6 @@ pub enum Head {
     Bad { number: usize },
     Plain { next: usize },
     Complex { inner: usize, end: usize },
-}
-
-// The type of the element at a place.
-pub fn type_at(s: &[u8], at: usize) -> usize
-    ensures { λ r. ⌜ r ≡ typeAt (words (now (s .entry))) at ⌝ }
-{
-    kinds::type_of(words::word(s, at))
-}
-
-// The size of the element at a place, in words.
-pub fn size_at(s: &[u8], at: usize) -> usize
-    ensures { λ r. ⌜ r ≡ sizeAt (words (now (s .entry))) at ⌝ }
-{
-    if at < s.len() {
-        words::word(s, at + 1) + 2
-    } else {
-        2
-    }
-}
-
-// 4 and 5: bits 6 and 7 of word 0, as one number.
-fn flags_ok(w: usize, depth: usize) -> bool
-    ensures { λ r. ⌜ r ≡ (reservedOk w && placeOk depth w) ⌝ }
-{
-    if w / 64 % 4 == kinds::pick(depth == 0, 0, 2) {
-        return true;
-    }
-    kinds::type_of(w) == 9
-}
-
-// The number of the first fault in bits 6 and 7 of word 0 and in the depth, 0 where there is none.
-fn flag_fault(w: usize, depth: usize) -> usize
-    ensures { λ r. ⌜ r ≡ firstFault (check (reservedOk w) 4 ∷ check (placeOk depth w) 5 ∷ check (leb depth 8) 10 ∷ []) ⌝ }
-{
-    if !flags_ok(w, depth) {
-        return kinds::pick(w / 64 % 2 == 0, 5, 4);
-    }
-    if 8 < depth {
-        return 10;
-    }
-    0
 }
 
 // 8, of an element that is no header.
@@ -267,7 +227,7 @@ pub fn head_at(s: &[u8], at: usize, bound: usize, depth: usize, under: usize, di
     if room < size {
         return Head::Bad { number: 3 };
     }
-    let flagged = flag_fault(w, depth);
+    let flagged = headers::flag_fault(w, depth);
     if flagged != 0 {
         return Head::Bad { number: flagged };
     }

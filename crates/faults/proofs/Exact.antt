@@ -7,13 +7,15 @@ use mathlib.Core.List.{List, [], _∷_}
 use mathlib.Core.Option.{Option, none, some}
 use lib.Dec.{eqb}
 use Rattle.words.specs.Words.{words, wordAt}
-use Rattle.elements.specs.Rules.{check, firstFault}
+use Rattle.headers.specs.Checks.{check, firstFault}
 use Rattle.files.specs.Spots.{Spot, spotsOf, spotIn}
 use Rattle.places.specs.declared.Above.{Above}
 use Rattle.places.specs.declared.Above.the-variants.{Top, Under}
 use Rattle.places.specs.Places.{aboveOf, foundBy}
 use Rattle.places.specs.Descent.{locateOf}
-use Rattle.edits.specs.Allowed.{Fault?, fine, fault, orElse, unless, isSome, startsAt, flagDiffers, isCell, sameHeader, under?, markFault, renameFault, removeFault}
+use Rattle.edits.specs.Allowed.{Fault?, fine, fault, orElse, unless, isSome, startsAt, flagDiffers, sameHeader, under?, markFault, renameFault, removeFault}
+use Rattle.headers.specs.Header.{typeAt}
+use Rattle.kinds.specs.Kinds.{isCell}
 use Rattle.opening.specs.Opening.{headerOf}
 use Rattle.opening.proofs.Opening.{AcceptedUsed}
 use Rattle.opening.proofs.Accepted.{found-is}
@@ -67,7 +69,7 @@ module _ (dim : ℕ) (s : List ℕ) (m : ℕ) (used : AcceptedUsed dim s m) wher
 
   pub rename-is : (p : ℕ) (named : Bool) → numbered (renameNumber (words s) (locateOf (words s) p m) p named) ≡ renameFault (spotsOf dim (words s)) (words s) p named
   unfolding renameNumber renameFault
-  rename-is p named = rw (at-is p) (three-checks (startsAt (spotsOf dim (words s)) p) (isCell (words s) p) named)
+  rename-is p named = rw (at-is p) (three-checks (startsAt (spotsOf dim (words s)) p) (isCell (typeAt (words s) p)) named)
 
   pub remove-is : (p : ℕ) → unless (isAt (locateOf (words s) p m)) 13 ≡ removeFault (spotsOf dim (words s)) p
   unfolding removeFault

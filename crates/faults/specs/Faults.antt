@@ -6,12 +6,14 @@ use mathlib.Core.List.{List, [], _∷_}
 use mathlib.Core.Bool.{Bool, true, false}
 use lib.Dec.{eqb}
 use Rattle.words.specs.Words.{wordAt}
-use Rattle.elements.specs.Rules.{check, firstFault}
+use Rattle.headers.specs.Checks.{check, firstFault}
 use Rattle.places.specs.declared.Above.{Above}
 use Rattle.places.specs.declared.Above.the-variants.{Top, Under}
 use Rattle.places.specs.declared.Spotted.{Spotted}
 use Rattle.places.specs.declared.Spotted.the-variants as spotted
-use Rattle.edits.specs.Allowed.{flagDiffers, isCell}
+use Rattle.edits.specs.Allowed.{flagDiffers}
+use Rattle.headers.specs.Header.{typeAt}
+use Rattle.kinds.specs.Kinds.{isCell}
 
 -- an element starts at the place
 abbrev pub isAt : Spotted → Bool
@@ -26,7 +28,7 @@ markNumber ws found p deleted =
 -- the number that renaming answers: 13, 18, 12 for the text, or 0 for none
 unfoldable pub renameNumber : List ℕ → Spotted → ℕ → Bool → ℕ
 renameNumber ws found p named =
-    firstFault (check (isAt found) 13 ∷ check (isCell ws p) 18 ∷ check named 12 ∷ [])
+    firstFault (check (isAt found) 13 ∷ check (isCell (typeAt ws p)) 18 ∷ check named 12 ∷ [])
 
 -- whether two are the same: the top, or a header's place
 abbrev pub sameAbove : Above → Above → Bool

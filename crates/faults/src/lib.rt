@@ -3,7 +3,9 @@
 // specs/Faults; proofs/Exact: on an accepted file they are those of the crate edits.
 ghost use mathlib.Core.Path.{_≡_};
 ghost use Rattle.words.specs.Words.{words};
-ghost use Rattle.edits.specs.Allowed.{flagDiffers, isCell};
+ghost use Rattle.edits.specs.Allowed.{flagDiffers};
+ghost use Rattle.headers.specs.Header.{typeAt};
+ghost use Rattle.kinds.specs.Kinds.{isCell};
 ghost use Rattle.faults.specs.Faults.{isAt, markNumber, renameNumber, sameAbove, standsUnder};
 use places::Above;
 use places::Spotted;
@@ -50,9 +52,9 @@ pub fn mark_fault(used: &[u8], found: Spotted, place: usize, deleted: bool) -> u
 
 // Whether the type at a place is 1 or 2.
 fn is_cell(used: &[u8], place: usize) -> bool
-    ensures { λ r. ⌜ r ≡ isCell (words (now (used .entry))) place ⌝ }
+    ensures { λ r. ⌜ r ≡ isCell (typeAt (words (now (used .entry))) place) ⌝ }
 {
-    let t = elements::type_at(used, place);
+    let t = headers::type_at(used, place);
     if t == 1 {
         return true;
     }

@@ -7,17 +7,18 @@ use native.Mathlib.Omega.{arith}
 use lib.Dec.{eqb, ltb, leb}
 use borrow.Author.Tests.{leb-true, eqb-true, ne-eqb, le-leb, lt-ltb, le-ltb}
 use Rattle.words.specs.Words.{words, wordAt}
-use Rattle.elements.specs.Header.{typeAt}
+use Rattle.headers.specs.Header.{typeAt}
 use Rattle.kinds.specs.Kinds.{isHeader}
-use Rattle.elements.specs.Rules.{reservedOk, countOk, HeadRead}
+use Rattle.headers.specs.Flags.{reservedOk}
+use Rattle.elements.specs.Rules.{countOk, HeadRead}
 use Rattle.elements.specs.declared.Head.{Head}
 use Rattle.elements.specs.declared.Head.the-variants.{Bad, Plain, Complex}
 use Rattle.elements.proofs.Laws.{Checked, head-means}
-use Rattle.files.specs.declared.Stop.the-variants.{More}
+use Rattle.ends.specs.declared.Stop.the-variants.{More}
 use Rattle.files.specs.declared.Verdict.{Verdict}
 use Rattle.files.specs.declared.Verdict.the-variants.{Good, Fault}
 use Rattle.files.specs.declared.Progress.the-variants.{Stopped, Halted, Broken}
-use Rattle.files.specs.Judge.{stopOf}
+use Rattle.ends.specs.Ends.{stopOf}
 use Rattle.files.specs.Reach.{stopsAfter}
 use Rattle.files.specs.Progress.{IsElement, ElementJudged, ListJudged, GoodAt, Steps, depthOf, Gone, Progressed}
 use Rattle.files.proofs.Laws.{passed-none, passed-more, element-plain, element-complex, element-counted, element-miscounted}

@@ -11,16 +11,18 @@ use lib.Dec.{ltb, eqb}
 use borrow.Author.Tests.{ltb-true, le-ltb, ne-eqb}
 use Rattle.words.specs.Words.{words, wordAt}
 use Rattle.words.proofs.Laws.{length-words}
-use Rattle.elements.specs.Header.{typeAt}
+use Rattle.headers.specs.Header.{typeAt}
 use Rattle.elements.specs.Rules.{headOf, countOk}
 use Rattle.elements.specs.declared.Head.{Head}
 use Rattle.elements.specs.declared.Head.the-variants.{Bad, Plain, Complex}
-use Rattle.files.specs.declared.Stop.{Stop}
-use Rattle.files.specs.declared.Stop.the-variants.{More, Done, Lacking}
+use Rattle.ends.specs.declared.Stop.{Stop}
+use Rattle.ends.specs.declared.Stop.the-variants.{More, Done, Lacking}
 use Rattle.files.specs.declared.Verdict.{Verdict}
 use Rattle.files.specs.declared.Verdict.the-variants.{Good, Fault}
 use Rattle.files.specs.declared.Judged.the-variants.{Refused}
-use Rattle.files.specs.Judge.{stopOf, addTo, andThen, enclose, elementBy, listBy, elementFrom, listFrom, elementOf, topOf, callOk, answer, judgeOf}
+use Rattle.ends.specs.Ends.{stopOf}
+use Rattle.files.specs.Judge.{addTo, andThen, enclose, elementBy, listBy, elementFrom, listFrom, elementOf, topOf, answer, judgeOf}
+use Rattle.limits.specs.Limits.{callOk}
 use Rattle.files.specs.Progress.{IsElement, IsList, ListJudged, Passed}
 
 ---- an element, by its head

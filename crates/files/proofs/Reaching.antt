@@ -7,12 +7,13 @@ use native.Mathlib.Omega.{arith}
 use native.Mathlib.Nat.{add-zero, zero-add, zero-max}
 use borrow.Author.Tests.{ltb-true, lt-ltb}
 use Rattle.words.specs.Words.{words}
-use Rattle.files.specs.declared.Stop.the-variants.{More, Done, Lacking}
+use Rattle.ends.specs.declared.Stop.the-variants.{More, Done, Lacking}
 use Rattle.files.specs.declared.Verdict.the-variants.{Good, Fault}
 use Rattle.files.specs.declared.Progress.the-variants.{Stopped, Halted, Broken}
 use Rattle.files.specs.declared.Reached.{Reached}
 use Rattle.files.specs.declared.Reached.the-variants as reached
-use Rattle.files.specs.Judge.{stopOf, elementOf}
+use Rattle.ends.specs.Ends.{stopOf}
+use Rattle.files.specs.Judge.{elementOf}
 use Rattle.files.specs.Reach.{stopsAfter, reachedFrom, reachedOf}
 use Rattle.files.specs.Progress.{ListJudged, GoodAt, Steps, Gone, StoppedAt, Progressed}
 use Rattle.files.proofs.Laws.{passed-done, passed-lacking, passed-refused, element-bad, element-of}

@@ -1,29 +1,23 @@
 -- Judging (document 01, "Complex elements" and the order of checks): an element, then its components in order, then
 -- its count; the first fault decides. `ws` are the words of the file, `under` is the type of the direct header, 0 at
 -- the top.
-use Prim.Native.Nat.{ℕ, zero, suc, _+_, _-_, _*_, _%_, max}
+use Prim.Native.Nat.{ℕ, zero, suc, _+_, _-_, _*_, max}
 use mathlib.Core.List.{List, [], _∷_}
-use mathlib.Core.Bool.{Bool, cond, _&&_, _||_}
+use mathlib.Core.Bool.{cond}
 use lib.ListN.{length}
-use lib.Dec.{ltb, leb, eqb}
-use Rattle.words.specs.Words.{words, wordAt}
-use Rattle.elements.specs.Header.{typeAt}
+use Rattle.words.specs.Words.{words}
+use Rattle.headers.specs.Header.{typeAt}
 use Rattle.elements.specs.Rules.{headOf, countOk}
 use Rattle.elements.specs.declared.Head.{Head}
 use Rattle.elements.specs.declared.Head.the-variants.{Bad, Plain, Complex}
-use Rattle.files.specs.declared.Stop.{Stop}
-use Rattle.files.specs.declared.Stop.the-variants.{More, Done, Lacking}
+use Rattle.limits.specs.Limits.{callOk}
+use Rattle.ends.specs.Ends.{stopOf}
+use Rattle.ends.specs.declared.Stop.{Stop}
+use Rattle.ends.specs.declared.Stop.the-variants.{More, Done, Lacking}
 use Rattle.files.specs.declared.Verdict.{Verdict}
 use Rattle.files.specs.declared.Verdict.the-variants.{Good, Fault}
 use Rattle.files.specs.declared.Judged.{Judged}
 use Rattle.files.specs.declared.Judged.the-variants.{Accepted, Refused}
-
--- where a list of elements ends: at the top at the word 65535, which must come; under a header at its extent's end
-unfoldable pub stopOf : ℕ → List ℕ → ℕ → ℕ → Stop
-stopOf depth ws at bound =
-    cond (ltb at bound)
-    (cond (eqb depth 0 && eqb (wordAt ws at) 65535) Done More)
-    (cond (eqb depth 0) Lacking Done)
 
 -- e elements, the deepest at depth d, k of them in this list itself, before what v says
 abbrev pub addTo : ℕ → ℕ → ℕ → Verdict → Verdict
@@ -52,7 +46,8 @@ listBy More at element rest = andThen (element at) rest
 listBy Done at element rest = Good at 0 0 0
 listBy Lacking at element rest = Fault 2 at
 
--- an element and a list of elements, each naming the other; the first number bounds how often
+-- an element and a list of elements, each naming the other; the first number bounds how often, and is always enough, so no
+-- answer has the number 0
 unfoldable mutual
   pub elementFrom : ℕ → ℕ → ℕ → ℕ → List ℕ → ℕ → ℕ → Verdict
   elementFrom zero dim depth under ws at bound = Fault 0 at
@@ -71,10 +66,6 @@ elementOf dim depth under ws at bound = elementFrom (2 * (bound - at) + 1) dim d
 -- all elements of a file, up to its marker
 unfoldable pub topOf : ℕ → List ℕ → Verdict
 topOf dim ws = listFrom (2 * length ws + 2) dim 0 0 ws 0 (length ws)
-
--- a call on a file: the dimension is 2 or 3, the length even and at most 1,048,576 bytes
-unfoldable pub callOk : ℕ → List ℕ → Bool
-callOk dim s = (eqb dim 2 || eqb dim 3) && (eqb (length s % 2) 0 && leb (length s) 1048576)
 
 -- the answer: the elements at all depths, the greatest depth and the marker's place, or a number and a place
 abbrev pub answer : Verdict → Judged

@@ -1,4 +1,5 @@
--- The contracts of judging's private functions, which no public one cites: of an element, and of how far the elements of one list were judged, one after another.
+-- The contracts of judging's private functions, which no public one cites: of an element, and of how far the elements of one
+-- list were judged, one after another.
 use Prim.Native.Nat.{ℕ, zero, suc, _+_, _-_, _*_, _<_, _≤_, max}
 use mathlib.Core.Path.{_≡_}
 use mathlib.Core.Bool.{Bool, true, false, cond}
@@ -7,12 +8,13 @@ use lib.Dec.{eqb}
 use Rattle.words.specs.Words.{words}
 use Rattle.elements.specs.Rules.{headOf}
 use Rattle.elements.specs.declared.Head.the-variants.{Bad}
-use Rattle.files.specs.declared.Stop.the-variants.{More}
+use Rattle.ends.specs.declared.Stop.the-variants.{More}
 use Rattle.files.specs.declared.Verdict.{Verdict}
 use Rattle.files.specs.declared.Verdict.the-variants.{Good, Fault}
 use Rattle.files.specs.declared.Progress.{Progress}
 use Rattle.files.specs.declared.Progress.the-variants.{Stopped, Halted, Broken}
-use Rattle.files.specs.Judge.{stopOf, addTo, elementFrom, listFrom}
+use Rattle.ends.specs.Ends.{stopOf}
+use Rattle.files.specs.Judge.{addTo, elementFrom, listFrom}
 use Rattle.files.specs.Reach.{stopsAfter}
 
 -- r is what the element is judged to be, whatever the number of elementFrom, where it is enough

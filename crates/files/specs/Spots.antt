@@ -1,18 +1,18 @@
--- The elements of a file in file order: one list, over which the views, the finder and the listing are stated, and whose
--- length is the element count.
+-- The elements of a file in file order: one list, over which every call at a place, the finder, the listing and the edits
+-- are stated, and whose length is the element count.
 use Prim.Native.Nat.{ℕ, zero, suc, _+_, max}
 use mathlib.Core.List.{List, [], _∷_, _++_}
 use mathlib.Core.Bool.{Bool, true, false}
 use mathlib.Core.Option.{Option, none, some}
 use lib.ListN.{length}
 use lib.Dec.{eqb}
-use Rattle.elements.specs.Header.{typeAt}
+use Rattle.headers.specs.Header.{typeAt}
 use Rattle.elements.specs.Rules.{headOf}
 use Rattle.elements.specs.declared.Head.{Head}
 use Rattle.elements.specs.declared.Head.the-variants.{Bad, Plain, Complex}
-use Rattle.files.specs.Judge.{stopOf}
-use Rattle.files.specs.declared.Stop.{Stop}
-use Rattle.files.specs.declared.Stop.the-variants.{More, Done, Lacking}
+use Rattle.ends.specs.Ends.{stopOf}
+use Rattle.ends.specs.declared.Stop.{Stop}
+use Rattle.ends.specs.declared.Stop.the-variants.{More, Done, Lacking}
 
 -- an element: where it starts, where its extent ends, its depth, and its direct header's place (none at the top)
 pub record Spot : Type 0 where

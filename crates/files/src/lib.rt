@@ -7,10 +7,10 @@ ghost use Prim.Native.Nat.{ℕ, _+_, _/_, _≤_, _<_, _^_, max};
 ghost use lib.ListN.{length};
 ghost use lib.Dec.{ltb, leb};
 ghost use Rattle.words.specs.Words.{words};
-ghost use Rattle.elements.specs.Header.{typeAt};
+ghost use Rattle.headers.specs.Header.{typeAt};
 ghost use Rattle.elements.specs.Rules.{countOk, HeadRead};
 ghost use Rattle.elements.specs.declared.Head.the-variants.{Complex};
-ghost use Rattle.files.specs.Judge.{stopOf, elementOf, callOk, judgeOf};
+ghost use Rattle.files.specs.Judge.{elementOf, judgeOf};
 ghost use Rattle.files.specs.Reach.{reachedOf};
 ghost use Rattle.files.specs.Progress.{depthOf, ElementJudged, ListJudged, Progressed};
 
@@ -42,13 +42,6 @@ pub enum Judged {
     },
 }
 
-// What stands where an element of a list would begin.
-pub enum Stop {
-    More,
-    Done,
-    Lacking,
-}
-
 // The larger of two numbers.
 fn larger(a: usize, b: usize) -> usize
     ensures { λ r. ⌜ r ≡ max a b ⌝ }
@@ -71,27 +64,6 @@ fn stops(each: bool, until: usize, end: usize) -> bool
         return true;
     }
     until < end
-}
-
-// Whether an element begins at a place of a list, the list ends there, or its end is lacking.
-pub fn stop_at(s: &[u8], at: usize, bound: usize, depth: usize) -> Stop
-    ensures { λ r. ⌜ r ≡ stopOf depth (words (now (s .entry))) at bound ⌝ }
-{
-    if at < bound {
-        if depth == 0 {
-            if words::word(s, at) == 65535 {
-                Stop::Done
-            } else {
-                Stop::More
-            }
-        } else {
-            Stop::More
-        }
-    } else if depth == 0 {
-        Stop::Lacking
-    } else {
-        Stop::Done
-    }
 }
 
 // How far elements of a list were judged, one after another: up to one that ends after a place, or is a header (`last`); up
@@ -169,15 +141,15 @@ fn closed(s: &[u8], bound: usize, depth: usize, progress: Progress) -> Verdict
             elements,
             deepest,
             direct,
-        } => match stop_at(s, place, bound, depth) {
-            Stop::Done => Verdict::Good {
+        } => match ends::stop_at(s, place, bound, depth) {
+            ends::Stop::Done => Verdict::Good {
                 next: place,
                 elements,
                 deepest,
                 direct,
             },
-            Stop::Lacking => Verdict::Fault { number: 2, place },
-            Stop::More => Verdict::Fault { number, place },
+            ends::Stop::Lacking => Verdict::Fault { number: 2, place },
+            ends::Stop::More => Verdict::Fault { number, place },
         },
     }
 }
@@ -199,7 +171,7 @@ fn judge_element(s: &[u8], at: usize, inner: usize, end: usize, depth: usize, di
     requires { ⌜ (at + 20 ≤ inner) × ((inner ≤ end) × ((depth ≤ 8) × (end ≤ length (now s) / 2))) ⌝ }
     ensures { λ r. ⌜ ((under bound : ℕ) → HeadRead dim depth under (now (s .entry)) at bound (Complex inner end) → ElementJudged dim depth under (now (s .entry)) at bound r) ⌝ }
 {
-    let t = elements::type_at(s, at);
+    let t = headers::type_at(s, at);
     if inner == end {
         if count_ok(s, at, t, 0) {
             return Verdict::Good {
@@ -240,7 +212,7 @@ fn judge_element(s: &[u8], at: usize, inner: usize, end: usize, depth: usize, di
     }
 }
 
-// The elements of a list in order, up to and with the first that ends after `until`, or where `each` holds is a header. No
+// The elements of a list in order, up to and with the first that ends after `until`, or, where `each` holds, that is a header. No
 // head stands at the marker or at the list's bound, so what stands there is asked only where there is none. The bound lies in
 // the slice; taking the smaller of it and the slice's end lets the compiler drop the tests of reads before it.
 fn judge_list(
@@ -328,7 +300,7 @@ fn judge_all(s: &[u8], at: usize, bound: usize, depth: usize, under: usize, dim:
     closed(s, bound, depth, progress)
 }
 
-// The elements at the top from a place on, to the first that ends after `until`, or where `each` holds is a header. The slice's
+// The elements at the top from a place on, to the first that ends after `until`, or, where `each` holds, that is a header. The slice's
 // end is their bound.
 pub fn reach(s: &[u8], at: usize, dim: usize, until: usize, each: bool) -> Reached
     ensures { λ r. ⌜ r ≡ reachedOf dim (words (now (s .entry))) at (length (now (s .entry)) / 2) until each ⌝ }
@@ -353,13 +325,13 @@ pub fn reach(s: &[u8], at: usize, dim: usize, until: usize, each: bool) -> Reach
             elements: _,
             deepest: _,
             direct,
-        } => match stop_at(s, place, bound, 0) {
-            Stop::Done => Reached::End {
+        } => match ends::stop_at(s, place, bound, 0) {
+            ends::Stop::Done => Reached::End {
                 place,
                 before: direct,
             },
-            Stop::Lacking => Reached::Fault { number: 2, place },
-            Stop::More => Reached::Fault { number, place },
+            ends::Stop::Lacking => Reached::Fault { number: 2, place },
+            ends::Stop::More => Reached::Fault { number, place },
         },
     }
 }
@@ -393,24 +365,11 @@ pub fn element(s: &[u8], at: usize, depth: usize, under: usize, dim: usize) -> V
     }
 }
 
-// Whether a file may be looked at.
-pub fn call_ok(file: &[u8], dim: usize) -> bool
-    ensures { λ r. ⌜ r ≡ callOk dim (now (file .entry)) ⌝ }
-{
-    if file.len() % 2 != 0 {
-        return false;
-    }
-    if 1048576 < file.len() {
-        return false;
-    }
-    if dim == 2 { true } else { dim == 3 }
-}
-
 // What a file is judged to be: 1 for the call, then the file's first fault, or its elements.
 pub fn judge(file: &[u8], dim: usize) -> Judged
     ensures { λ r. ⌜ r ≡ judgeOf dim (now (file .entry)) ⌝ }
 {
-    if call_ok(file, dim) {
+    if limits::call_ok(file, dim) {
         match judge_all(file, 0, file.len() / 2, 0, 0, dim) {
             Verdict::Good {
                 next,

@@ -10,18 +10,20 @@ use native.Mathlib.Nat.{add-assoc, add-zero}
 use lib.ListN.{length, length-append}
 use lib.Dec.{ltb, leb, eqb}
 use borrow.Author.Tests.{leb-true}
-use Rattle.elements.proofs.Laws.{both-true}
+use Rattle.headers.proofs.Checks.{both-true}
 use Rattle.words.specs.Words.{words}
-use Rattle.elements.specs.Header.{typeAt, sizeAt}
+use Rattle.headers.specs.Header.{typeAt, sizeAt}
 use Rattle.kinds.specs.Kinds.{isHeader}
 use Rattle.names.specs.Names.{packed}
 use Rattle.names.specs.declared.Packed.the-variants as text
-use Rattle.files.specs.Judge.{stopOf, elementOf, callOk, judgeOf}
+use Rattle.ends.specs.Ends.{stopOf}
+use Rattle.files.specs.Judge.{elementOf, judgeOf}
+use Rattle.limits.specs.Limits.{callOk}
 use Rattle.files.specs.Reach.{reachedOf, stopsAfter}
 use Rattle.files.specs.declared.Reached.{Reached}
 use Rattle.files.specs.declared.Reached.the-variants as reached
 use Rattle.files.specs.Spots.{Spot, spotsOf}
-use Rattle.files.specs.declared.Stop.the-variants.{More, Done}
+use Rattle.ends.specs.declared.Stop.the-variants.{More, Done}
 use Rattle.files.specs.declared.Verdict.the-variants.{Good}
 use Rattle.files.specs.declared.Judged.the-variants as judged
 use Rattle.grammar.specs.Grammar.{Extent}

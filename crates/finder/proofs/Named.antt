@@ -6,8 +6,7 @@
 --     one-text         two texts that find the same place are the same text
 use Prim.Native.Nat.{ℕ, _+_}
 use mathlib.Core.Path.{_≡_, refl, sym, ap, ap₂, _∙_, subst}
-use mathlib.Core.Logic.{_⊎_, inl, inr, ⊎-elim}
-use mathlib.Core.Bool.{Bool, true, false, _&&_, _||_, and-eq-true-iff}
+use mathlib.Core.Bool.{Bool, true, false, cond, _&&_, _||_, or-false, and-eq-true-iff}
 use mathlib.Core.List.{List, [], _∷_, _++_, append-nil}
 use native.Mathlib.Omega.{arith}
 use lib.ListN.{length, length-append}
@@ -15,8 +14,9 @@ use lib.Seq.{append-snoc}
 use lib.Dec.{eqb}
 use borrow.Author.Tests.{eqb-true, ne-eqb}
 use Rattle.words.specs.Words.{words, wordAt}
-use Rattle.elements.specs.Header.{typeAt}
-use Rattle.names.specs.Names.{packed, unpacked, answerOf}
+use Rattle.kinds.specs.Kinds.{isCell}
+use Rattle.headers.specs.Header.{typeAt, nameFirst, nameSecond}
+use Rattle.names.specs.Names.{packed, unpacked, textAnswer}
 use Rattle.names.specs.declared.Packed.{Packed}
 use Rattle.names.specs.declared.Packed.the-variants as text
 use Rattle.names.proofs.OneToOne.{unpack-pack, no-two-share}
@@ -31,18 +31,26 @@ use Rattle.finder.specs.Answers.{NoneNamed, FirstAt, Finds, Stored}
 ---- an element that has the name, by its type
 
 module _ (ws : List ℕ) (at a b : ℕ) where
-  -- by the test of each type
-  pub name-one : {t : Bool} → t ≡ (eqb (typeAt ws at) 1 && (eqb (wordAt ws (at + 16)) a && eqb (wordAt ws (at + 16 + 1)) b)) → t ≡ true → true ≡ hasName ws at a b
-  unfolding hasName
-  name-one e q = let n : at + 16 + 1 ≡ at + 17 = omega arith in rw (sym (rw n at e) ∙ q) refl
+  -- the two words of a name from word k on
+  abbrev Words? : ℕ → Bool
+  Words? k = eqb (wordAt ws (at + k)) a && eqb (wordAt ws (at + k + 1)) b
 
-  pub name-two : {t r : Bool} → t ≡ (eqb (typeAt ws at) 1 && (eqb (wordAt ws (at + 16)) a && eqb (wordAt ws (at + 16 + 1)) b)) → t ≡ false →
-      r ≡ (eqb (typeAt ws at) 2 && (eqb (wordAt ws (at + 19)) a && eqb (wordAt ws (at + 19 + 1)) b)) → r ≡ hasName ws at a b
+  by-type : hasName ws at a b ≡ ((eqb (typeAt ws at) 1 && Words? 16) || (eqb (typeAt ws at) 2 && Words? 19))
   unfolding hasName
-  name-two e q f =
-      let n : at + 16 + 1 ≡ at + 17 = omega arith in
-      let m : at + 19 + 1 ≡ at + 20 = omega arith in
-      rw (sym (rw n at e) ∙ q) (rw m at f)
+  by-type = go (eqb (typeAt ws at) 1) (eqb (typeAt ws at) 2) refl refl
+    where
+      go : (x y : Bool) → eqb (typeAt ws at) 1 ≡ x → eqb (typeAt ws at) 2 ≡ y → ((x || (y || false)) && Words? (cond x 16 19)) ≡ ((x && Words? 16) || (y && Words? 19))
+      go true true p q = absurd (omega (arith, eqb-true (typeAt ws at) 1 p, eqb-true (typeAt ws at) 2 q))
+      go true false p q = sym (or-false (Words? 16))
+      go false true p q = refl
+      go false false p q = refl
+
+  pub name-one : {t : Bool} → t ≡ (eqb (typeAt ws at) 1 && Words? 16) → t ≡ true → true ≡ hasName ws at a b
+  name-one e q = rw (by-type, sym e ∙ q) refl
+
+  pub name-two : {t r : Bool} → t ≡ (eqb (typeAt ws at) 1 && Words? 16) → t ≡ false →
+      r ≡ (eqb (typeAt ws at) 2 && Words? 19) → r ≡ hasName ws at a b
+  name-two e q f = rw (by-type, sym e ∙ q) f
 
   pub name-none : (typeAt ws at ≡ 1 → ⊥) → (typeAt ws at ≡ 2 → ⊥) → false ≡ hasName ws at a b
   unfolding hasName
@@ -127,36 +135,25 @@ found-accepted dim s t place looked q = go (judgeOf dim s) refl (packed t) refl 
 abbrev pub Both : ℕ → ℕ → ℕ → ℕ → Type 0
 Both a b x y = (x ≡ a) × (y ≡ b)
 
-both-true : (t k x a y b : ℕ) → (eqb t k && (eqb x a && eqb y b)) ≡ true → (t ≡ k) × Both a b x y
-both-true t k x a y b e =
-    let p = and-eq-true-iff (eqb t k) (eqb x a && eqb y b) .0 e in
-    let q = and-eq-true-iff (eqb x a) (eqb y b) .0 (p .1) in
-    (eqb-true t k (p .0), (eqb-true x a (q .0), eqb-true y b (q .1)))
-
-either : (p q : Bool) → (p || q) ≡ true → (p ≡ true) ⊎ (q ≡ true)
-either true q e = inl refl
-either false q e = inr e
-
 pub named-stored : (ws : List ℕ) (at a b : ℕ) → hasName ws at a b ≡ true → Stored ws at (Both a b)
 unfolding hasName
 named-stored ws at a b e =
-    ⊎-elim (λ h. inl (both-true _ _ _ _ _ _ h)) (λ h. inr (both-true _ _ _ _ _ _ h)) (either _ _ e)
+    let p = and-eq-true-iff (isCell (typeAt ws at)) (eqb (nameFirst ws at) a && eqb (nameSecond ws at) b) .0 e in
+    let q = and-eq-true-iff (eqb (nameFirst ws at) a) (eqb (nameSecond ws at) b) .0 (p .1) in
+    (p .0, (eqb-true _ _ (q .0), eqb-true _ _ (q .1)))
 
 -- the stored name of the cell that is found unpacks to the text
 pub never-another : (dim : ℕ) (s t : List ℕ) (place looked : ℕ) → findOf dim s t ≡ found.At place looked →
-    Stored (words s) place (λ x y. unpacked x y ≡ answerOf t)
+    Stored (words s) place (λ x y. unpacked x y ≡ textAnswer t)
 never-another dim s t place looked q =
     let c = found-accepted dim s t place looked q in
     let u = unpack-pack t (c .first) (c .second) (c .packs) in
-    ⊎-elim (λ h. inl (h .0, ap₂ unpacked (h .1 .0) (h .1 .1) ∙ u)) (λ h. inr (h .0, ap₂ unpacked (h .1 .0) (h .1 .1) ∙ u))
-    (named-stored (words s) place (c .first) (c .second) (c .cell .named))
+    let h = named-stored (words s) place (c .first) (c .second) (c .cell .named) in
+    (h .0, ap₂ unpacked (h .1 .0) (h .1 .1) ∙ u)
 
 -- a cell stores one name
 stored-one : (ws : List ℕ) (at a b c d : ℕ) → Stored ws at (Both a b) → Stored ws at (Both c d) → (a ≡ c) × (b ≡ d)
-stored-one ws at a b c d (inl p) (inl q) = (sym (p .1 .0) ∙ q .1 .0, sym (p .1 .1) ∙ q .1 .1)
-stored-one ws at a b c d (inr p) (inr q) = (sym (p .1 .0) ∙ q .1 .0, sym (p .1 .1) ∙ q .1 .1)
-stored-one ws at a b c d (inl p) (inr q) = absurd (omega (arith, p .0, q .0))
-stored-one ws at a b c d (inr p) (inl q) = absurd (omega (arith, p .0, q .0))
+stored-one ws at a b c d p q = (sym (p .1 .0) ∙ q .1 .0, sym (p .1 .1) ∙ q .1 .1)
 
 -- so two texts that find the same place are the same: 00417 never finds 417
 pub one-text : (dim : ℕ) (s t u : List ℕ) (place n k : ℕ) → findOf dim s t ≡ found.At place n → findOf dim s u ≡ found.At place k → t ≡ u

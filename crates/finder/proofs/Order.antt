@@ -1,16 +1,13 @@
 -- File order: each element starts where the own words of the one before it end, whether it is its first component, its
 -- next sibling or an element further up.
-use Prim.Native.Nat.{ℕ, suc, _+_, _*_, _≤_, _<_}
+use Prim.Native.Nat.{ℕ, suc, _+_, _*_, _≤_}
 use mathlib.Core.Path.{_≡_, refl, subst}
 use mathlib.Core.List.{List, [], _∷_, _++_}
 use mathlib.Core.Option.{Option, none, some}
 use native.Mathlib.Omega.{arith}
-use lib.ListN.{length, getD}
-use mir.Syntax.{w8}
-use mir.Val.{Fits}
+use lib.ListN.{length}
 use Rattle.words.specs.Words.{words}
-use Rattle.words.proofs.Laws.{lent-below, words-below}
-use Rattle.elements.specs.Header.{sizeAt}
+use Rattle.headers.specs.Header.{sizeAt}
 use Rattle.files.specs.Judge.{judgeOf}
 use Rattle.files.specs.Spots.{Spot, spotsOf}
 use Rattle.files.specs.declared.Judged.the-variants.{Accepted}
@@ -18,7 +15,7 @@ use Rattle.finder.specs.Look.{InOrder}
 use Rattle.grammar.proofs.Forest.{Forest, nil, node, flat, Wf, spots, weight, length-node, own-stands, components-stand, rest-stand}
 use Rattle.grammar.proofs.Stands.{Stands}
 use Rattle.grammar.proofs.Rules.{own-size}
-use Rattle.grammar.proofs.Whole.{FileTree, file-tree}
+use Rattle.grammar.proofs.Whole.{file-tree}
 use Rattle.grammar.proofs.Exact.{accepted-is}
 
 pub order-append : (ws : List ℕ) (at mid end : ℕ) (xs ys : List Spot) → InOrder ws at xs mid → InOrder ws mid ys end → InOrder ws at (xs ++ ys) end
@@ -42,19 +39,11 @@ tree-order dim ws depth under header at end (node own k r) w s e =
     let after-it = spots depth header (at + weight own k) r in
     (refl, rw (own-size (w .0) (own-stands own k r s)) (order-append ws (at + length own) (at + weight own k) end under-it after-it inside after))
 
--- the size of an element of lent bytes
-pub size-small : (s : List ℕ) → ((i : ℕ) → Fits w8 (getD s i 0)) → (at : ℕ) → sizeAt (words s) at < 65538
-size-small s b at = omega (arith, words-below s (lent-below s b) (at + 1))
-
 ---- an accepted file
-
--- the tree of an accepted file, whose elements in file order are those of the file
-pub accepted-tree : (dim : ℕ) (s : List ℕ) (e d m : ℕ) → judgeOf dim s ≡ Accepted e d m → FileTree dim (words s) (spotsOf dim (words s)) m
-accepted-tree dim s e d m q = file-tree (accepted-is dim s e d m q .file)
 
 -- a hop by size from 0 meets every element, and then the marker
 pub file-order : (dim : ℕ) (s : List ℕ) (e d m : ℕ) → judgeOf dim s ≡ Accepted e d m → InOrder (words s) 0 (spotsOf dim (words s)) m
 file-order dim s e d m q =
-    let t = accepted-tree dim s e d m q in
+    let t = file-tree (accepted-is dim s e d m q .file) in
     let l = t .end in
     subst (λ xs. InOrder (words s) 0 xs m) (t .read) (tree-order dim (words s) 0 0 none 0 m (t .tree) (t .wf) (t .stands) (omega arith))

@@ -1,12 +1,11 @@
 -- What an answer of the finder says of the elements in file order, and of the name that a cell stores.
 use Prim.Native.Nat.{ℕ, _+_}
 use mathlib.Core.Path.{_≡_}
-use mathlib.Core.Logic.{_⊎_}
 use mathlib.Core.Bool.{true, false}
 use mathlib.Core.List.{List, [], _∷_, _++_}
 use lib.ListN.{length}
-use Rattle.words.specs.Words.{wordAt}
-use Rattle.elements.specs.Header.{typeAt}
+use Rattle.kinds.specs.Kinds.{isCell}
+use Rattle.headers.specs.Header.{typeAt, nameFirst, nameSecond}
 use Rattle.files.specs.Spots.{Spot}
 use Rattle.finder.specs.declared.Found.{Found}
 use Rattle.finder.specs.declared.Found.the-variants as found
@@ -33,8 +32,6 @@ abbrev pub Finds : List ℕ → ℕ → ℕ → List Spot → Found → Type 0
 Finds ws first second xs (found.At place looked) = FirstAt ws first second xs place looked
 Finds ws first second xs (found.Refused number place count) = (number ≡ 13) × (place ≡ 0) × (count ≡ length xs) × NoneNamed ws first second xs
 
--- something holds of the two words that store the name of a type 1 or 2
+-- a cell stands at the place, and something holds of the two words of its name
 abbrev pub Stored : List ℕ → ℕ → (ℕ → ℕ → Type 0) → Type 0
-Stored ws at P =
-    ((typeAt ws at ≡ 1) × P (wordAt ws (at + 16)) (wordAt ws (at + 17)))
-    ⊎ ((typeAt ws at ≡ 2) × P (wordAt ws (at + 19)) (wordAt ws (at + 20)))
+Stored ws at P = (isCell (typeAt ws at) ≡ true) × P (nameFirst ws at) (nameSecond ws at)

@@ -2,10 +2,11 @@
 -- 2 with the name; its place, and how many were looked at, itself counted: its ordinal plus one.
 use Prim.Native.Nat.{ℕ, _+_}
 use mathlib.Core.List.{List, [], _∷_}
-use mathlib.Core.Bool.{Bool, true, false, _&&_, _||_}
+use mathlib.Core.Bool.{Bool, true, false, _&&_}
 use lib.Dec.{eqb}
-use Rattle.words.specs.Words.{words, wordAt}
-use Rattle.elements.specs.Header.{typeAt}
+use Rattle.words.specs.Words.{words}
+use Rattle.kinds.specs.Kinds.{isCell}
+use Rattle.headers.specs.Header.{typeAt, nameFirst, nameSecond}
 use Rattle.names.specs.Names.{packed}
 use Rattle.names.specs.declared.Packed.{Packed}
 use Rattle.names.specs.declared.Packed.the-variants as text
@@ -16,11 +17,9 @@ use Rattle.files.specs.declared.Judged.the-variants as judged
 use Rattle.finder.specs.declared.Found.{Found}
 use Rattle.finder.specs.declared.Found.the-variants as found
 
--- a type 1 or 2 with the name, in words 16-17 or 19-20
+-- a cell, which is a type 1 or 2, with the name
 unfoldable pub hasName : List ℕ → ℕ → ℕ → ℕ → Bool
-hasName ws at first second =
-    (eqb (typeAt ws at) 1 && (eqb (wordAt ws (at + 16)) first && eqb (wordAt ws (at + 17)) second))
-    || (eqb (typeAt ws at) 2 && (eqb (wordAt ws (at + 19)) first && eqb (wordAt ws (at + 20)) second))
+hasName ws at first second = isCell (typeAt ws at) && (eqb (nameFirst ws at) first && eqb (nameSecond ws at) second)
 
 -- an element looked at after n others: it is found, or what the rest answers
 abbrev pub hitIf : Bool → ℕ → ℕ → Found → Found

@@ -1,4 +1,3 @@
 pub mod Finder
 pub mod Look
-pub mod Walk
 pub mod Answers

@@ -1,15 +1,14 @@
-// The elements of an accepted file in file order: the finder, and the walk that gives the next element with its depth.
-// Definitions: specs/Finder, specs/Walk; of one look specs/Look.
+// The finder: the first cell of an accepted file in file order that has a name. Definitions: specs/Finder; of one look
+// specs/Look.
 ghost use mathlib.Core.Path.{_≡_};
 ghost use Prim.Native.Nat.{_+_, _<_};
 ghost use mathlib.Core.Bool.{_&&_};
 ghost use lib.ListN.{length};
 ghost use lib.Dec.{eqb};
 ghost use Rattle.words.specs.Words.{words, wordAt};
-ghost use Rattle.elements.specs.Header.{typeAt, extentAt};
+ghost use Rattle.headers.specs.Header.{typeAt};
 ghost use Rattle.finder.specs.Finder.{hasName, searchOf, findOf};
 ghost use Rattle.finder.specs.Look.{MayLook, MayPass, passedBy, FirstFrom};
-ghost use Rattle.finder.specs.Walk.{closedTo, opens, nextOf, walkStart};
 
 // The first cell with a name: its place and how many elements were looked at, itself counted; or the refusal, 13 with
 // the count of all elements.
@@ -23,13 +22,6 @@ pub enum Found {
         place: usize,
         count: usize,
     },
-}
-
-// A place of the walk in file order: the element's place and depth, and for each depth where the list around it ends.
-pub struct Walk {
-    pub place: usize,
-    pub depth: usize,
-    pub ends: [usize; 9],
 }
 
 // Whether two words stand at a place and after it.
@@ -50,7 +42,7 @@ fn is_named(s: &[u8], at: usize, t: usize, k: usize, first: usize, second: usize
     ensures { λ r. ⌜ r ≡ (eqb (typeAt (words (now (s .entry))) at) t && (eqb (wordAt (words (now (s .entry))) (at + k)) first && eqb (wordAt (words (now (s .entry))) (at + k + 1)) second)) ⌝ }
 {
     if has_words(s, at + k, first, second) {
-        return elements::type_at(s, at) == t;
+        return headers::type_at(s, at) == t;
     }
     false
 }
@@ -93,7 +85,7 @@ fn look(file: &[u8], from: usize, to: usize, before: usize, first: usize, second
                 looked: n + 1,
             };
         }
-        at += elements::size_at(file, at);
+        at += headers::size_at(file, at);
         n += 1;
     }
     Found::Refused {
@@ -127,7 +119,7 @@ fn past(answer: Found, n: usize) -> Found
 fn search(file: &[u8], dim: usize, first: usize, second: usize) -> Found
     ensures { λ r. ⌜ r ≡ searchOf dim (now (file .entry)) first second ⌝ }
 {
-    if !files::call_ok(file, dim) {
+    if !limits::call_ok(file, dim) {
         return refused(1, 0);
     }
     let bound = file.len() / 2;
@@ -181,83 +173,5 @@ pub fn find(file: &[u8], dim: usize, text: &[u8]) -> Found
                 marker: _,
             } => refused(number, fault),
         },
-    }
-}
-
-// The words of the extent of the header at a place.
-fn extent_at(s: &[u8], at: usize) -> usize
-    requires { ⌜ at < length (now s) ⌝ }
-    ensures { λ r. ⌜ r ≡ extentAt (words (now (s .entry))) at ⌝ }
-{
-    19 + words::word(s, at + 18)
-}
-
-// The depth of what follows at `next` an element of a depth: less by each list that ends there.
-fn closed_to(depth: usize, ends: [usize; 9], next: usize) -> usize
-    requires { ⌜ 0 < next ⌝ }
-    ensures { λ r. ⌜ r ≡ closedTo depth ends next ⌝ }
-{
-    let mut d = depth;
-    while 0 < d {
-        if 8 < d {
-            return d;
-        }
-        if ends[d] != next {
-            return d;
-        }
-        d -= 1;
-    }
-    0
-}
-
-// Whether the element at a place opens a list: a header with components, above the deepest depth.
-fn opens_list(s: &[u8], at: usize, depth: usize) -> bool
-    requires { ⌜ at < length (now s) ⌝ }
-    ensures { λ r. ⌜ r ≡ opens (words (now (s .entry))) at depth ⌝ }
-{
-    if 8 <= depth {
-        return false;
-    }
-    if kinds::is_header(elements::type_at(s, at)) {
-        return elements::size_at(s, at) < extent_at(s, at);
-    }
-    false
-}
-
-// The next element in file order of an accepted file: its place, its depth, and the ends of the lists around it. After
-// the last element it is the marker's place.
-pub fn next(file: &[u8], w: Walk) -> Walk
-    ensures { λ r. ⌜ r ≡ nextOf (words (now (file .entry))) w ⌝ }
-{
-    let at = w.place;
-    let depth = w.depth;
-    if file.len() / 2 <= at {
-        return w;
-    }
-    let mut ends = w.ends;
-    let next = at + elements::size_at(file, at);
-    if opens_list(file, at, depth) {
-        ends[depth + 1] = at + extent_at(file, at);
-        return Walk {
-            place: next,
-            depth: depth + 1,
-            ends,
-        };
-    }
-    Walk {
-        place: next,
-        depth: closed_to(depth, ends, next),
-        ends,
-    }
-}
-
-// Where the walk begins: at the first element, or the marker of an empty file.
-pub fn start() -> Walk
-    ensures { λ r. ⌜ r ≡ walkStart ⌝ }
-{
-    Walk {
-        place: 0,
-        depth: 0,
-        ends: [0; 9],
     }
 }

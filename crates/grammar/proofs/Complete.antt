@@ -9,13 +9,14 @@ use native.Mathlib.Omega.{arith}
 use native.Mathlib.Nat.{add-zero}
 use native.Mathlib.Numerals.{add-one}
 use lib.ListN.{length, length-append}
-use Rattle.elements.specs.Header.{typeAt}
+use Rattle.headers.specs.Header.{typeAt}
 use Rattle.kinds.specs.Kinds.{isHeader}
 use Rattle.elements.specs.Rules.{headOf}
 use Rattle.elements.specs.declared.Head.the-variants.{Plain, Complex}
-use Rattle.files.specs.Judge.{stopOf, elementFrom, listFrom}
+use Rattle.ends.specs.Ends.{stopOf}
+use Rattle.files.specs.Judge.{elementFrom, listFrom}
 use Rattle.files.specs.Spots.{deepest, spotsFrom}
-use Rattle.files.specs.declared.Stop.the-variants.{More, Done}
+use Rattle.ends.specs.declared.Stop.the-variants.{More, Done}
 use Rattle.files.specs.declared.Verdict.the-variants.{Good}
 use Rattle.grammar.specs.Grammar.{Own, Extent}
 use Rattle.grammar.proofs.Forest.{Forest, nil, node, flat, num, weight, Wf, spots, length-node, own-stands, components-stand, rest-stand, deepest-append}

@@ -8,10 +8,10 @@ use lib.ListN.{length}
 use lib.Dec.{eqb, ltb, eqb·suc-zero}
 use borrow.Author.Tests.{ltb-true, ltb-false, lt-ltb, le-ltb, eqb-true, ne-eqb}
 use Rattle.words.specs.Words.{wordAt}
-use Rattle.elements.specs.Rules.{reservedOk}
-use Rattle.files.specs.Judge.{stopOf}
-use Rattle.files.specs.declared.Stop.{Stop}
-use Rattle.files.specs.declared.Stop.the-variants.{More, Done, Lacking}
+use Rattle.headers.specs.Flags.{reservedOk}
+use Rattle.ends.specs.Ends.{stopOf}
+use Rattle.ends.specs.declared.Stop.{Stop}
+use Rattle.ends.specs.declared.Stop.the-variants.{More, Done, Lacking}
 use Rattle.grammar.specs.Grammar.{Own}
 use Rattle.grammar.proofs.Stands.{Stands, stands-first}
 use Rattle.grammar.proofs.Rules.{own-two}

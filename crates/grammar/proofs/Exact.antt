@@ -8,7 +8,8 @@ use native.Mathlib.Omega.{arith}
 use lib.ListN.{length, take, drop, take-append-drop}
 use lib.Seq.{take-append-add}
 use Rattle.words.specs.Words.{words}
-use Rattle.files.specs.Judge.{callOk, topOf, answer, judgeOf}
+use Rattle.limits.specs.Limits.{callOk}
+use Rattle.files.specs.Judge.{topOf, answer, judgeOf}
 use Rattle.files.specs.Spots.{Spot, deepest, spotsOf}
 use Rattle.files.specs.declared.Verdict.{Verdict}
 use Rattle.files.specs.declared.Verdict.the-variants.{Good, Fault}

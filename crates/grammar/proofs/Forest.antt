@@ -7,7 +7,7 @@ use mathlib.Core.Option.{Option, some}
 use native.Mathlib.Nat.{add-assoc}
 use native.Mathlib.Omega.{arith}
 use lib.ListN.{length, length-append}
-use Rattle.elements.specs.Header.{typeAt}
+use Rattle.headers.specs.Header.{typeAt}
 use Rattle.files.specs.Spots.{Spot, deepest}
 use Rattle.grammar.specs.Grammar.{Own, Element, element, Components, no-more, more}
 use Rattle.grammar.proofs.Stands.{Stands, stands-left, stands-right}

@@ -1,22 +1,24 @@
 -- The tests of one element read its own words alone: where these words stand at a place, each test at that place is the
 -- test of the words themselves. A type's fixed part says which words are inside.
 use Prim.Native.Nat.{ℕ, _+_, _≤_}
-use mathlib.Core.Path.{_≡_, refl, ap, _∙_}
+use mathlib.Core.Path.{_≡_, refl, sym, ap, ap₂, _∙_}
 use mathlib.Core.Bool.{Bool, true, false, not, _&&_, _||_}
-use mathlib.Core.List.{List, [], _∷_}
+use mathlib.Core.List.{List}
 use native.Mathlib.Omega.{arith}
 use lib.ListN.{length}
 use lib.Dec.{eqb, leb}
-use borrow.Author.Tests.{eqb-true, leb-true}
+use borrow.Author.Tests.{leb-true}
 use Rattle.words.specs.Words.{wordAt}
+use Rattle.names.specs.Names.{nameOk}
 use Rattle.linkages.specs.Linkages.{linkagesFill}
 use Rattle.kinds.specs.FirstWord.{typeOf}
-use Rattle.elements.specs.Header.{typeAt, sizeAt, pointsAt, extentAt, attributesAt, attributePartAt}
-use Rattle.kinds.specs.Kinds.{oneOf, isHeader, isCounted, isPointed, isLinked, fixedPart}
+use Rattle.headers.specs.Header.{typeAt, sizeAt, pointsAt, extentAt, attributesAt, attributePartAt}
+use Rattle.kinds.specs.Kinds.{isHeader, isCounted, isPointed, isLinked, isCell, nameWord, fixedPart}
+use Rattle.headers.proofs.Laws.{own-first, own-second}
 use Rattle.elements.specs.Attributes.{attributesOk, linkagesOk}
 use Rattle.elements.specs.Rules.{fixedOk, storedNameOk, countOk}
 use Rattle.grammar.proofs.Stands.{Stands, stands-word, stands-first}
-use Rattle.kinds.proofs.Types.{header-long, linked-long, fixed-any}
+use Rattle.kinds.proofs.Types.{header-long, linked-long, fixed-any, name-early}
 use Rattle.elements.proofs.Laws.{fixed-least}
 use Rattle.grammar.proofs.Types.{counted-header, pointed-long, cell-long}
 use Rattle.linkages.proofs.Local.{fill-local}
@@ -30,9 +32,6 @@ where-same false h = refl
 and-where-same : (b : Bool) {x y : Bool} → (b ≡ true → x ≡ y) → (b && x) ≡ (b && y)
 and-where-same true h = h refl
 and-where-same false h = refl
-
-and-same : {a b x y : Bool} → a ≡ x → b ≡ y → (a && b) ≡ (x && y)
-and-same e f = rw (e, f) refl
 
 -- the test of the fixed part needs word 18 only of a type with N, and only where the element has it
 fixed-by : (dim t s p q : ℕ) → (19 ≤ s → p ≡ q) →
@@ -76,8 +75,8 @@ module _ (own ws : List ℕ) (at : ℕ) (s : Stands own at ws) (size : sizeAt ow
     own-linked : isLinked (typeAt own 0) ≡ true → 18 ≤ length own
     own-linked h = own-long (linked-long dim (typeAt own 0) (pointsAt own 0) h)
 
-    own-cell : (t : ℕ) → oneOf (1 ∷ 2 ∷ []) t ≡ true → typeAt own 0 ≡ t → 21 ≤ length own
-    own-cell t h e = own-long (cell-long dim (typeAt own 0) (pointsAt own 0) (rw e h))
+    own-cell : isCell (typeAt own 0) ≡ true → 21 ≤ length own
+    own-cell h = own-long (cell-long dim (typeAt own 0) (pointsAt own 0) h)
 
     pub extent-local : isHeader (typeAt own 0) ≡ true → extentAt ws at ≡ extentAt own 0
     extent-local h = let l = own-header h in ap (λ w. 19 + w) (stands-word s 18 (omega arith))
@@ -93,9 +92,10 @@ module _ (own ws : List ℕ) (at : ℕ) (s : Stands own at ws) (size : sizeAt ow
     unfolding storedNameOk
     name-local =
         let t = typeAt own 0 in
-        rw type-local (and-same
-        (where-same (eqb t 1) (λ h. let l = own-cell 1 refl (eqb-true t 1 h) in rw (stands-word s 16 (omega arith), stands-word s 17 (omega arith)) refl))
-        (where-same (eqb t 2) (λ h. let l = own-cell 2 refl (eqb-true t 2 h) in rw (stands-word s 19 (omega arith), stands-word s 20 (omega arith)) refl)))
+        rw type-local (where-same (isCell t) (λ h.
+        let l = own-cell h in
+        let e = name-early t in
+        ap₂ nameOk (stands-word s (nameWord t) (omega arith) ∙ sym (own-first own)) (ap (wordAt ws) (omega arith) ∙ stands-word s (nameWord t + 1) (omega arith) ∙ sym (own-second own))))
 
     fixed-part-local : fixedPart dim (typeAt own 0) (pointsAt ws at) ≡ fixedPart dim (typeAt own 0) (pointsAt own 0)
     fixed-part-local = go (isPointed (typeAt own 0)) refl

@@ -8,14 +8,17 @@ use lib.ListN.{length}
 use lib.Dec.{leb}
 use borrow.Author.Tests.{leb-true}
 use Rattle.words.specs.Words.{words}
-use Rattle.elements.specs.Header.{typeAt}
-use Rattle.elements.specs.Rules.{Check, check, firstFault, checks, faultOf, headOf, countOk}
+use Rattle.headers.specs.Header.{typeAt}
+use Rattle.headers.specs.Checks.{Check, check, firstFault}
+use Rattle.elements.specs.Rules.{checks, faultOf, headOf, countOk}
 use Rattle.elements.specs.declared.Head.{Head}
 use Rattle.elements.specs.declared.Head.the-variants.{Bad, Plain, Complex}
 use Rattle.elements.proofs.Laws.{head-means, fault-none, header-within}
-use Rattle.files.specs.Judge.{stopOf, addTo, andThen, enclose, elementBy, listBy, elementFrom, listFrom, elementOf, topOf, callOk, answer, judgeOf}
-use Rattle.files.specs.declared.Stop.{Stop}
-use Rattle.files.specs.declared.Stop.the-variants.{More, Done, Lacking}
+use Rattle.ends.specs.Ends.{stopOf}
+use Rattle.files.specs.Judge.{addTo, andThen, enclose, elementBy, listBy, elementFrom, listFrom, elementOf, topOf, answer, judgeOf}
+use Rattle.limits.specs.Limits.{callOk}
+use Rattle.ends.specs.declared.Stop.{Stop}
+use Rattle.ends.specs.declared.Stop.the-variants.{More, Done, Lacking}
 use Rattle.files.specs.declared.Verdict.{Verdict}
 use Rattle.files.specs.declared.Verdict.the-variants.{Good, Fault}
 use Rattle.files.specs.declared.Judged.the-variants.{Refused}

@@ -8,7 +8,7 @@ use native.Mathlib.Omega.{arith}
 use lib.ListN.{length}
 use lib.Dec.{eqb, leb}
 use borrow.Author.Tests.{leb-true, le-leb, eqb-true}
-use Rattle.elements.specs.Header.{typeAt, sizeAt, extentAt}
+use Rattle.headers.specs.Header.{typeAt, sizeAt, extentAt}
 use Rattle.kinds.specs.Kinds.{isHeader}
 use Rattle.elements.specs.Rules.{fixedOk, extentOk, faultOf, headOf, countOk}
 use Rattle.elements.specs.declared.Head.{Head}

@@ -5,7 +5,7 @@ use mathlib.Core.List.{[], _∷_}
 use mathlib.Core.Bool.{Bool, true, false, false≢true}
 use native.Mathlib.Omega.{arith}
 use lib.Dec.{eqb}
-use Rattle.kinds.specs.Kinds.{oneOf, isHeader, isCounted, isPointed, fixedPart}
+use Rattle.kinds.specs.Kinds.{isHeader, isCounted, isPointed, isCell, fixedPart}
 use Rattle.kinds.proofs.Types.{each-named, both}
 
 -- a header that has a count is a header
@@ -28,6 +28,6 @@ pointed-long dim t n =
     each-named (λ k. 19 ≤ fixedPart dim k n) (4 ∷ 6 ∷ 11 ∷ 21 ∷ []) t (points, (points, (points, (points, tt))))
 
 -- a cell has at least 21 words, its name among them
-pub cell-long : (dim t n : ℕ) → oneOf (1 ∷ 2 ∷ []) t ≡ true → 21 ≤ fixedPart dim t n
+pub cell-long : (dim t n : ℕ) → isCell t ≡ true → 21 ≤ fixedPart dim t n
 unfolding fixedPart
 cell-long dim t n = each-named (λ k. 21 ≤ fixedPart dim k n) (1 ∷ 2 ∷ []) t (omega arith, (both 21 46 62 (omega arith) (omega arith) (eqb dim 2), tt))

@@ -8,10 +8,11 @@ use mathlib.Core.List.{List, [], _∷_, _++_}
 use mathlib.Core.Option.{Option, none, some}
 use lib.ListN.{length}
 use Rattle.words.specs.Words.{wordAt}
-use Rattle.elements.specs.Header.{typeAt, sizeAt, extentAt}
+use Rattle.headers.specs.Header.{typeAt, sizeAt, extentAt}
 use Rattle.kinds.specs.Kinds.{isHeader, mayStand}
 use Rattle.elements.specs.Attributes.{linkagesOk}
-use Rattle.elements.specs.Rules.{reservedOk, placeOk, fixedOk, storedNameOk, countOk}
+use Rattle.headers.specs.Flags.{reservedOk, placeOk}
+use Rattle.elements.specs.Rules.{fixedOk, storedNameOk, countOk}
 use Rattle.files.specs.Spots.{Spot}
 
 -- a header's total counts its own words after word 18 and all words under it, and its extent has at most 65,535

@@ -5,7 +5,7 @@ use mathlib.Core.Bool.{true}
 use mathlib.Core.List.{List}
 use lib.ListN.{length}
 use Rattle.words.specs.Words.{words}
-use Rattle.files.specs.Judge.{callOk}
+use Rattle.limits.specs.Limits.{callOk}
 use Rattle.files.specs.Spots.{deepest, spotsOf}
 use Rattle.grammar.specs.Grammar.{File}
 

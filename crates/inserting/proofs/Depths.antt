@@ -8,13 +8,13 @@ use native.Mathlib.Omega.{arith}
 use lib.ListN.{length}
 use lib.Dec.{eqb, leb, ltb}
 use borrow.Author.Tests.{ltb-true, ltb-false, leb-true, leb-false, eqb-true, eqb-false}
-use Rattle.elements.specs.Header.{typeAt, sizeAt}
+use Rattle.headers.specs.Header.{typeAt, sizeAt, extentWords}
 use Rattle.kinds.specs.Kinds.{isHeader}
 use Rattle.places.specs.declared.Above.{Above}
 use Rattle.places.specs.declared.Above.the-variants.{Top, Under}
 use Rattle.places.specs.declared.Spotted.{Spotted}
 use Rattle.places.specs.declared.Spotted.the-variants as spotted
-use Rattle.places.specs.Descent.{extentWords, locateFrom, descentTo, locateOf}
+use Rattle.places.specs.Descent.{locateFrom, descentTo, locateOf}
 use Rattle.places.proofs.Descent.{locate-over, locate-into, locate-own, locate-here, locate-past}
 use Rattle.places.proofs.Places.{locate-before, locate-after, locate-outside}
 

@@ -10,7 +10,7 @@ use lib.ListN.{length}
 use lib.Dec.{eqb}
 use borrow.Author.Tests.{eqb-true, eqb-false, eq-eqb, ne-eqb}
 use Rattle.words.specs.Words.{words, Below}
-use Rattle.elements.specs.Header.{typeAt}
+use Rattle.headers.specs.Header.{typeAt}
 use Rattle.kinds.specs.Kinds.{isHeader}
 use Rattle.files.specs.Spots.{Spot, spotsOf, spotIn}
 use Rattle.places.specs.declared.Above.{Above}

@@ -9,13 +9,13 @@ use lib.Dec.{eqb}
 use Rattle.words.specs.Words.{words}
 use Rattle.places.specs.declared.Above.{Above}
 use Rattle.places.specs.declared.Spotted.{Spotted}
-use Rattle.edits.specs.Allowed.{Fault?, fine, fault, orElse}
+use Rattle.edits.specs.Allowed.{Fault?, fine, fault, orElse, pieceRefusal}
 use Rattle.edits.specs.Records.{isFine}
 use Rattle.faults.specs.Faults.{standsUnder}
 use Rattle.inserting.specs.declared.Components.the-variants as components
 use Rattle.inserting.specs.declared.Fault.{Fault}
 use Rattle.inserting.specs.declared.Fault.the-variants as answer
-use Rattle.inserting.specs.Inserting.{componentsOf, pieceRefusal, roomUnder, insertRefusal, answerOf}
+use Rattle.inserting.specs.Inserting.{componentsOf, roomUnder, insertRefusal, answerOf}
 
 ---- the first of two refusals
 

@@ -7,15 +7,14 @@ use mathlib.Core.Bool.{cond, _||_}
 use lib.ListN.{length}
 use lib.Dec.{eqb}
 use Rattle.words.specs.Words.{words}
-use Rattle.elements.specs.Header.{typeAt}
+use Rattle.headers.specs.Header.{typeAt}
 use Rattle.kinds.specs.Kinds.{isHeader}
-use Rattle.files.specs.Judge.{elementOf}
 use Rattle.places.specs.declared.Above.{Above}
 use Rattle.places.specs.declared.Above.the-variants.{Top, Under}
 use Rattle.places.specs.declared.Spotted.{Spotted}
 use Rattle.places.specs.declared.Spotted.the-variants as spotted
 use Rattle.places.specs.Descent.{locateOf}
-use Rattle.edits.specs.Allowed.{Fault?, fine, fault, orElse, unless, wholeBy}
+use Rattle.edits.specs.Allowed.{Fault?, fine, fault, orElse, unless, pieceRefusal}
 use Rattle.totals.specs.Totals.{roomOf, roomFaultBy}
 use Rattle.faults.specs.Faults.{standsUnder}
 use Rattle.inserting.specs.declared.Components.{Components}
@@ -32,10 +31,6 @@ componentsBy (spotted.Refused n p) type = components.Absent
 abbrev pub componentsOf : List ℕ → ℕ → Above → Components
 componentsOf ws marker Top = components.Listed marker 0 0
 componentsOf ws marker (Under h) = componentsBy (locateOf ws h marker) (typeAt ws h)
-
--- the piece's own refusal at its depth under that type, places in the piece; words left over last, at the first of them
-abbrev pub pieceRefusal : ℕ → ℕ → ℕ → List ℕ → Fault?
-pieceRefusal dim depth under x = wholeBy (elementOf dim depth under x 0 (length x)) (length x)
 
 -- 8 at the outermost enclosing header that would grow too large by n words; s are the used bytes
 abbrev pub roomUnder : List ℕ → Above → ℕ → Fault?

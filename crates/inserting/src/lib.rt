@@ -6,8 +6,9 @@ ghost use mathlib.Core.Bool.{_||_};
 ghost use lib.Dec.{eqb};
 ghost use Rattle.words.specs.Words.{words};
 ghost use Rattle.places.specs.declared.Above.the-variants.{Under};
+ghost use Rattle.edits.specs.Allowed.{pieceRefusal};
 ghost use Rattle.faults.specs.Faults.{standsUnder};
-ghost use Rattle.inserting.specs.Inserting.{componentsOf, pieceRefusal, roomUnder, insertRefusal, answerOf};
+ghost use Rattle.inserting.specs.Inserting.{componentsOf, roomUnder, insertRefusal, answerOf};
 use places::Above;
 use places::Spotted;
 
@@ -37,7 +38,7 @@ fn components_under(used: &[u8], marker: usize, header: usize) -> Components
             depth,
             above: _,
         } => {
-            let under = elements::type_at(used, header);
+            let under = headers::type_at(used, header);
             if kinds::is_header(under) {
                 return Components::Listed {
                     end,

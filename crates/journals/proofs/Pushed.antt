@@ -9,25 +9,16 @@ use native.Mathlib.Omega.{arith}
 use lib.ListN.{length, length-append}
 use lib.Dec.{eqb, leb}
 use borrow.Author.Tests.{eq-eqb, le-leb, eqb-true, leb-true}
-use Rattle.words.specs.Words.{words, bytes, Below}
-use Rattle.words.proofs.Laws.{length-words, length-bytes, bytes-words}
+use Rattle.words.specs.Words.{words, bytes, Below, over}
+use Rattle.words.proofs.Laws.{length-words, bytes-append, bytes-words}
 use Rattle.edits.specs.Records.{six, long, placeOf}
 use Rattle.edits.specs.Calls.{pushed}
 use Rattle.edits.proofs.Journal.{six-long}
-use Rattle.buffers.specs.Moves.{over}
-use Rattle.buffers.proofs.Over.{over-over}
+use Rattle.words.proofs.Over.{over-over}
 use Rattle.buffers.proofs.Fits.{kept}
 use Rattle.journals.specs.Journals.{pushFits, recordPushed}
 
 ---- the bytes of a record
-
-bytes-append : (a b : List ℕ) → bytes (a ++ b) ≡ bytes a ++ bytes b
-bytes-append [] b = refl
-bytes-append (w ∷ a) b = ap (λ l. w % 256 ∷ w / 256 % 256 ∷ l) (bytes-append a b)
-
-pushed-over : (s : List ℕ) (n : ℕ) (ws : List ℕ) → pushed s n ws ≡ over s n (bytes ws)
-unfolding pushed over
-pushed-over s n ws = rw (length-bytes ws) refl
 
 -- a header place as a long, from its number
 pub long-placed : (h : ℕ) → long (placeOf h) ≡ h / 65536 ∷ h % 65536 ∷ []
@@ -44,7 +35,7 @@ push-copies s x t s₁ s₂ used k h p b even l e f g =
     let y : bytes (words x ++ six k h p (length (words x))) ≡ x ++ t =
     bytes-append (words x) (six k h p (length (words x))) ∙ rw (bytes-words x (length x / 2) (omega arith) b) (ap (λ z. x ++ z) (sym t′)) in
     g ∙ rw f (over-over s used x (used + length x) t refl (omega arith))
-    ∙ sym (pushed-over s used (words x ++ six k h p (length (words x))) ∙ ap (over s used) y)
+    ∙ sym (ap (over s used) y)
 
 ---- what fits
 

@@ -14,7 +14,7 @@ use borrow.Author.Tests.{le-leb, lt-leb, eq-eqb, ne-eqb, eqb-true}
 use Rattle.words.specs.Words.{words, wordAt, WordRead, LongRead}
 use Rattle.words.proofs.Laws.{length-words}
 use Rattle.edits.specs.Records.{Rec, flag, renamed, inserted, removed, placeOf, atTop, build, readAt, lastRecord}
-use Rattle.journals.specs.Journals.{formedBy, wellFormed, Within, RecordRead, LastRead}
+use Rattle.journals.specs.Journals.{formedBy, wellFormed, RecordWithin, RecordRead, LastRead}
 use Rattle.journals.specs.declared.Last.{Last}
 use Rattle.journals.specs.declared.Last.the-variants.{Bad, Flag, Renamed, Inserted, Removed}
 
@@ -67,7 +67,7 @@ module _ (j : List ℕ) (t n kind header p : ℕ) (R : Six j t n kind header p) 
       }
 
   -- the bytes before the record
-  within-of : (k : ℕ) → k ≤ n → Within (length j) k p (2 * (t - n))
+  within-of : (k : ℕ) → k ≤ n → RecordWithin (length j) k p (2 * (t - n))
   within-of k h =
       record {
         even = omega arith;
@@ -146,7 +146,7 @@ module _ (j : List ℕ) (n : ℕ) (l : 6 ≤ length j / 2) (e : n ≡ wordAt (wo
   last-read r R = record { is = R .is ∙ sym last-at; within = R .within }
 
 -- the used length before a record that was read, by the words before it
-pub before-length : (j : List ℕ) (n p before : ℕ) → Within (length j) n p before → 2 * length (take (before / 2) (words j)) ≡ before
+pub before-length : (j : List ℕ) (n p before : ℕ) → RecordWithin (length j) n p before → 2 * length (take (before / 2) (words j)) ≡ before
 before-length j n p before W =
     let even = W .even in
     let room = W .room in

@@ -44,7 +44,7 @@ recordIn js (Removed h p n before) = some (removed (placeOf h) p (take n (drop (
 
 -- the used length before a record is even, its payload of n words and its six words stand within the size bytes, and
 -- its place is a long
-pub record Within (size n p before : ℕ) : Type 0 where
+pub record RecordWithin (size n p before : ℕ) : Type 0 where
   pub even : before % 2 ≡ 0
   pub room : before + 2 * n + 12 ≤ size
   pub small : p < 4294967296
@@ -52,10 +52,10 @@ pub record Within (size n p before : ℕ) : Type 0 where
 -- what holds of the numbers of an answer: a header place is a long, and the two old words are words
 abbrev pub LastWithin : ℕ → Last → Type 0
 LastWithin size Bad = Unit {0}
-LastWithin size (Flag p before) = Within size 0 p before
-LastWithin size (Renamed p a b before) = (a < 65536) × (b < 65536) × Within size 2 p before
-LastWithin size (Inserted h p before) = (h < 4294967296) × Within size 0 p before
-LastWithin size (Removed h p n before) = (h < 4294967296) × Within size n p before
+LastWithin size (Flag p before) = RecordWithin size 0 p before
+LastWithin size (Renamed p a b before) = (a < 65536) × (b < 65536) × RecordWithin size 2 p before
+LastWithin size (Inserted h p before) = (h < 4294967296) × RecordWithin size 0 p before
+LastWithin size (Removed h p n before) = (h < 4294967296) × RecordWithin size n p before
 
 -- what reading the record at word t, with a payload of n words, answers
 pub record RecordRead (j : List ℕ) (t n : ℕ) (r : Last) : Type 0 where

@@ -8,7 +8,7 @@ use native.Mathlib.Omega.{arith}
 use borrow.Author.Tests.{ne-eqb, eqb-true}
 use types.Run.{OneOf}
 use lib.Dec.{eqb, ltb}
-use Rattle.kinds.specs.Kinds.{oneOf, isHeader, isCounted, isPointed, isLinked, isUnread, fixedPart, mayStand}
+use Rattle.kinds.specs.Kinds.{oneOf, isHeader, isCounted, isPointed, isLinked, isUnread, fixedPart, mayStand, nameWord}
 
 -- a property of each number of a list
 abbrev pub Each : (ℕ → Type 0) → List ℕ → Type 0
@@ -39,6 +39,21 @@ none-in xs ys (k ∷ ks) t p q c =
     let both = and-eq-true-iff (oneOf xs k || oneOf ys k) (covered xs ys ks) .0 c in
     let other : t ≡ k → ⊥ = λ e. false≢true (rw (rw e at (none-of xs t p), rw e at (none-of ys t q)) at (both .0)) in
     simp (ne-eqb t k other, none-in xs ys ks t p q (both .1))
+
+-- a cell's name begins from word 16 to word 19
+pub name-late : (t : ℕ) → 16 ≤ nameWord t
+name-late t = go (eqb t 1)
+  where
+    go : (b : Bool) → 16 ≤ cond b 16 19
+    go true = omega arith
+    go false = omega arith
+
+pub name-early : (t : ℕ) → nameWord t ≤ 19
+name-early t = go (eqb t 1)
+  where
+    go : (b : Bool) → cond b 16 19 ≤ 19
+    go true = omega arith
+    go false = omega arith
 
 -- from either of two tests
 or-else : {A : Type 0} (b c : Bool) → (b ≡ true → A) → (c ≡ true → A) → (b || c) ≡ true → A

@@ -1,5 +1,6 @@
--- Word 0 of an element and its fields (document 01, "The element header").
+-- Word 0 of an element and its fields (document 01, "The element header"), and a flag as a number.
 use Prim.Native.Nat.{ℕ, _/_, _%_}
+use mathlib.Core.Bool.{Bool, cond}
 
 -- bits 0-5
 abbrev pub levelOf : ℕ → ℕ
@@ -20,3 +21,7 @@ typeOf w = w / 256 % 128
 -- bit 15
 abbrev pub deletedOf : ℕ → ℕ
 deletedOf w = w / 32768 % 2
+
+-- a flag as a bit: true is 1
+abbrev pub bit : Bool → ℕ
+bit b = cond b 1 0

@@ -2,7 +2,7 @@
 use Prim.Native.Nat.{ℕ, _+_, _*_}
 use mathlib.Core.List.{List, [], _∷_}
 use mathlib.Core.Bool.{Bool, false, not, _&&_, _||_, cond}
-use lib.Dec.{eqb}
+use lib.Dec.{eqb, leb}
 
 -- a type is one of a list
 abbrev pub oneOf : List ℕ → ℕ → Bool
@@ -20,6 +20,10 @@ isCounted = oneOf (7 ∷ 12 ∷ 14 ∷ 18 ∷ 19 ∷ [])
 abbrev pub isPointed : ℕ → Bool
 isPointed = oneOf (4 ∷ 6 ∷ 11 ∷ 21 ∷ [])
 
+-- N, their number of points, is from 2 to 101
+abbrev pub pointsWithin : ℕ → Bool
+pointsWithin n = leb 2 n && leb n 101
+
 -- the types that may have attributes: every known type but 1
 abbrev pub isLinked : ℕ → Bool
 isLinked = oneOf (2 ∷ 3 ∷ 4 ∷ 6 ∷ 7 ∷ 11 ∷ 12 ∷ 14 ∷ 17 ∷ 18 ∷ 19 ∷ 21 ∷ [])
@@ -27,6 +31,13 @@ isLinked = oneOf (2 ∷ 3 ∷ 4 ∷ 6 ∷ 7 ∷ 11 ∷ 12 ∷ 14 ∷ 17 ∷ 18 �
 -- the types that are refused wherever they stand
 abbrev pub isUnread : ℕ → Bool
 isUnread = oneOf (24 ∷ 27 ∷ 87 ∷ [])
+
+-- the cells, which have a name of two words: it begins at word 16 of type 1, at word 19 of type 2
+abbrev pub isCell : ℕ → Bool
+isCell = oneOf (1 ∷ 2 ∷ [])
+
+abbrev pub nameWord : ℕ → ℕ
+nameWord t = cond (eqb t 1) 16 19
 
 -- the fixed part in words; a point has as many longs as the file has dimensions. A raw element has at least 2
 unfoldable pub fixedPart : ℕ → ℕ → ℕ → ℕ

@@ -1,20 +1,16 @@
 -- Bytes put into a buffer one after another, from its front on, are the line written over it.
-use Prim.Native.Nat.{ℕ, suc, _+_, _/_, _%_, _^_, _≤_, _<_}
-use mathlib.Core.Path.{_≡_, refl, sym, ap, _∙_}
+use Prim.Native.Nat.{ℕ, _+_, _/_, _%_, _^_, _≤_, _<_}
+use mathlib.Core.Path.{_≡_, refl, ap, _∙_}
 use mathlib.Core.List.{List, [], _∷_, _++_}
 use native.Mathlib.Omega.{arith}
-use native.Mathlib.Nat.{add-zero, zero-add}
-use lib.ListN.{length, getD, set, take, drop, length-append, length-take}
-use lib.Seq.{sets, sets-eq, take-suc, length-take-le}
+use lib.ListN.{length, take, length-append, length-take}
+use lib.Seq.{sets, sets-eq}
 use borrow.Author.Tests.{le-leb, lt-leb}
-use Rattle.listing.specs.Lines.{decimal, nameField, written, writtenLength, Writes}
+use Rattle.words.specs.Words.{over}
+use Rattle.words.proofs.Puts.{sets-then}
+use Rattle.listing.specs.Lines.{decimal, nameField, written, writtenLength, WritesLine}
 use Rattle.listing.specs.Puts.{Puts}
 use Rattle.listing.proofs.Decimal.{length-decimal, decimal-one, decimal-more}
-
--- bytes put behind others
-sets-then : (s : List ℕ) (at : ℕ) (x y : List ℕ) (m : ℕ) → m ≡ at + length x → sets (sets s at x) m y ≡ sets s at (x ++ y)
-sets-then s at [] y m e = ap (λ i. sets s i y) (e ∙ add-zero at)
-sets-then s at (a ∷ x) y m e = sets-then (set s at a) (suc at) x y m (omega arith)
 
 pub puts-then : {s t u : List ℕ} {at m r : ℕ} {x y : List ℕ} → Puts s at x t m → Puts t m y u r → Puts s at (x ++ y) u r
 puts-then {s} {t} {u} {at} {m} {r} {x} {y} p q = record {
@@ -22,25 +18,17 @@ puts-then {s} {t} {u} {at} {m} {r} {x} {y} p q = record {
   next = simp length-append (omega arith);
 }
 
--- a turn of the loop that puts the bytes of x, one by one
-pub put-turn : (s t x : List ℕ) (at k : ℕ) → t ≡ sets s at (take k x) → k < length x → set t (at + k) (getD x k 0) ≡ sets s at (take (suc k) x)
-put-turn s t x at k e h =
-    let l = length-take-le k x (omega arith) in
-    ap (λ u. set u (at + k) (getD x k 0)) e
-    ∙ sets-then s at (take k x) (getD x k 0 ∷ []) (at + k) (omega arith)
-    ∙ ap (sets s at) (sym (take-suc x k 0 h))
-
 -- a line put from a buffer's front on, where it has 100 bytes
-pub line-written : (s line t : List ℕ) (r : ℕ) → Puts s 0 line t r → r ≤ length s → 100 ≤ length s → Writes s line t r
-unfolding written writtenLength
+pub line-written : (s line t : List ℕ) (r : ℕ) → Puts s 0 line t r → r ≤ length s → 100 ≤ length s → WritesLine s line t r
+unfolding written writtenLength over
 line-written s line t r p h l = record {
-  bytes = rw (le-leb 100 (length s) l) (p .bytes ∙ sets-eq line s 0 (omega arith) ∙ ap (λ i. line ++ drop i s) (zero-add (length line)));
+  bytes = rw (le-leb 100 (length s) l) (p .bytes ∙ sets-eq line s 0 (omega arith));
   count = rw (le-leb 100 (length s) l) (omega arith);
   within = h;
 }
 
 -- no line where it has fewer
-pub no-line : (s line : List ℕ) → length s < 100 → Writes s line s 0
+pub no-line : (s line : List ℕ) → length s < 100 → WritesLine s line s 0
 unfolding written writtenLength
 no-line s line h = record { bytes = rw (lt-leb 100 (length s) h) refl; count = rw (lt-leb 100 (length s) h) refl; within = omega arith }
 

@@ -3,15 +3,9 @@ use Prim.Native.Nat.{ℕ, zero, suc, _+_, _/_, _%_, _≤_}
 use mathlib.Core.Path.{_≡_}
 use mathlib.Core.List.{List, [], _∷_, _++_}
 use mathlib.Core.Bool.{Bool, true, false, cond}
-use lib.ListN.{length, take, drop}
-use lib.Dec.{ltb, leb, eqb}
-use Rattle.words.specs.Words.{wordAt}
-use Rattle.names.specs.Names.{unpacked}
-use Rattle.names.specs.declared.Answer.{Answer}
-use Rattle.names.specs.declared.Answer.the-variants.{Text, Refused}
-use Rattle.names.specs.declared.Unpacked.{Unpacked}
-use Rattle.kinds.specs.FirstWord.{deletedOf}
-use Rattle.elements.specs.Header.{typeAt, sizeAt}
+use lib.ListN.{length, take}
+use Rattle.words.specs.Words.{over}
+use lib.Dec.{ltb, leb}
 
 -- a number in decimal digits; the first number bounds how many there are
 unfoldable pub digitsFrom : ℕ → ℕ → List ℕ
@@ -41,26 +35,6 @@ unfoldable pub elementLine : ℕ → ℕ → ℕ → ℕ → Bool → List ℕ �
 elementLine place depth kind size deleted name =
     field place ++ (field depth ++ (field kind ++ (field size ++ (state deleted ++ (nameField (take 6 name) ++ (10 ∷ []))))))
 
--- the number of letters of an unpacked text; none where the words are refused
-abbrev pub textLength : Answer → ℕ
-textLength (Text n) = n
-textLength (Refused n p) = 0
-
--- the letters of an unpacked text
-abbrev pub unpackedText : Unpacked → List ℕ
-unpackedText u = take (textLength (u .answer)) (u .letters)
-
--- the name of the element at a place: words 16-17 of a type 1, 19-20 of a type 2; only cells have a name
-unfoldable pub nameText : List ℕ → ℕ → List ℕ
-nameText ws at =
-    cond (eqb (typeAt ws at) 1) (unpackedText (unpacked (wordAt ws (at + 16)) (wordAt ws (at + 17))))
-    (cond (eqb (typeAt ws at) 2) (unpackedText (unpacked (wordAt ws (at + 19)) (wordAt ws (at + 20))))
-    [])
-
--- the line of the element at a place of the words, at a depth; WORDS is its own size
-unfoldable pub lineOf : List ℕ → ℕ → ℕ → List ℕ
-lineOf ws at depth = elementLine at depth (typeAt ws at) (sizeAt ws at) (eqb (deletedOf (wordAt ws at)) 1) (nameText ws at)
-
 -- "PLACE DEPTH TYPE WORDS STATE NAME", and a line feed
 unfoldable pub headingLine : List ℕ
 headingLine =
@@ -81,14 +55,14 @@ endLine marker = (69 ∷ 78 ∷ 68 ∷ 32 ∷ []) ++ (decimal marker ++ (10 ∷ 
 
 -- a line over a buffer's front; nothing where it has fewer than 100 bytes
 unfoldable pub written : List ℕ → List ℕ → List ℕ
-written s line = cond (leb 100 (length s)) (line ++ drop (length line) s) s
+written s line = cond (leb 100 (length s)) (over s 0 line) s
 
 -- the number of bytes so written
 unfoldable pub writtenLength : List ℕ → List ℕ → ℕ
 writtenLength s line = cond (leb 100 (length s)) (length line) 0
 
 -- a line is written into a buffer s: what it then is, and the answer, which is within it
-pub record Writes (s line t : List ℕ) (r : ℕ) : Type 0 where
+pub record WritesLine (s line t : List ℕ) (r : ℕ) : Type 0 where
   pub bytes : t ≡ written s line
   pub count : r ≡ writtenLength s line
   pub within : r ≤ length s

@@ -1,12 +1,9 @@
-// The lines that celllist prints, each written to the front of a lent buffer. The definitions are in specs/Lines.
-ghost use mathlib.Core.Path.{_≡_};
+// The lines that celllist prints, each from its fields, written to the front of a lent buffer. Defined in specs/Lines.
 ghost use Prim.Native.Nat.{_+_, _≤_};
 ghost use mathlib.Core.List.{[], _∷_};
 ghost use lib.ListN.{length, take};
-ghost use Rattle.words.specs.Words.{words, WordRead};
-ghost use Rattle.elements.specs.Header.{typeAt};
-ghost use Rattle.listing.specs.Lines.{decimal, field, state, nameField, elementLine, textLength, lineOf, headingLine, refusedLine, endLine, Writes};
-ghost use Rattle.listing.specs.Puts.{Puts, Named};
+ghost use Rattle.listing.specs.Lines.{decimal, field, state, nameField, elementLine, headingLine, refusedLine, endLine, WritesLine};
+ghost use Rattle.listing.specs.Puts.{Puts};
 
 // One byte.
 fn put_byte(buf: &mut [u8], at: usize, b: u8) -> usize
@@ -99,7 +96,7 @@ pub fn element_line(
     deleted: bool,
     name: &[u8],
 ) -> usize
-    ensures { λ r. ⌜ Writes (now (buf .entry)) (elementLine place depth kind size deleted (now (name .entry))) (now (buf .exit)) r ⌝ }
+    ensures { λ r. ⌜ WritesLine (now (buf .entry)) (elementLine place depth kind size deleted (now (name .entry))) (now (buf .exit)) r ⌝ }
 {
     if buf.len() < 100 {
         return 0;
@@ -113,64 +110,9 @@ pub fn element_line(
     put_line_feed(buf, at)
 }
 
-// Word k of the element at a place.
-fn word_of(file: &[u8], at: usize, k: usize) -> usize
-    requires { ⌜ k ≤ 20 ⌝ }
-    ensures { λ r. ⌜ WordRead (now (file .entry)) (at + k) r ⌝ }
-{
-    if at < file.len() {
-        words::word(file, at + k)
-    } else {
-        0
-    }
-}
-
-// The name of the element at a place, by its type; a type that has none answers as an empty name.
-fn name_of(file: &[u8], at: usize, kind: usize) -> names::Unpacked
-    requires { ⌜ kind ≡ typeAt (words (now file)) at ⌝ }
-    ensures { λ r. ⌜ Named (words (now (file .entry))) at r ⌝ }
-{
-    if kind == 1 {
-        return names::unpack(word_of(file, at, 16), word_of(file, at, 17));
-    }
-    if kind == 2 {
-        return names::unpack(word_of(file, at, 19), word_of(file, at, 20));
-    }
-    names::unpack(0, 0)
-}
-
-// The number of letters of an unpacked text.
-fn text_length(answer: names::Answer) -> usize
-    ensures { λ r. ⌜ r ≡ textLength answer ⌝ }
-{
-    match answer {
-        names::Answer::Text { length } => length,
-        names::Answer::Refused {
-            number: _,
-            place: _,
-        } => 0,
-    }
-}
-
-// The line of the element that starts at a place of a file, and the number of its bytes. Where nothing stands all words
-// are 0. The buffer needs 100 bytes: with fewer nothing is written.
-pub fn line(file: &[u8], at: usize, depth: usize, buf: &mut [u8]) -> usize
-    ensures { λ r. ⌜ Writes (now (buf .entry)) (lineOf (words (now (file .entry))) at depth) (now (buf .exit)) r ⌝ }
-{
-    let first = words::word(file, at);
-    let kind = kinds::type_of(first);
-    let size = word_of(file, at, 1) + 2;
-    let deleted = first / 32768 % 2 == 1;
-    let name = name_of(file, at, kind);
-    let answer = name.answer;
-    let letters = name.letters;
-    let length = text_length(answer);
-    element_line(buf, at, depth, kind, size, deleted, &letters[..length])
-}
-
 // The heading, and the number of its bytes. The buffer needs 100 bytes: with fewer nothing is written.
 pub fn heading(buf: &mut [u8]) -> usize
-    ensures { λ r. ⌜ Writes (now (buf .entry)) headingLine (now (buf .exit)) r ⌝ }
+    ensures { λ r. ⌜ WritesLine (now (buf .entry)) headingLine (now (buf .exit)) r ⌝ }
 {
     if buf.len() < 100 {
         return 0;
@@ -180,7 +122,7 @@ pub fn heading(buf: &mut [u8]) -> usize
 
 // The line of a refused file, and the number of its bytes. The buffer needs 100 bytes: with fewer nothing is written.
 pub fn refused_line(buf: &mut [u8], number: usize, place: usize) -> usize
-    ensures { λ r. ⌜ Writes (now (buf .entry)) (refusedLine number place) (now (buf .exit)) r ⌝ }
+    ensures { λ r. ⌜ WritesLine (now (buf .entry)) (refusedLine number place) (now (buf .exit)) r ⌝ }
 {
     if buf.len() < 100 {
         return 0;
@@ -193,7 +135,7 @@ pub fn refused_line(buf: &mut [u8], number: usize, place: usize) -> usize
 
 // The last line, and the number of its bytes. The buffer needs 100 bytes: with fewer nothing is written.
 pub fn end_line(buf: &mut [u8], marker: usize) -> usize
-    ensures { λ r. ⌜ Writes (now (buf .entry)) (endLine marker) (now (buf .exit)) r ⌝ }
+    ensures { λ r. ⌜ WritesLine (now (buf .entry)) (endLine marker) (now (buf .exit)) r ⌝ }
 {
     if buf.len() < 100 {
         return 0;

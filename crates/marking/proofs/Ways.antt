@@ -15,7 +15,8 @@ use Rattle.files.specs.Spots.{spotsOf}
 use Rattle.places.specs.declared.Spotted.{Spotted}
 use Rattle.edits.specs.declared.Edited.{Edited}
 use Rattle.edits.specs.declared.Edited.the-variants.{Made, Refused}
-use Rattle.edits.specs.Edits.{mark, rename, namePlace}
+use Rattle.edits.specs.Edits.{mark, rename}
+use Rattle.headers.specs.Header.{namePlace}
 use Rattle.edits.specs.Allowed.{fine, fault, renameFault, editFault}
 use Rattle.edits.specs.Records.{flag, recordOf}
 use Rattle.edits.specs.Calls.{Session, mark-call, rename-call, usedWords, sessionFault}
@@ -23,7 +24,8 @@ use Rattle.journals.specs.Journals.{recordPushed}
 use Rattle.opening.specs.Opening.{sessionOf}
 use Rattle.faults.specs.Faults.{markNumber, renameNumber}
 use Rattle.faults.proofs.Exact.{numbered, mark-is, rename-is}
-use Rattle.changes.specs.Changes.{flagPut, namePut, cellName}
+use Rattle.cell_names.specs.CellNames.{namePut, cellName}
+use Rattle.changes.specs.Changes.{flagPut}
 use Rattle.changes.proofs.Made as made
 use Rattle.steps.specs.Steps.{Leaves, Stepped, lastPlace, Open}
 use Rattle.steps.proofs.Steps.{wordsBy, recordBy, edit-step, edit-refused, edit-journal, edit-done}

@@ -88,9 +88,9 @@ fn rename_opened(
     if journal.len() - jused < 16 {
         return steps::refused(16);
     }
-    let old = changes::cell_name(&file[..used], place);
+    let old = cell_names::cell_name(&file[..used], place);
     journals::push(journal, jused, 2, TOP, place, &old);
-    changes::rename_cell(&mut file[..used], place, first, second);
+    cell_names::rename_cell(&mut file[..used], place, first, second);
     Edited::Made {
         used,
         jused: jused + 16,

@@ -10,6 +10,7 @@ use lib.Dec.{eqb, leb}
 use borrow.Author.Tests.{eqb-true}
 use Rattle.words.specs.Words.{words, Below}
 use Rattle.words.proofs.Laws.{words-below}
+use Rattle.limits.specs.Limits.{sizeOk}
 use Rattle.places.specs.declared.Above.{Above}
 use Rattle.places.specs.declared.Spotted.{Spotted}
 use Rattle.places.specs.declared.Spotted.the-variants.{At, Refused as Nowhere}
@@ -18,7 +19,7 @@ use Rattle.edits.specs.declared.Edited.the-variants.{Made, Refused}
 use Rattle.edits.specs.Edits.{Edit, insert, remove}
 use Rattle.edits.specs.Allowed.{Fault?, fine, fault, unless, editFault}
 use Rattle.edits.specs.Records.{recordOf}
-use Rattle.edits.specs.Calls.{Session, Call, insert-call, remove-call, usedWords, bufferOk}
+use Rattle.edits.specs.Calls.{Session, Call, insert-call, remove-call, usedWords}
 use Rattle.edits.proofs.Accepted.{SmallHeader, Small}
 use Rattle.buffers.proofs.Laws.{part-words}
 use Rattle.journals.specs.Journals.{recordPushed}
@@ -56,7 +57,7 @@ module _ (dim : ℕ) (file : List ℕ) (used : ℕ) (journal : List ℕ) (jused 
 
   ---- insert
 
-  module _ (marker : ℕ) (last : marker ≡ lastPlace file used) (h : Above) (piece : List ℕ) (piece-below : Below 256 piece) (lent : bufferOk piece ≡ true) where
+  module _ (marker : ℕ) (last : marker ≡ lastPlace file used) (h : Above) (piece : List ℕ) (piece-below : Below 256 piece) (lent : sizeOk (length piece) ≡ true) where
     abbrev put : Edit
     put = insert (headerOf h) p (words piece)
 

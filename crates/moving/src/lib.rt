@@ -3,7 +3,9 @@
 // last. Contracts: one step of edits' specs/Calls.
 ghost use mathlib.Core.Path.{_≡_};
 ghost use mathlib.Core.Bool.{true};
-ghost use Rattle.edits.specs.Calls.{insert-call, remove-call, bufferOk};
+ghost use lib.ListN.{length};
+ghost use Rattle.limits.specs.Limits.{sizeOk};
+ghost use Rattle.edits.specs.Calls.{insert-call, remove-call};
 ghost use Rattle.opening.specs.Opening.{sessionOf, headerOf};
 ghost use Rattle.steps.specs.Steps.{Stepped, lastPlace, Open};
 ghost use Rattle.moving.specs.Moving.{Stands};
@@ -27,7 +29,7 @@ fn insert_opened(
 ) -> Edited
     requires { ⌜ Open dim (now file) used (now journal) jused place found ⌝ }
     requires { ⌜ marker ≡ lastPlace (now file) used ⌝ }
-    requires { ⌜ bufferOk (now piece) ≡ true ⌝ }
+    requires { ⌜ sizeOk (length (now piece)) ≡ true ⌝ }
     ensures { λ r. ⌜ Stepped dim (sessionOf (now (file .entry)) used (now (journal .entry)) jused) (insert-call (headerOf header) place (now (piece .entry))) r (now (file .exit)) (now (journal .exit)) ⌝ }
 {
     match inserting::insert_fault(&file[..used], dim, marker, found, header, place, piece) {
@@ -56,16 +58,6 @@ fn insert_opened(
     }
 }
 
-// Whether a piece may be lent.
-fn piece_ok(piece: &[u8]) -> bool
-    ensures { λ r. ⌜ r ≡ bufferOk (now (piece .entry)) ⌝ }
-{
-    if piece.len() % 2 != 0 {
-        return false;
-    }
-    piece.len() <= 1048576
-}
-
 // Inserts a piece, one whole extent, under a header or at the top, at a place where a direct component starts or the list
 // ends.
 pub fn insert(
@@ -80,7 +72,7 @@ pub fn insert(
 ) -> Edited
     ensures { λ r. ⌜ Stepped dim (sessionOf (now (file .entry)) used (now (journal .entry)) jused) (insert-call (headerOf header) place (now (piece .entry))) r (now (file .exit)) (now (journal .exit)) ⌝ }
 {
-    if !piece_ok(piece) {
+    if !limits::size_ok(piece.len()) {
         return steps::refused(1);
     }
     match opening::open_at(file, used, journal.len(), jused, dim, place) {

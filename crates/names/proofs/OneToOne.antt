@@ -17,7 +17,7 @@ use lib.Dec.{leb}
 use borrow.Author.Tests.{leb-true, le-leb, not-true}
 use Rattle.names.specs.declared.Packed.the-variants.{Words, Refused}
 use Rattle.names.specs.declared.Answer.the-variants.{Text, Refused as RefusedWords}
-use Rattle.names.specs.Names.{codeOf, letterOf, allLetters, endsInSpace, goodText, codeAt, wordAt, packed, nameOk, kept, textIn, textOf, answerOf, noText, unpacked}
+use Rattle.names.specs.Names.{codeOf, letterOf, allLetters, endsInSpace, goodText, codeAt, wordFrom, packed, nameOk, kept, textIn, textOf, textAnswer, noText, unpacked}
 use Rattle.names.proofs.Texts.{IsCode, AreCodes, codes-at, kept-six, kept-codes, letters-codes, length-kept, are-kept, all-letters, ends-kept, code-text}
 use Rattle.names.proofs.Stored.{letters-word, word-ok, word-small, word-codes, both-ok}
 
@@ -37,12 +37,12 @@ module _ (t : List ℕ) (g : Good t) where
   codes : (i : ℕ) → IsCode (codeAt t i)
   codes = codes-at t (g .letters)
 
-  words-ok : nameOk (wordAt t 0) (wordAt t 3) ≡ true
-  unfolding nameOk wordAt
+  words-ok : nameOk (wordFrom t 0) (wordFrom t 3) ≡ true
+  unfolding nameOk wordFrom
   words-ok = simp (word-ok _ _ _ (codes 0) (codes 1) (codes 2), word-ok _ _ _ (codes 3) (codes 4) (codes 5))
 
-  words-text : textOf (wordAt t 0) (wordAt t 3) ≡ t
-  unfolding textIn wordAt
+  words-text : textOf (wordFrom t 0) (wordFrom t 3) ≡ t
+  unfolding textIn wordFrom
   words-text =
       ap₂ textIn (letters-word _ _ _ (codes 1 .0) (codes 2 .0)) (letters-word _ _ _ (codes 4 .0) (codes 5 .0)) ∙
       ap (map letterOf) (kept-six (map codeOf t) (simp length-map (g .short)) ∙ kept-codes t (g .letters) (g .ends)) ∙
@@ -51,14 +51,14 @@ module _ (t : List ℕ) (g : Good t) where
 -- a text that packs to two words is good, and they are its words
 record PacksTo (t : List ℕ) (a b : ℕ) : Type 0 where
   text : Good t
-  first : wordAt t 0 ≡ a
-  second : wordAt t 3 ≡ b
+  first : wordFrom t 0 ≡ a
+  second : wordFrom t 3 ≡ b
 
 packs-to : (t : List ℕ) (a b : ℕ) → packed t ≡ Words a b → PacksTo t a b
 unfolding packed
 packs-to t a b = go (goodText t) refl
   where
-    go : (k : Bool) → goodText t ≡ k → cond k (Words (wordAt t 0) (wordAt t 3)) (Refused 12 0) ≡ Words a b → PacksTo t a b
+    go : (k : Bool) → goodText t ≡ k → cond k (Words (wordFrom t 0) (wordFrom t 3)) (Refused 12 0) ≡ Words a b → PacksTo t a b
     go true g e = record { text = good t g; first = cc; second = cc }
     go false g e = let z : _≡_ {A = ℕ} 0 1 = cc in absurd (omega arith)
 
@@ -80,7 +80,7 @@ pack-stored t a b e =
     let q = both-ok a b ok in
     record { ok = ok; first = omega (arith, word-small a (q .0)); second = omega (arith, word-small b (q .1)) }
 
-pub unpack-pack : (t : List ℕ) (a b : ℕ) → packed t ≡ Words a b → unpacked a b ≡ answerOf t
+pub unpack-pack : (t : List ℕ) (a b : ℕ) → packed t ≡ Words a b → unpacked a b ≡ textAnswer t
 unfolding unpacked
 unpack-pack t a b e = simp (pack-stored t a b e .ok, text-back t a b e)
 
@@ -105,12 +105,12 @@ module _ (a b : ℕ) (ok : nameOk a b ≡ true) where
   code-back : (i : ℕ) → codeAt (map letterOf (kept (codesIn a b))) i ≡ getD (codesIn a b) i 0
   code-back = code-text (codesIn a b) are
 
-  first-back : wordAt (map letterOf (kept (codesIn a b))) 0 ≡ a
-  unfolding wordAt
+  first-back : wordFrom (map letterOf (kept (codesIn a b))) 0 ≡ a
+  unfolding wordFrom
   first-back = omega (arith, code-back 0, code-back 1, code-back 2)
 
-  second-back : wordAt (map letterOf (kept (codesIn a b))) 3 ≡ b
-  unfolding wordAt
+  second-back : wordFrom (map letterOf (kept (codesIn a b))) 3 ≡ b
+  unfolding wordFrom
   second-back = omega (arith, code-back 3, code-back 4, code-back 5)
 
   pub pack-unpack : packed (textOf a b) ≡ Words a b
@@ -118,29 +118,29 @@ module _ (a b : ℕ) (ok : nameOk a b ≡ true) where
   pack-unpack = simp (text-good, first-back, second-back)
 
 -- an answer holds one text
-answer-text : (t u : List ℕ) → answerOf t ≡ answerOf u → t ≡ u
-unfolding answerOf
+answer-text : (t u : List ℕ) → textAnswer t ≡ textAnswer u → t ≡ u
+unfolding textAnswer
 answer-text t u e =
     let answers : Text (length t) ≡ Text (length u) = ap (λ r. r .answer) e in
     let lengths : length t ≡ length u = cc in
     sym (take-append-seam t _) ∙ ap₂ take lengths (ap (λ r. r .letters) e) ∙ take-append-seam u _
 
 -- only a stored name unpacks to a text
-unpacks-ok : (t : List ℕ) (a b : ℕ) → unpacked a b ≡ answerOf t → nameOk a b ≡ true
-unfolding unpacked answerOf
+unpacks-ok : (t : List ℕ) (a b : ℕ) → unpacked a b ≡ textAnswer t → nameOk a b ≡ true
+unfolding unpacked textAnswer
 unpacks-ok t a b = go (nameOk a b)
   where
-    go : (k : Bool) → cond k (answerOf (textOf a b)) noText ≡ answerOf t → k ≡ true
+    go : (k : Bool) → cond k (textAnswer (textOf a b)) noText ≡ textAnswer t → k ≡ true
     go true e = refl
     go false e =
         let answers : RefusedWords 12 0 ≡ Text (length t) = ap (λ r. r .answer) e in
         let z : _≡_ {A = ℕ} 0 1 = cc in
         absurd (omega arith)
 
-pub one-to-one : (t : List ℕ) (a b : ℕ) → packed t ≡ Words a b ↔ unpacked a b ≡ answerOf t
+pub one-to-one : (t : List ℕ) (a b : ℕ) → packed t ≡ Words a b ↔ unpacked a b ≡ textAnswer t
 one-to-one t a b = (unpack-pack t a b, back)
   where
-    back : unpacked a b ≡ answerOf t → packed t ≡ Words a b
+    back : unpacked a b ≡ textAnswer t → packed t ≡ Words a b
     back e =
         let p = pack-unpack a b (unpacks-ok t a b e) in
         ap packed (answer-text _ _ (sym e ∙ unpack-pack _ a b p)) ∙ p

@@ -12,7 +12,7 @@ use lib.Dec.{ltb, eqb}
 use borrow.Author.Tests.{ltb-true, ltb-false, eqb-true, eqb-false, ne-eqb, not-true}
 use Rattle.names.specs.declared.Codes.{Codes}
 use Rattle.names.specs.declared.Answer.the-variants.{Text}
-use Rattle.names.specs.Names.{codeOf, letterOf, allLetters, endsInSpace, codeAt, before, kept, textIn, answerOf}
+use Rattle.names.specs.Names.{codeOf, letterOf, allLetters, endsInSpace, codeAt, before, kept, textIn, textAnswer}
 use Rattle.names.proofs.Alphabet.{code-small, letter-code, code-letter, code-space, letter-space}
 
 -- what is mapped stands where it stood
@@ -175,8 +175,8 @@ text-shown l i n e = go (ltb i n) refl
 pub text-answer : (l m : Codes) (n p q r s t u : ℕ) → n ≡ length (textIn l m) →
     p ≡ cond (ltb 0 n) (letterOf (l .a)) 0 → q ≡ cond (ltb 1 n) (letterOf (l .b)) 0 → r ≡ cond (ltb 2 n) (letterOf (l .c)) 0 →
     s ≡ cond (ltb 3 n) (letterOf (m .a)) 0 → t ≡ cond (ltb 4 n) (letterOf (m .b)) 0 → u ≡ cond (ltb 5 n) (letterOf (m .c)) 0 →
-    record { answer = Text n; letters = p ∷ q ∷ r ∷ s ∷ t ∷ u ∷ [] } ≡ answerOf (textIn l m)
-unfolding textIn answerOf
+    record { answer = Text n; letters = p ∷ q ∷ r ∷ s ∷ t ∷ u ∷ [] } ≡ textAnswer (textIn l m)
+unfolding textIn textAnswer
 text-answer l m n p q r s t u e ep eq er es et eu = λ i. record { answer = Text (e i); letters = is i }
   where
     codes : List ℕ

@@ -72,12 +72,12 @@ abbrev pub codeAt : List ℕ → ℕ → ℕ
 codeAt t i = getD (map codeOf t) i 0
 
 -- the word of the three letters of a text from letter i on
-unfoldable pub wordAt : List ℕ → ℕ → ℕ
-wordAt t i = wordOf (codeAt t i) (codeAt t (i + 1)) (codeAt t (i + 2))
+unfoldable pub wordFrom : List ℕ → ℕ → ℕ
+wordFrom t i = wordOf (codeAt t i) (codeAt t (i + 1)) (codeAt t (i + 2))
 
 -- what a text packs to: two words, or 12 at place 0
 unfoldable pub packed : List ℕ → Packed
-packed t = cond (goodText t) (Words (wordAt t 0) (wordAt t 3)) (Refused 12 0)
+packed t = cond (goodText t) (Words (wordFrom t 0) (wordFrom t 3)) (Refused 12 0)
 
 -- a code put before others; a space with none after it is at the end, and is dropped
 abbrev pub before : ℕ → List ℕ → List ℕ
@@ -98,8 +98,8 @@ abbrev pub textOf : ℕ → ℕ → List ℕ
 textOf first second = textIn (lettersOf first) (lettersOf second)
 
 -- a text as an answer: its length, and its letters with zeros up to six bytes
-unfoldable pub answerOf : List ℕ → Unpacked
-answerOf t = record { answer = Text (length t); letters = t ++ replicate (6 - length t) 0 }
+unfoldable pub textAnswer : List ℕ → Unpacked
+textAnswer t = record { answer = Text (length t); letters = t ++ replicate (6 - length t) 0 }
 
 -- no text: 12 at place 0, and six zeros
 abbrev pub noText : Unpacked
@@ -107,7 +107,7 @@ noText = record { answer = RefusedWords 12 0; letters = replicate 6 0 }
 
 -- what two words unpack to: their text, or 12 at place 0
 unfoldable pub unpacked : ℕ → ℕ → Unpacked
-unpacked first second = cond (nameOk first second) (answerOf (textOf first second)) noText
+unpacked first second = cond (nameOk first second) (textAnswer (textOf first second)) noText
 
 -- the numbers of each answer of packing: 0 and the two words, or the refusal's number and place
 abbrev pub packedNumbers : Packed → List ℕ

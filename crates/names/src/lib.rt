@@ -4,7 +4,7 @@ ghost use Prim.Native.Nat.{_≤_};
 ghost use mathlib.Core.Bool.{cond};
 ghost use lib.Dec.{ltb};
 ghost use lib.ListN.{length};
-ghost use Rattle.names.specs.Names.{codeOf, letterOf, lettersOf, allLetters, endsInSpace, goodText, codeAt, wordAt, packed, wordOk, nameOk, textIn, answerOf, unpacked};
+ghost use Rattle.names.specs.Names.{codeOf, letterOf, lettersOf, allLetters, endsInSpace, goodText, codeAt, wordFrom, packed, wordOk, nameOk, textIn, textAnswer, unpacked};
 
 // What packing a text answers.
 pub enum Packed {
@@ -117,9 +117,9 @@ fn code_at(text: &[u8], i: usize) -> usize
 }
 
 // The word of the three letters of a text from letter i on.
-fn word_at(text: &[u8], i: usize) -> usize
+fn word_from(text: &[u8], i: usize) -> usize
     requires { ⌜ i ≤ 3 ⌝ }
-    ensures { λ r. ⌜ r ≡ wordAt (now (text .entry)) i ⌝ }
+    ensures { λ r. ⌜ r ≡ wordFrom (now (text .entry)) i ⌝ }
 {
     let a = code_at(text, i);
     let b = code_at(text, i + 1);
@@ -132,8 +132,8 @@ pub fn pack(text: &[u8]) -> Packed
     ensures { λ r. ⌜ r ≡ packed (now (text .entry)) ⌝ }
 {
     if good_text(text) {
-        let first = word_at(text, 0);
-        let second = word_at(text, 3);
+        let first = word_from(text, 0);
+        let second = word_from(text, 3);
         Packed::Words { first, second }
     } else {
         Packed::Refused {
@@ -208,7 +208,7 @@ fn shown(n: usize, i: usize, code: usize) -> u8
 
 // The text of six codes, as an answer.
 fn text_of(l: Codes, m: Codes) -> Unpacked
-    ensures { λ r. ⌜ r ≡ answerOf (textIn l m) ⌝ }
+    ensures { λ r. ⌜ r ≡ textAnswer (textIn l m) ⌝ }
 {
     let n = text_length(l, m);
     let answer = Answer::Text { length: n };

@@ -7,7 +7,8 @@ use mathlib.Core.List.{List}
 use native.Mathlib.Omega.{arith}
 use Rattle.words.specs.Words.{words, Below}
 use Rattle.words.proofs.Laws.{words-below}
-use Rattle.files.specs.Judge.{topOf, callOk, answer, judgeOf}
+use Rattle.files.specs.Judge.{topOf, answer, judgeOf}
+use Rattle.limits.specs.Limits.{callOk}
 use Rattle.files.specs.declared.Verdict.{Verdict}
 use Rattle.files.specs.declared.Verdict.the-variants.{Good, Fault}
 use Rattle.files.specs.Spots.{spotsOf, spotIn}

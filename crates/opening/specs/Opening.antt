@@ -1,12 +1,10 @@
 -- Opening a session: 1, the file's own refusals, then 1 if the marker is found before the last used word (document 01,
 -- "Editing"). With it what a call's arguments stand for: its two buffers for a session, a header place for one or none.
-use Prim.Native.Nat.{ℕ, _-_, _%_}
+use Prim.Native.Nat.{ℕ, _-_}
 use mathlib.Core.Path.{_≡_}
 use mathlib.Core.List.{List}
-use mathlib.Core.Bool.{Bool, _&&_}
 use mathlib.Core.Option.{Option, none, some}
 use lib.ListN.{length}
-use lib.Dec.{eqb, leb}
 use Rattle.edits.specs.Allowed.{Fault?, fine, fault}
 use Rattle.edits.specs.Calls.{Session, usedWords, sessionFault}
 use Rattle.places.specs.declared.Above.{Above}
@@ -19,10 +17,6 @@ use Rattle.opening.specs.declared.Opened.the-variants.{Ready, Refused}
 abbrev pub openedBy : Fault? → List ℕ → ℕ → Opened
 openedBy fine ws at = Ready (length ws - 1) (locateOf ws at (length ws - 1))
 openedBy (fault n p) ws at = Refused n p
-
--- 1 unless a buffer has an even length of at most 1,048,576 bytes, and its used length is even and within it
-abbrev pub lengthsOk : ℕ → ℕ → Bool
-lengthsOk size used = (eqb (size % 2) 0 && leb size 1048576) && (eqb (used % 2) 0 && leb used size)
 
 -- a session: the file's buffer and used length, the journal's buffer and used length
 abbrev pub sessionOf : List ℕ → ℕ → List ℕ → ℕ → Session

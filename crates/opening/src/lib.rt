@@ -2,37 +2,21 @@
 // refusals, and what starts at a place of the used part. Nothing is changed here. Definitions: specs/Opening;
 // proofs/Accepted: what is found is an element of the accepted file.
 ghost use mathlib.Core.Path.{_≡_};
-ghost use mathlib.Core.Bool.{_&&_, _||_};
+ghost use mathlib.Core.Bool.{_&&_};
 ghost use Prim.Native.Nat.{_-_, _%_, _≤_};
 ghost use lib.ListN.{length};
-ghost use lib.Dec.{eqb};
 ghost use Rattle.words.specs.Words.{words};
+ghost use Rattle.limits.specs.Limits.{dimOk, usedOk};
 ghost use Rattle.files.specs.Judge.{topOf};
 ghost use Rattle.edits.specs.Allowed.{orElse, unless};
 ghost use Rattle.edits.specs.Calls.{endsInMarker, usedWords, fileFault};
-ghost use Rattle.opening.specs.Opening.{openedBy, lengthsOk, OpenedAs};
+ghost use Rattle.opening.specs.Opening.{openedBy, OpenedAs};
 use places::Spotted;
 
 // What opening a session answers: the place of the file's marker and what starts at a place of it, or a refusal.
 pub enum Opened {
     Ready { marker: usize, found: Spotted },
     Refused { number: usize, place: usize },
-}
-
-// Whether a buffer of so many bytes may be lent, with so many of them used.
-fn lengths_ok(size: usize, used: usize) -> bool
-    ensures { λ r. ⌜ r ≡ lengthsOk size used ⌝ }
-{
-    if size % 2 != 0 {
-        return false;
-    }
-    if 1048576 < size {
-        return false;
-    }
-    if used % 2 != 0 {
-        return false;
-    }
-    used <= size
 }
 
 // Whether the last word of a used file is 65535.
@@ -48,12 +32,12 @@ fn ends_in_marker(used: &[u8]) -> bool
 
 // Whether two buffers may be lent, and the used file ends in its marker.
 fn buffers_ok(file: &[u8], used: usize, journal_len: usize, jused: usize) -> bool
-    ensures { λ r. ⌜ r ≡ (lengthsOk (length (now (file .entry))) used && (lengthsOk «journal_len» jused && endsInMarker (usedWords (now (file .entry)) used))) ⌝ }
+    ensures { λ r. ⌜ r ≡ (usedOk (length (now (file .entry))) used && (usedOk «journal_len» jused && endsInMarker (usedWords (now (file .entry)) used))) ⌝ }
 {
-    if !lengths_ok(file.len(), used) {
+    if !limits::used_ok(file.len(), used) {
         return false;
     }
-    if !lengths_ok(journal_len, jused) {
+    if !limits::used_ok(journal_len, jused) {
         return false;
     }
     ends_in_marker(&file[..used])
@@ -62,7 +46,7 @@ fn buffers_ok(file: &[u8], used: usize, journal_len: usize, jused: usize) -> boo
 // What judging the used file answers, with what starts at a place; its marker is due at the last used word.
 fn open_file(used: &[u8], dim: usize, place: usize) -> Opened
     requires { ⌜ (length (now used) % 2 ≡ 0) × ((2 ≤ length (now used)) × (length (now used) ≤ 1048576)) ⌝ }
-    ensures { λ r. ⌜ r ≡ openedBy (orElse (unless (eqb dim 2 || eqb dim 3) 1) (fileFault (topOf dim (words (now (used .entry)))) (length (words (now (used .entry))) - 1))) (words (now (used .entry))) place ⌝ }
+    ensures { λ r. ⌜ r ≡ openedBy (orElse (unless (dimOk dim) 1) (fileFault (topOf dim (words (now (used .entry)))) (length (words (now (used .entry))) - 1))) (words (now (used .entry))) place ⌝ }
 {
     let last = used.len() / 2 - 1;
     match places::placed_at(used, dim, place) {
@@ -73,7 +57,7 @@ fn open_file(used: &[u8], dim: usize, place: usize) -> Opened
             number,
             place: fault,
         },
-        places::Placed::Judged { marker, found } => {
+        places::Placed::Accepted { marker, found } => {
             if marker == last {
                 return Opened::Ready { marker, found };
             }

@@ -11,9 +11,8 @@ use native.Mathlib.Numerals.{add-one}
 use lib.ListN.{length}
 use lib.Dec.{eqb, leb, ltb}
 use borrow.Author.Tests.{lt-ltb, le-ltb, le-leb, lt-leb, eq-eqb, ne-eqb, ltb-true, ltb-false, leb-true, leb-false, eqb-true, eqb-false}
-use Rattle.words.specs.Words.{words, Below}
-use Rattle.words.proofs.Laws.{words-below}
-use Rattle.elements.specs.Header.{typeAt, sizeAt, extentAt}
+use Rattle.headers.proofs.Laws.{words-header, words-plain, words-two}
+use Rattle.headers.specs.Header.{typeAt, sizeAt, extentWords}
 use Rattle.kinds.specs.Kinds.{isHeader}
 use Rattle.files.specs.Spots.{Spot, spotIn}
 use Rattle.grammar.specs.Grammar.{Own, Extent}
@@ -26,36 +25,7 @@ use Rattle.places.specs.declared.Above.the-variants.{Top, Under}
 use Rattle.places.specs.declared.Spotted.{Spotted}
 use Rattle.places.specs.declared.Spotted.the-variants as spotted
 use Rattle.places.specs.Places.{aboveOf, foundBy}
-use Rattle.places.specs.Descent.{extentWords, locateFrom, IsLocated, descentTo}
-
----- the extent
-
-pub words-header : (ws : List ℕ) (at : ℕ) → isHeader (typeAt ws at) ≡ true → extentWords ws at ≡ extentAt ws at
-unfolding extentWords
-words-header ws at h = rw h
-
-pub words-plain : (ws : List ℕ) (at : ℕ) → isHeader (typeAt ws at) ≡ false → extentWords ws at ≡ sizeAt ws at
-unfolding extentWords
-words-plain ws at h = rw h
-
--- every extent has two words at least
-pub words-two : (ws : List ℕ) (at : ℕ) → 2 ≤ extentWords ws at
-words-two ws at = go (isHeader (typeAt ws at)) refl
-  where
-    go : (b : Bool) → isHeader (typeAt ws at) ≡ b → 2 ≤ extentWords ws at
-    go true h = let e = words-header ws at h in omega arith
-    go false h = let e = words-plain ws at h in omega arith
-
--- and so many at most, in the words of bytes
-pub size-small : (s : List ℕ) → Below 256 s → (at : ℕ) → sizeAt (words s) at < 65538
-size-small s b at = omega (arith, words-below s b (at + 1))
-
-pub words-small : (s : List ℕ) → Below 256 s → (at : ℕ) → extentWords (words s) at < 65555
-words-small s b at = go (isHeader (typeAt (words s) at)) refl
-  where
-    go : (t : Bool) → isHeader (typeAt (words s) at) ≡ t → extentWords (words s) at < 65555
-    go true h = let e = words-header (words s) at h in omega (arith, words-below s b (at + 18))
-    go false h = let e = words-plain (words s) at h in omega (arith, words-below s b (at + 1))
+use Rattle.places.specs.Descent.{locateFrom, IsLocated, descentTo}
 
 ---- the steps
 

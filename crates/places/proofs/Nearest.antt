@@ -9,9 +9,11 @@ use lib.ListN.{length}
 use borrow.Author.Tests.{ltb-true, ltb-false}
 use Rattle.words.specs.Words.{words}
 use Rattle.words.proofs.Laws.{length-words}
-use Rattle.files.specs.Judge.{stopOf, elementOf, callOk}
+use Rattle.ends.specs.Ends.{stopOf}
+use Rattle.files.specs.Judge.{elementOf}
+use Rattle.limits.specs.Limits.{callOk}
 use Rattle.files.specs.Reach.{reachedOf, stopsAfter}
-use Rattle.files.specs.declared.Stop.the-variants.{More}
+use Rattle.ends.specs.declared.Stop.the-variants.{More}
 use Rattle.files.specs.declared.Verdict.the-variants.{Good}
 use Rattle.files.specs.declared.Reached.{Reached}
 use Rattle.files.specs.declared.Reached.the-variants as reached
@@ -22,7 +24,8 @@ use Rattle.places.specs.declared.Spotted.{Spotted}
 use Rattle.places.specs.declared.Spotted.the-variants as spotted
 use Rattle.places.specs.declared.Placed.the-variants as placed
 use Rattle.places.specs.Places.{placedAt}
-use Rattle.places.specs.Descent.{extentWords, IsLocated}
+use Rattle.headers.specs.Header.{extentWords}
+use Rattle.places.specs.Descent.{IsLocated}
 use Rattle.places.proofs.Descent.{extent-weight, step-over, descent-is}
 use Rattle.places.proofs.Places.{locate-before, locate-after, placed-refused, placed-located}
 use Rattle.grammar.proofs.Tops.{Judged, judged-none, judged-done, judged-read, judged-on, judged-more, Arrived, arrived}
@@ -74,10 +77,10 @@ module _ (dim : ℕ) (s : List ℕ) (p : ℕ) (call : callOk dim s ≡ true) whe
   first-fault e = sym (placed-refused dim s p _ _ (first-arrived _ e))
 
   -- the marker is not after the place
-  pub first-end : {m k : ℕ} → reached.End m k ≡ reachedOf dim (words s) 0 (length s / 2) p false → placed.Judged m (spotted.Refused 13 0) ≡ placedAt dim s p
+  pub first-end : {m k : ℕ} → reached.End m k ≡ reachedOf dim (words s) 0 (length s / 2) p false → placed.Accepted m (spotted.Refused 13 0) ≡ placedAt dim s p
   first-end {m} e =
       let x = first-arrived _ e in
-      sym (placed-located dim s p _ _ m (judged-done (x .0 .judged) call (x .1)) ∙ ap (placed.Judged m) (locate-after (words s) p m (x .0 .by)))
+      sym (placed-located dim s p _ _ m (judged-done (x .0 .judged) call (x .1)) ∙ ap (placed.Accepted m) (locate-after (words s) p m (x .0 .by)))
 
   -- the element at `top` ends after it
   module _ {top end k : ℕ} (e : reached.Element top end k ≡ reachedOf dim (words s) 0 (length s / 2) p false) where
@@ -101,7 +104,7 @@ module _ (dim : ℕ) (s : List ℕ) (p : ℕ) (call : callOk dim s ≡ true) whe
     rest-fault f = sym (placed-refused dim s p _ _ (rest-arrived _ f))
 
     pub rest-end : {m j : ℕ} (r : Spotted) → reached.End m j ≡ reachedOf dim (words s) end (length s / 2) (length s / 2) false → IsLocated (words s) top 0 Top p r →
-        placed.Judged m r ≡ placedAt dim s p
+        placed.Accepted m r ≡ placedAt dim s p
     rest-end {m} r f i =
         let y = rest-arrived _ f in
         let x = first-arrived _ e .3 in
@@ -109,7 +112,7 @@ module _ (dim : ℕ) (s : List ℕ) (p : ℕ) (call : callOk dim s ≡ true) whe
         let w = length-words s in
         let l = before-end in
         let o = y .0 .0 in
-        ap (placed.Judged m) (descent-is (words s) p r (x .0 .same r i) ∙ sym (locate-before (words s) p m (omega arith) (omega arith)))
+        ap (placed.Accepted m) (descent-is (words s) p r (x .0 .same r i) ∙ sym (locate-before (words s) p m (omega arith) (omega arith)))
         ∙ sym (placed-located dim s p _ _ m (judged-done (y .0 .1) call (y .1)))
 
     -- no element ends after the bound

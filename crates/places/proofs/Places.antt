@@ -11,7 +11,8 @@ use lib.Dec.{ltb}
 use borrow.Author.Tests.{lt-ltb, le-ltb, ltb-true, ltb-false}
 use Rattle.words.specs.Words.{words}
 use Rattle.words.proofs.Laws.{length-words}
-use Rattle.files.specs.Judge.{judgeOf, callOk}
+use Rattle.files.specs.Judge.{judgeOf}
+use Rattle.limits.specs.Limits.{callOk}
 use Rattle.files.specs.Spots.{Spot, spotsOf, spotIn}
 use Rattle.files.specs.declared.Judged.{Judged}
 use Rattle.files.specs.declared.Judged.the-variants.{Accepted, Refused}
@@ -96,9 +97,9 @@ pub placed-refused : (dim : ℕ) (s : List ℕ) (p n q : ℕ) → judgeOf dim s 
 unfolding placedAt
 placed-refused dim s p n q e = rw e
 
-pub placed-located : (dim : ℕ) (s : List ℕ) (p e d m : ℕ) → judgeOf dim s ≡ Accepted e d m → placedAt dim s p ≡ placed.Judged m (locateOf (words s) p m)
+pub placed-located : (dim : ℕ) (s : List ℕ) (p e d m : ℕ) → judgeOf dim s ≡ Accepted e d m → placedAt dim s p ≡ placed.Accepted m (locateOf (words s) p m)
 unfolding placedAt
-placed-located dim s p e d m q = rw q (ap (placed.Judged m) (sym (locate-is dim s e d m q p)))
+placed-located dim s p e d m q = rw q (ap (placed.Accepted m) (sym (locate-is dim s e d m q p)))
 
 -- and back: what the answer says of the file and of the place
 pub record Located (dim : ℕ) (s : List ℕ) (p m : ℕ) (found : Spotted) : Type 0 where
@@ -115,7 +116,7 @@ module _ (dim : ℕ) (s : List ℕ) (p : ℕ) where
       go (Refused n′ q′) j = j ∙ (let z : Refused n′ q′ ≡ Refused n q = cc (placed-refused dim s p n′ q′ j) in z)
       go (Accepted e d m) j = let z : _≡_ {A = ℕ} 0 1 = cc (placed-located dim s p e d m j) in absurd (omega arith)
 
-  pub judged-located : (m : ℕ) (found : Spotted) → placedAt dim s p ≡ placed.Judged m found → Located dim s p m found
+  pub judged-located : (m : ℕ) (found : Spotted) → placedAt dim s p ≡ placed.Accepted m found → Located dim s p m found
   judged-located m found h = go (judgeOf dim s) refl
     where
       go : (v : Judged) → judgeOf dim s ≡ v → Located dim s p m found
@@ -129,7 +130,7 @@ module _ (dim : ℕ) (s : List ℕ) (p : ℕ) where
   pub placed-none : (n q : ℕ) → placedAt dim s p ≡ placed.Refused n q → spotted.Refused n q ≡ spottedAt dim s p
   placed-none n q h = sym (spotted-refused dim s p n q (refused-judged n q h))
 
-  pub placed-found : (m : ℕ) (found : Spotted) → placedAt dim s p ≡ placed.Judged m found → found ≡ spottedAt dim s p
+  pub placed-found : (m : ℕ) (found : Spotted) → placedAt dim s p ≡ placed.Accepted m found → found ≡ spottedAt dim s p
   placed-found m found h = let l = judged-located m found h in l .is ∙ sym (spotted-located dim s p (l .elements) (l .deepest) m (l .judged))
 
 -- an element that is found: its place and its end lie in the file, whose dimension is 2 or 3

@@ -6,16 +6,12 @@ use mathlib.Core.List.{List}
 use mathlib.Core.Bool.{cond, _&&_}
 use lib.ListN.{length}
 use lib.Dec.{eqb, leb, ltb}
-use Rattle.elements.specs.Header.{typeAt, sizeAt, extentAt}
+use Rattle.headers.specs.Header.{typeAt, sizeAt, extentWords}
 use Rattle.kinds.specs.Kinds.{isHeader}
 use Rattle.places.specs.declared.Above.{Above}
 use Rattle.places.specs.declared.Above.the-variants.{Top, Under}
 use Rattle.places.specs.declared.Spotted.{Spotted}
 use Rattle.places.specs.declared.Spotted.the-variants as spotted
-
--- the words of an element with its extent: of a header 19 and the total, else its own
-unfoldable pub extentWords : List ℕ → ℕ → ℕ
-extentWords ws at = cond (isHeader (typeAt ws at)) (extentAt ws at) (sizeAt ws at)
 
 -- the element that starts at the place p, from the element at the place `here` on, which is at a depth under a header;
 -- every element has at least two words, so the first number bounds how many are looked at

@@ -1,12 +1,12 @@
-// Places of an accepted file: the element that starts at a place, its depth, its direct header and its extent. Every
-// call judges once and then goes straight to its place. Definitions: specs/Places, specs/Descent.
+// Places of an accepted file: the element that starts at a place, where its extent ends, its depth and its direct header.
+// Every call judges once and then goes straight to its place. Definitions: specs/Places, specs/Descent.
 ghost use mathlib.Core.Path.{_≡_};
 ghost use Prim.Native.Nat.{_/_, _<_};
 ghost use lib.ListN.{length};
 ghost use Rattle.words.specs.Words.{words};
 ghost use Rattle.places.specs.declared.Above.the-variants.{Top};
-ghost use Rattle.places.specs.Places.{placedAt, spottedAt, extentAnswer, extentBytes};
-ghost use Rattle.places.specs.Descent.{extentWords, IsLocated, locateOf};
+ghost use Rattle.places.specs.Places.{placedAt, spottedAt};
+ghost use Rattle.places.specs.Descent.{IsLocated, locateOf};
 
 // The direct header of an element.
 pub enum Above {
@@ -30,26 +30,7 @@ pub enum Spotted {
 // A file judged, with the place of its marker and what starts at a place.
 pub enum Placed {
     Refused { number: usize, place: usize },
-    Judged { marker: usize, found: Spotted },
-}
-
-// An extent, from its first word to the word after its last.
-pub enum Extent {
-    At { start: usize, end: usize },
-    Refused { number: usize, place: usize },
-}
-
-// The words of the extent of the element at a place: a header's by its total, any other's its size.
-pub fn extent_words(file: &[u8], at: usize) -> usize
-    ensures { λ r. ⌜ r ≡ extentWords (words (now (file .entry))) at ⌝ }
-{
-    if file.len() <= at {
-        return 2;
-    }
-    if kinds::is_header(elements::type_at(file, at)) {
-        return 19 + words::word(file, at + 18);
-    }
-    elements::size_at(file, at)
+    Accepted { marker: usize, found: Spotted },
 }
 
 // The element that starts at a place of a judged file, from the element at `top` on: over the elements whose extents end
@@ -62,11 +43,11 @@ fn descend(file: &[u8], top: usize, place: usize) -> Spotted
     let mut depth = 0;
     let mut above = Above::Top;
     while here < place {
-        let end = here + extent_words(file, here);
+        let end = here + headers::extent_words(file, here);
         if end <= place {
             here = end;
         } else {
-            if !kinds::is_header(elements::type_at(file, here)) {
+            if !kinds::is_header(headers::type_at(file, here)) {
                 return Spotted::Refused {
                     number: 13,
                     place: 0,
@@ -74,11 +55,11 @@ fn descend(file: &[u8], top: usize, place: usize) -> Spotted
             }
             above = Above::Under { place: here };
             depth += 1;
-            here += elements::size_at(file, here);
+            here += headers::size_at(file, here);
         }
     }
     if here == place {
-        let end = here + extent_words(file, here);
+        let end = here + headers::extent_words(file, here);
         return Spotted::At { end, depth, above };
     }
     Spotted::Refused {
@@ -107,7 +88,7 @@ pub fn locate(file: &[u8], place: usize, marker: usize) -> Spotted
 pub fn placed_at(file: &[u8], dim: usize, place: usize) -> Placed
     ensures { λ r. ⌜ r ≡ placedAt dim (now (file .entry)) place ⌝ }
 {
-    if !files::call_ok(file, dim) {
+    if !limits::call_ok(file, dim) {
         return Placed::Refused {
             number: 1,
             place: 0,
@@ -130,7 +111,7 @@ pub fn placed_at(file: &[u8], dim: usize, place: usize) -> Placed
                 number: 13,
                 place: 0,
             };
-            Placed::Judged { marker, found }
+            Placed::Accepted { marker, found }
         }
         files::Reached::Element {
             start: top,
@@ -149,7 +130,7 @@ pub fn placed_at(file: &[u8], dim: usize, place: usize) -> Placed
                 before: _,
             } => {
                 let found = descend(file, top, place);
-                Placed::Judged { marker, found }
+                Placed::Accepted { marker, found }
             }
             // no element ends after the bound
             files::Reached::Element {
@@ -176,47 +157,6 @@ pub fn spotted_at(file: &[u8], dim: usize, place: usize) -> Spotted
             number,
             place: fault,
         },
-        Placed::Judged { marker: _, found } => found,
-    }
-}
-
-// Where the extent of the element at a place starts and ends.
-pub fn extent_answer(file: &[u8], dim: usize, place: usize) -> Extent
-    ensures { λ r. ⌜ r ≡ extentAnswer dim (now (file .entry)) place ⌝ }
-{
-    match spotted_at(file, dim, place) {
-        Spotted::At {
-            end,
-            depth: _,
-            above: _,
-        } => Extent::At { start: place, end },
-        Spotted::Refused {
-            number,
-            place: fault,
-        } => Extent::Refused {
-            number,
-            place: fault,
-        },
-    }
-}
-
-// The extent of the element at a place, as that part of the file; empty where refused.
-pub fn extent_at(file: &[u8], dim: usize, place: usize) -> &[u8]
-    ensures { λ r. ⌜ now r ≡ extentBytes dim (now (file .entry)) place ⌝ }
-{
-    match spotted_at(file, dim, place) {
-        Spotted::At {
-            end,
-            depth: _,
-            above: _,
-        } => {
-            let a = 2 * place;
-            let e = 2 * end;
-            &file[a..e]
-        }
-        Spotted::Refused {
-            number: _,
-            place: _,
-        } => &file[..0],
+        Placed::Accepted { marker: _, found } => found,
     }
 }

@@ -17,10 +17,10 @@ use Rattle.words.specs.Words.{words, Below, wordAt, longAt, signed}
 use Rattle.words.proofs.Laws.{words-below}
 use Rattle.words.proofs.Signed.{signed-small}
 use Rattle.linkages.specs.Linkages.{linkageIn}
-use Rattle.elements.specs.Header.{typeAt, sizeAt, pointsAt}
+use Rattle.headers.specs.Header.{typeAt, sizeAt, pointsAt}
 use Rattle.kinds.specs.Kinds.{isPointed}
 use Rattle.elements.specs.Attributes.{hasAttributes}
-use Rattle.files.specs.Judge.{callOk}
+use Rattle.limits.specs.Limits.{callOk}
 use Rattle.places.specs.declared.Above.{Above}
 use Rattle.places.specs.declared.Spotted.the-variants as spotted
 use Rattle.reading.specs.declared.Point.the-variants as point

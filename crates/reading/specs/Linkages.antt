@@ -7,7 +7,7 @@ use Rattle.words.specs.Words.{words}
 use Rattle.linkages.specs.Linkages.{linkageIn}
 use Rattle.linkages.specs.declared.Linkage.{Linkage}
 use Rattle.linkages.specs.declared.Linkage.the-variants as linked
-use Rattle.elements.specs.Header.{sizeAt, attributePartAt}
+use Rattle.headers.specs.Header.{sizeAt, attributePartAt}
 use Rattle.elements.specs.Attributes.{hasAttributes}
 use Rattle.places.specs.Places.{spottedAt}
 use Rattle.places.specs.declared.Spotted.{Spotted}

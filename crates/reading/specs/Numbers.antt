@@ -6,10 +6,10 @@ use Rattle.reading.specs.declared.Attribute.{Attribute}
 use Rattle.reading.specs.declared.Attribute.the-variants as attributes
 use Rattle.reading.specs.declared.Point.{Point}
 use Rattle.reading.specs.declared.Point.the-variants as points
-use Rattle.places.specs.Numbers.{flag}
+use Rattle.kinds.specs.FirstWord.{bit}
 
 abbrev pub attributeNumbers : Attribute → List ℕ
-attributeNumbers (attributes.At user place size id) = 0 ∷ flag user ∷ place ∷ size ∷ id ∷ []
+attributeNumbers (attributes.At user place size id) = 0 ∷ bit user ∷ place ∷ size ∷ id ∷ []
 attributeNumbers (attributes.Refused number place) = number ∷ place ∷ []
 
 -- of a point the number of the answer, and its signed coordinates, z 0 in a 2D file, or the refusal's place

@@ -5,7 +5,7 @@ use mathlib.Core.List.{List}
 use mathlib.Core.Bool.{cond}
 use lib.Dec.{eqb, ltb}
 use Rattle.words.specs.Words.{words, longAt, signed}
-use Rattle.elements.specs.Header.{typeAt, pointsAt}
+use Rattle.headers.specs.Header.{typeAt, pointsAt}
 use Rattle.kinds.specs.Kinds.{isPointed}
 use Rattle.places.specs.Places.{spottedAt}
 use Rattle.places.specs.declared.Spotted.{Spotted}

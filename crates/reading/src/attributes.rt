@@ -14,7 +14,7 @@ fn has_attributes(file: &[u8], at: usize) -> bool
     requires { ⌜ at < length (now file) / 2 ⌝ }
     ensures { λ r. ⌜ r ≡ hasAttributes (words (now (file .entry))) at ⌝ }
 {
-    if kinds::is_linked(elements::type_at(file, at)) {
+    if kinds::is_linked(headers::type_at(file, at)) {
         return words::word(file, at + 16) / 2048 % 2 == 1;
     }
     false
@@ -55,7 +55,7 @@ pub fn linkage_at(file: &[u8], dim: usize, place: usize, k: usize) -> Attribute
         } => {
             if has_attributes(file, place) {
                 let part = 16 + words::word(file, place + 15);
-                let end = place + elements::size_at(file, place);
+                let end = place + headers::size_at(file, place);
                 return attribute_of(linkages::linkage_in(file, place + part, end, k));
             }
             Attribute::Refused {

@@ -13,7 +13,7 @@ fn point_count(file: &[u8], at: usize) -> usize
     requires { ⌜ at < length (now file) / 2 ⌝ }
     ensures { λ r. ⌜ r ≡ pointCount (words (now (file .entry))) at ⌝ }
 {
-    let t = elements::type_at(file, at);
+    let t = headers::type_at(file, at);
     if t == 3 {
         return 2;
     }
@@ -27,7 +27,7 @@ fn point_count(file: &[u8], at: usize) -> usize
 fn before_points(file: &[u8], at: usize) -> usize
     ensures { λ r. ⌜ r ≡ beforePoints (words (now (file .entry))) at ⌝ }
 {
-    if elements::type_at(file, at) == 3 {
+    if headers::type_at(file, at) == 3 {
         return 18;
     }
     19

@@ -5,7 +5,7 @@ use mathlib.Core.Bool.{true, not}
 use mathlib.Core.List.{List, [], _∷_}
 use mathlib.Core.Option.{none, some}
 use lib.ListN.{length}
-use lib.Dec.{eqb, leb}
+use lib.Dec.{eqb}
 use Rattle.words.specs.Words.{words}
 use Rattle.names.specs.Names.{packed}
 use Rattle.files.specs.Spots.{spotsOf}
@@ -13,8 +13,8 @@ use Rattle.edits.specs.declared.Edited.{Edited}
 use Rattle.edits.specs.declared.Edited.the-variants.{Refused}
 use Rattle.edits.specs.Edits.{Edit, mark, insert, remove, apply}
 use Rattle.edits.specs.Allowed.{Fault?, fine, fault, orElse, unless, renameFault, editFault}
-use Rattle.edits.specs.Records.{Last, recordOf, recordWords, lastRecord, reversal, reversible}
-use Rattle.edits.specs.Calls.{Session, Call, mark-call, rename-call, insert-call, remove-call, undo-call, usedWords, openFault, Result, resultBy, editMade, editWithin, edited, undoMade, undoBy, undone, nameOfText, textOk, callOn, step}
+use Rattle.edits.specs.Records.{Newest, recordOf, recordWords, lastRecord, reversal}
+use Rattle.edits.specs.Calls.{Session, Call, mark-call, rename-call, insert-call, remove-call, undo-call, usedWords, openFault, Result, resultBy, editMade, editWithin, edited, undoMade, reversalFault, undoBy, undone, nameOfText, textOk, callOn, step}
 use Rattle.edits.specs.Book.{Run, noted, noting, ran, wasRefused}
 use Rattle.edits.proofs.Refusals.{refusal-keeps}
 use Rattle.edits.proofs.Every.{demand-three}
@@ -39,11 +39,11 @@ left-edit dim s e own =
     let r = recordWords (recordOf dim (usedWords (s .file) (s .used)) e) in
     left-by (orElse own (editWithin s (apply dim ws e) r)) s (editMade s (apply dim ws e) r) refl
 
-left-undo : (dim : ℕ) (s : Session) (ws : List ℕ) (l : Last) → Left s (undoBy dim s ws l)
+left-undo : (dim : ℕ) (s : Session) (ws : List ℕ) (l : Newest) → Left s (undoBy dim s ws l)
 unfolding undoMade
 left-undo dim s ws none = refl
 left-undo dim s ws (some l) =
-    left-by (orElse (unless (reversible dim ws (l .0)) 19) (unless (leb (2 * length (apply dim ws (reversal ws (l .0)))) (length (s .file))) 15)) s
+    left-by (reversalFault dim ws (length (s .file)) (l .0)) s
     (undoMade s (apply dim ws (reversal ws (l .0))) (2 * length (l .1))) refl
 
 left-call : (dim : ℕ) (s : Session) (ws : List ℕ) (c : Call) → Left s (callOn dim s ws c)

@@ -1,14 +1,14 @@
 -- What an open session has: its lengths are right, and its used file is accepted.
 use Prim.Native.Nat.{ℕ, _-_, _≤_, _%_}
 use mathlib.Core.Path.{_≡_, refl, sym, ap, _∙_}
-use mathlib.Core.Bool.{true, _||_, and-eq-true-iff}
+use mathlib.Core.Bool.{true, and-eq-true-iff}
 use mathlib.Core.List.{List}
 use native.Mathlib.Omega.{arith}
 use lib.ListN.{length, take}
-use lib.Dec.{eqb}
 use lib.Seq.{length-take-le}
 use Rattle.words.specs.Words.{Below}
 use Rattle.words.proofs.Laws.{length-words}
+use Rattle.limits.specs.Limits.{dimOk, usedOk}
 use Rattle.files.specs.Judge.{topOf}
 use Rattle.places.specs.declared.Spotted.{Spotted}
 use Rattle.places.specs.Descent.{locateOf}
@@ -21,7 +21,7 @@ use Rattle.edits.proofs.Bounds.{below-take}
 use Rattle.edits.proofs.Sound.{sound}
 use Rattle.opening.specs.declared.Opened.{Opened}
 use Rattle.opening.specs.declared.Opened.the-variants.{Ready, Refused}
-use Rattle.opening.specs.Opening.{openedBy, lengthsOk, sessionOf, OpenedAs}
+use Rattle.opening.specs.Opening.{openedBy, sessionOf, OpenedAs}
 use Rattle.opening.proofs.Opening.{AcceptedUsed, Lengths, lengths-true, open-accepted}
 use Rattle.opening.proofs.Accepted.{standing}
 use Rattle.steps.specs.Steps.{lastPlace, Open}
@@ -52,13 +52,13 @@ module _ (dim : ℕ) (file : List ℕ) (used : ℕ) (journal : List ℕ) (jused 
         go (fault n′ q′) e h = e ∙ (let z : fault n′ q′ ≡ fault n q = cc in z)
 
   module _ (ready : sessionFault dim (sessionOf file used journal jused) ≡ fine) where
-    lengths : (lengthsOk (length file) used ≡ true) × (lengthsOk (length journal) jused ≡ true)
+    lengths : (usedOk (length file) used ≡ true) × (usedOk (length journal) jused ≡ true)
     unfolding sessionFault sessionOk
     lengths =
         let f = orElse-fine (unless (sessionOk dim (sessionOf file used journal jused)) 1) (fileFault (topOf dim (usedWords file used)) (length (usedWords file used) - 1)) ready in
-        let b = and-eq-true-iff (eqb dim 2 || eqb dim 3) _ .0 (unless-fine (sessionOk dim (sessionOf file used journal jused)) 1 (f .0)) in
-        let c = and-eq-true-iff (lengthsOk (length file) used) _ .0 (b .1) in
-        let d = and-eq-true-iff (lengthsOk (length journal) jused) (endsInMarker (usedWords file used)) .0 (c .1) in
+        let b = and-eq-true-iff (dimOk dim) _ .0 (unless-fine (sessionOk dim (sessionOf file used journal jused)) 1 (f .0)) in
+        let c = and-eq-true-iff (usedOk (length file) used) _ .0 (b .1) in
+        let d = and-eq-true-iff (usedOk (length journal) jused) (endsInMarker (usedWords file used)) .0 (c .1) in
         (c .0, d .0)
 
     pub file-lengths : Lengths (length file) used

@@ -17,7 +17,7 @@ use Rattle.edits.proofs.Accepted.{SmallHeader}
 use Rattle.journals.specs.Journals.{recordPushed}
 use Rattle.journals.proofs.Pushed.{pushed-fits, record-length}
 use Rattle.opening.specs.Opening.{headerOf}
-use Rattle.changes.specs.Changes.{nameBytes}
+use Rattle.cell_names.specs.CellNames.{nameBytes}
 use Rattle.steps.specs.Steps.{numberOf, aboveAt}
 
 ---- header places as numbers

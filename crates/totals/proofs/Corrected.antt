@@ -10,7 +10,7 @@ use lib.Seq.{getD-set-other, drop-set-lt}
 use lib.Dec.{ltb}
 use Rattle.words.specs.Words.{words, Below, wordAt, putBy, putWord}
 use Rattle.words.proofs.Laws.{length-put, words-put}
-use Rattle.elements.specs.Header.{typeAt}
+use Rattle.headers.specs.Header.{typeAt}
 use Rattle.kinds.specs.Kinds.{isHeader, isCounted}
 use Rattle.grammar.specs.Grammar.{Own}
 use Rattle.grammar.proofs.Forest.{Forest, nil, node, flat, num, Wf}

@@ -9,7 +9,7 @@ use lib.ListN.{length}
 use lib.Dec.{leb}
 use borrow.Author.Tests.{lt-ltb, le-ltb, le-leb, lt-leb, leb-true, leb-false}
 use Rattle.words.specs.Words.{words}
-use Rattle.elements.specs.Header.{typeAt, extentAt}
+use Rattle.headers.specs.Header.{typeAt, extentAt}
 use Rattle.kinds.specs.Kinds.{isCounted}
 use Rattle.totals.specs.Totals.{holderOf, wordMoved, headerPut, totalsBy, totalsFrom, totalsPut, roomAt, roomBy, roomFrom, roomOf}
 use Rattle.totals.specs.declared.Holder.the-variants.{Nowhere, Itself, Inside}

@@ -8,9 +8,8 @@ use mathlib.Core.Bool.{Bool, true, false, cond}
 use mathlib.Core.List.{List}
 use lib.Dec.{eqb, leb}
 use borrow.Author.Tests.{eq-eqb, ne-eqb, le-leb, lt-leb, leb-true, leb-false}
-use Rattle.elements.specs.Header.{sizeAt}
-use Rattle.places.specs.Descent.{extentWords}
-use Rattle.places.proofs.Descent.{words-two}
+use Rattle.headers.specs.Header.{sizeAt, extentWords}
+use Rattle.headers.proofs.Laws.{words-two}
 use Rattle.totals.specs.Totals.{holderAt, holderFrom, holderOf}
 use Rattle.totals.specs.declared.Holder.{Holder}
 use Rattle.totals.specs.declared.Holder.the-variants.{Nowhere, Itself, Inside}

@@ -5,14 +5,15 @@ use native.Mathlib.Omega.{arith}
 use mathlib.Core.Path.{_≡_, ap, _∙_}
 use mathlib.Core.List.{List}
 use lib.ListN.{length, length-append}
-use Rattle.elements.specs.Header.{typeAt}
+use Rattle.headers.specs.Header.{typeAt}
 use Rattle.grammar.specs.Grammar.{Own}
 use Rattle.grammar.proofs.Forest.{Forest, node, flat, num, weight, Wf, own-stands}
 use Rattle.grammar.proofs.Stands.{Stands}
 use Rattle.grammar.proofs.Rules.{own-two, own-size}
 use Rattle.edits.proofs.Ways.{Way, past, into, plug, front}
 use Rattle.edits.proofs.Places.{inside}
-use Rattle.places.proofs.Descent.{words-two, extent-weight}
+use Rattle.headers.proofs.Laws.{words-two}
+use Rattle.places.proofs.Descent.{extent-weight}
 use Rattle.totals.specs.Totals.{holderOf}
 use Rattle.totals.specs.declared.Holder.the-variants.{Itself, Inside}
 use Rattle.totals.proofs.Holders.{at-itself, at-inside, holder-past, holder-here}

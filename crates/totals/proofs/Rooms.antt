@@ -9,7 +9,7 @@ use lib.ListN.{length, length-append}
 use lib.Dec.{leb}
 use Rattle.words.specs.Words.{words}
 use Rattle.words.proofs.Laws.{length-words}
-use Rattle.elements.specs.Header.{typeAt, extentAt}
+use Rattle.headers.specs.Header.{typeAt, extentAt}
 use Rattle.files.specs.Spots.{Spot, spotsOf, spotIn}
 use Rattle.grammar.proofs.Forest.{Forest, node, flat, weight, Wf, components-stand, rest-stand}
 use Rattle.grammar.proofs.Stands.{Stands}

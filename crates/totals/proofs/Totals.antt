@@ -11,7 +11,7 @@ use lib.Dec.{leb, ltb}
 use borrow.Author.Tests.{leb-true, le-leb}
 use Rattle.words.specs.Words.{words, Below}
 use Rattle.words.proofs.Laws.{length-words}
-use Rattle.elements.specs.Header.{typeAt, extentAt}
+use Rattle.headers.specs.Header.{typeAt, extentAt}
 use Rattle.kinds.specs.Kinds.{isHeader}
 use Rattle.files.specs.Spots.{Spot, spotsOf, spotIn}
 use Rattle.grammar.proofs.Forest.{Forest, node, flat, weight, Wf, own-stands, components-stand, rest-stand}

@@ -1,14 +1,14 @@
 -- The totals of the headers on the path from the top down to a named one, on a file's bytes: a descent that finds each
 -- enclosing header among its siblings, corrects its total and goes on under it (document 01, "Editing").
+-- On an accepted file these are the totals and the room of edits' specs (proofs/Totals).
 use Prim.Native.Nat.{ℕ, zero, suc, _+_, _/_, _%_}
 use mathlib.Core.List.{List}
 use mathlib.Core.Bool.{Bool, true, false, cond, _&&_}
 use lib.ListN.{length}
 use lib.Dec.{eqb, ltb, leb}
 use Rattle.words.specs.Words.{words, wordAt, putWord}
-use Rattle.elements.specs.Header.{typeAt, sizeAt, extentAt}
+use Rattle.headers.specs.Header.{typeAt, sizeAt, extentAt, extentWords}
 use Rattle.kinds.specs.Kinds.{isCounted}
-use Rattle.places.specs.Descent.{extentWords}
 use Rattle.edits.specs.Edits.{moved}
 use Rattle.edits.specs.Allowed.{Fault?, fine, fault}
 use Rattle.totals.specs.declared.Holder.{Holder}

@@ -6,7 +6,7 @@ ghost use Prim.Native.Nat.{_+_, _<_, _≤_, _%_};
 ghost use lib.ListN.{length};
 ghost use lib.Dec.{leb};
 ghost use Rattle.words.specs.Words.{words};
-ghost use Rattle.elements.specs.Header.{extentAt};
+ghost use Rattle.headers.specs.Header.{extentAt};
 ghost use Rattle.edits.specs.Edits.{moved};
 ghost use Rattle.totals.specs.Totals.{holderAt, holderOf, wordMoved, headerPut, totalsFrom, totalsPut, roomOf};
 
@@ -32,7 +32,7 @@ fn holder_at(file: &[u8], at: usize, place: usize) -> Holder
     if at == place {
         return Holder::Itself;
     }
-    let size = elements::size_at(file, at);
+    let size = headers::size_at(file, at);
     if place - at < size {
         return Holder::Nowhere;
     }
@@ -48,7 +48,7 @@ fn find_holder(file: &[u8], start: usize, place: usize) -> Holder
 {
     let mut here = start;
     while here <= place {
-        let extent = places::extent_words(file, here);
+        let extent = headers::extent_words(file, here);
         if place - here < extent {
             return holder_at(file, here, place);
         }
@@ -84,7 +84,7 @@ fn correct_header(file: &mut [u8], place: usize, up: bool, n: usize, direct: boo
     requires { ⌜ place < length (now file) ⌝ }
     ensures { λ _. ⌜ now (file .exit) ≡ headerPut up n direct place (now (file .entry)) ⌝ }
 {
-    let counted = kinds::is_counted(elements::type_at(file, place));
+    let counted = kinds::is_counted(headers::type_at(file, place));
     move_word(file, place + 18, up, n);
     if direct {
         if counted {

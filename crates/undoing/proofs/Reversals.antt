@@ -24,20 +24,20 @@ use Rattle.edits.proofs.Bounds.{below-take}
 use Rattle.buffers.proofs.Laws.{part-words}
 use Rattle.journals.specs.declared.Last.{Last}
 use Rattle.journals.specs.declared.Last.the-variants as last
-use Rattle.journals.specs.Journals.{Within, LastRead}
+use Rattle.journals.specs.Journals.{RecordWithin, LastRead}
 use Rattle.journals.proofs.Records.{before-length}
 use Rattle.opening.specs.Opening.{sessionOf, headerOf}
 use Rattle.opening.proofs.Opening.{AcceptedUsed}
 use Rattle.faults.specs.Faults.{sameAbove, standsUnder}
 use Rattle.reversing.specs.Reversing.{reversesAt}
 use Rattle.reversing.proofs.Exact.{recordBy, reversible-is}
-use Rattle.changes.specs.Changes.{flagPut, namePut, nameBytes, pieceIn, extentOut}
+use Rattle.cell_names.specs.CellNames.{namePut, nameBytes}
+use Rattle.changes.specs.Changes.{flagPut, pieceIn, extentOut}
 use Rattle.changes.proofs.Made as made
 use Rattle.steps.specs.Steps.{Stepped, lastPlace, aboveAt}
 use Rattle.steps.proofs.Pushed.{header-above, name-words}
 use Rattle.undoing.specs.Undoing.{OpenFile, Reversed}
-use Rattle.undoing.proofs.Ways.{back-refused, back-room, back-done, undo-bad, undo-reversed}
-use Rattle.undoing.proofs.Ways.{accepted-used}
+use Rattle.undoing.proofs.Ways.{back-refused, back-room, back-done, undo-bad, undo-reversed, accepted-used}
 
 fine-of : (f : Fault?) → isFine f ≡ true → f ≡ fine
 fine-of fine e = refl
@@ -176,7 +176,7 @@ module _ (dim : ℕ) (file : List ℕ) (used : ℕ) (journal : List ℕ) (jused 
   js = words (take jused journal)
 
   -- a record before which so many bytes are used
-  read-back : (rec : Rec) (n p before : ℕ) (r : Edited) (after : List ℕ) → some (rec, take (before / 2) js) ≡ lastRecord js → Within (length (take jused journal)) n p before →
+  read-back : (rec : Rec) (n p before : ℕ) (r : Edited) (after : List ℕ) → some (rec, take (before / 2) js) ≡ lastRecord js → RecordWithin (length (take jused journal)) n p before →
       Reversed dim file used rec before r after → Stepped dim s undo-call r after journal
   read-back rec n p before r after e w v =
       undo-reversed dim s ready some-used rec (take (before / 2) js) before r after (sym e) (before-length (take jused journal) n p before w) v

@@ -12,12 +12,12 @@ use Rattle.edits.specs.declared.Edited.the-variants.{Made, Refused}
 use Rattle.edits.specs.Edits.{apply}
 use Rattle.edits.specs.Allowed.{Fault?, fine, fault}
 use Rattle.edits.specs.Records.{Rec, lastRecord, reversal, reversible}
-use Rattle.edits.specs.Calls.{Session, undo-call, usedWords, sessionFault, stored, refused, resultBy, undoMade, undoBy, undone, step}
+use Rattle.edits.specs.Calls.{Session, undo-call, usedWords, sessionFault, stored, refused, resultBy, undoMade, reversalFault, undoBy, undone, step}
 use Rattle.opening.proofs.Opening.{AcceptedUsed, open-accepted}
 use Rattle.steps.specs.Steps.{Stepped, lastPlace, Open}
 use Rattle.steps.proofs.Steps.{by-result, left, opened}
 use Rattle.steps.proofs.Opened.{open-by, file-lengths}
-use Rattle.undoing.specs.Undoing.{Reversed, answerBy, fileBy, reversalFault, OpenFile}
+use Rattle.undoing.specs.Undoing.{Reversed, answerBy, fileBy, OpenFile}
 
 ---- the file of an open session
 
@@ -79,11 +79,11 @@ module _ (dim : ℕ) (s : Session) (ready : sessionFault dim s ≡ fine) where
     undo-reversed rec js before r after e l v =
         let ws = usedWords (s .file) (s .used) in
         let q = undoMade s (apply dim ws (reversal ws rec)) (2 * length js) in
-        let step-is : step dim s undo-call ≡ resultBy (reversalFault dim (s .file) (s .used) rec) s q = undo-some ∙ rw e refl in
+        let step-is : step dim s undo-call ≡ resultBy (reversalFault dim ws (length (s .file)) rec) s q = undo-some ∙ rw e refl in
         by-result step-is (record {
-          answer = v .answer ∙ rw (← l) (answer-of s (apply dim ws (reversal ws rec)) (2 * length js) (reversalFault dim (s .file) (s .used) rec));
-          file-is = v .file-is ∙ file-of s (apply dim ws (reversal ws rec)) (2 * length js) (reversalFault dim (s .file) (s .used) rec);
-          journal-is = journal-of s (apply dim ws (reversal ws rec)) (2 * length js) (reversalFault dim (s .file) (s .used) rec);
+          answer = v .answer ∙ rw (← l) (answer-of s (apply dim ws (reversal ws rec)) (2 * length js) (reversalFault dim ws (length (s .file)) rec));
+          file-is = v .file-is ∙ file-of s (apply dim ws (reversal ws rec)) (2 * length js) (reversalFault dim ws (length (s .file)) rec);
+          journal-is = journal-of s (apply dim ws (reversal ws rec)) (2 * length js) (reversalFault dim ws (length (s .file)) rec);
         })
 
 ---- one record's reversal

@@ -3,7 +3,6 @@ use Prim.Native.Nat.{ℕ, _+_, _*_, _%_, _≤_}
 use mathlib.Core.Path.{_≡_}
 use mathlib.Core.List.{List}
 use lib.ListN.{length, take}
-use lib.Dec.{leb}
 use Rattle.files.specs.Judge.{judgeOf}
 use Rattle.files.specs.declared.Judged.the-variants as judged
 use Rattle.places.specs.declared.Spotted.{Spotted}
@@ -11,9 +10,9 @@ use Rattle.places.specs.Descent.{locateOf}
 use Rattle.edits.specs.declared.Edited.{Edited}
 use Rattle.edits.specs.declared.Edited.the-variants.{Made, Refused}
 use Rattle.edits.specs.Edits.{apply}
-use Rattle.edits.specs.Allowed.{Fault?, fine, fault, orElse, unless}
-use Rattle.edits.specs.Records.{Rec, reversal, reversible}
-use Rattle.edits.specs.Calls.{usedWords, stored}
+use Rattle.edits.specs.Allowed.{Fault?, fine, fault}
+use Rattle.edits.specs.Records.{Rec, reversal}
+use Rattle.edits.specs.Calls.{usedWords, stored, reversalFault}
 use Rattle.journals.specs.declared.Last.{Last}
 use Rattle.journals.specs.declared.Last.the-variants as last
 use Rattle.steps.specs.Steps.{lastPlace}
@@ -45,13 +44,7 @@ abbrev pub fileBy : Fault? → List ℕ → List ℕ → List ℕ
 fileBy fine after before = after
 fileBy (fault n p) after before = before
 
--- 19 and 15 of a record's reversal on a file's buffer
-abbrev pub reversalFault : ℕ → List ℕ → ℕ → Rec → Fault?
-reversalFault dim file used rec =
-    orElse (unless (reversible dim (usedWords file used) rec) 19)
-    (unless (leb (2 * length (apply dim (usedWords file used) (reversal (usedWords file used) rec))) (length file)) 15)
-
 -- what reversing a record answers and leaves, where the journal's used length before the record is `before`
 pub record Reversed (dim : ℕ) (file : List ℕ) (used : ℕ) (rec : Rec) (before : ℕ) (r : Edited) (after : List ℕ) : Type 0 where
-  pub answer : r ≡ answerBy (reversalFault dim file used rec) (2 * length (apply dim (usedWords file used) (reversal (usedWords file used) rec))) before
-  pub file-is : after ≡ fileBy (reversalFault dim file used rec) (stored file used (apply dim (usedWords file used) (reversal (usedWords file used) rec))) file
+  pub answer : r ≡ answerBy (reversalFault dim (usedWords file used) (length file) rec) (2 * length (apply dim (usedWords file used) (reversal (usedWords file used) rec))) before
+  pub file-is : after ≡ fileBy (reversalFault dim (usedWords file used) (length file) rec) (stored file used (apply dim (usedWords file used) (reversal (usedWords file used) rec))) file

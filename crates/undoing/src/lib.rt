@@ -68,7 +68,7 @@ fn undo_renamed(
     requires { ⌜ marker ≡ lastPlace (now file) used ⌝ }
     ensures { λ r. ⌜ Reversed dim (now (file .entry)) used (renamed place first second) before r (now (file .exit)) ⌝ }
 {
-    let payload = changes::name_bytes(first, second);
+    let payload = cell_names::name_bytes(first, second);
     if !reversing::reversible(
         &file[..used],
         dim,
@@ -81,7 +81,7 @@ fn undo_renamed(
     ) {
         return steps::refused(19);
     }
-    changes::rename_cell(&mut file[..used], place, first, second);
+    cell_names::rename_cell(&mut file[..used], place, first, second);
     Edited::Made {
         used,
         jused: before,

@@ -15,7 +15,7 @@ use Rattle.views.specs.declared.Name.the-variants as cells
 use Rattle.views.specs.declared.Element.{Element}
 use Rattle.views.specs.declared.View.{View}
 use Rattle.views.specs.declared.View.the-variants as views
-use Rattle.places.specs.Numbers.{flag}
+use Rattle.kinds.specs.FirstWord.{bit}
 
 -- the parts of a view
 abbrev pub aboveNumbers : Above → List ℕ
@@ -41,10 +41,10 @@ nameNumbers (cells.Words first second) = 1 ∷ first ∷ second ∷ []
 -- what every element has
 abbrev pub commonNumbers : Element → List ℕ
 commonNumbers e =
-    (e .level ∷ flag (e .c) ∷ e .kind ∷ flag (e .deleted) ∷ e .size ∷ e .depth ∷ [])
+    (e .level ∷ bit (e .c) ∷ e .kind ∷ bit (e .deleted) ∷ e .size ∷ e .depth ∷ [])
     ++ (aboveNumbers (e .above) ++ rangeNumbers (e .range))
 
--- what only some types have, and a 0 to fill 32
+-- what only some types have, and a 0, so that all are 32 numbers
 abbrev pub kindNumbers : Element → List ℕ
 kindNumbers e =
     displayNumbers (e .display) ++ (numberNumbers (e .points) ++ (nameNumbers (e .name)

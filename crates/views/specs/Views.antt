@@ -6,8 +6,8 @@ use mathlib.Core.Bool.{Bool, true, false, cond}
 use lib.Dec.{eqb, leb}
 use Rattle.words.specs.Words.{words, wordAt, longAt}
 use Rattle.kinds.specs.FirstWord.{levelOf, cOf, deletedOf}
-use Rattle.elements.specs.Header.{typeAt, sizeAt, pointsAt, countAt}
-use Rattle.kinds.specs.Kinds.{isHeader, isCounted, isPointed, isLinked}
+use Rattle.headers.specs.Header.{typeAt, sizeAt, pointsAt, countAt, nameFirst, nameSecond, totalAt}
+use Rattle.kinds.specs.Kinds.{isHeader, isCounted, isPointed, isLinked, isCell}
 use Rattle.places.specs.Places.{spottedAt}
 use Rattle.places.specs.declared.Above.{Above}
 use Rattle.places.specs.declared.Spotted.{Spotted}
@@ -43,11 +43,9 @@ abbrev pub numberIf : Bool → ℕ → Number
 numberIf true n = number.Value n
 numberIf false n = number.Absent
 
--- the two name words of types 1 and 2
+-- the two name words of a cell
 unfoldable pub nameWords : List ℕ → ℕ → Name
-nameWords ws at =
-    cond (eqb (typeAt ws at) 1) (name.Words (wordAt ws (at + 16)) (wordAt ws (at + 17)))
-    (cond (eqb (typeAt ws at) 2) (name.Words (wordAt ws (at + 19)) (wordAt ws (at + 20))) name.Absent)
+nameWords ws at = cond (isCell (typeAt ws at)) (name.Words (nameFirst ws at) (nameSecond ws at)) name.Absent
 
 -- all of it
 unfoldable pub elementView : List ℕ → ℕ → ℕ → Above → Element
@@ -63,7 +61,7 @@ elementView ws at depth above = record {
   display = displayOf ws at;
   points = numberIf (isPointed (typeAt ws at)) (pointsAt ws at);
   name = nameWords ws at;
-  total = numberIf (isHeader (typeAt ws at)) (wordAt ws (at + 18));
+  total = numberIf (isHeader (typeAt ws at)) (totalAt ws at);
   count = numberIf (isCounted (typeAt ws at)) (countAt ws at);
 }
 

@@ -72,7 +72,7 @@ fn range_at(file: &[u8], at: usize) -> Range
     requires { ⌜ at < length (now file) / 2 ⌝ }
     ensures { λ r. ⌜ r ≡ rangeOf (words (now (file .entry))) at ⌝ }
 {
-    if elements::size_at(file, at) < 14 {
+    if headers::size_at(file, at) < 14 {
         return Range::Absent;
     }
     Range::Longs {
@@ -90,7 +90,7 @@ fn display_at(file: &[u8], at: usize) -> Display
     requires { ⌜ at < length (now file) / 2 ⌝ }
     ensures { λ r. ⌜ r ≡ displayOf (words (now (file .entry))) at ⌝ }
 {
-    if kinds::is_linked(elements::type_at(file, at)) {
+    if kinds::is_linked(headers::type_at(file, at)) {
         let symbology = words::word(file, at + 17);
         return Display::Words {
             group: words::word(file, at + 14),
@@ -119,7 +119,7 @@ fn name_at(file: &[u8], at: usize) -> Name
     requires { ⌜ at < length (now file) / 2 ⌝ }
     ensures { λ r. ⌜ r ≡ nameWords (words (now (file .entry))) at ⌝ }
 {
-    let t = elements::type_at(file, at);
+    let t = headers::type_at(file, at);
     if t == 1 {
         return Name::Words {
             first: words::word(file, at + 16),
@@ -141,14 +141,14 @@ fn element_at(file: &[u8], at: usize, depth: usize, above: Above) -> Element
     ensures { λ r. ⌜ r ≡ elementView (words (now (file .entry))) at depth above ⌝ }
 {
     let w = words::word(file, at);
-    let t = elements::type_at(file, at);
+    let t = headers::type_at(file, at);
     let word_18 = words::word(file, at + 18);
     Element {
         level: w % 64,
         c: w / 128 % 2 == 1,
         kind: t,
         deleted: w / 32768 % 2 == 1,
-        size: elements::size_at(file, at),
+        size: headers::size_at(file, at),
         depth,
         above,
         range: range_at(file, at),

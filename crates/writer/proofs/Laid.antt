@@ -1,50 +1,61 @@
 -- What the stores of an element lay: each part stands behind the one before it.
 use Prim.Native.Nat.{ℕ, _+_, _-_, _*_, _/_, _≤_}
 use mathlib.Core.Path.{_≡_, refl, ap, _∙_}
+use mathlib.Core.Bool.{Bool, true, false, cond}
 use mathlib.Core.List.{List, [], _∷_, _++_, map, append-assoc}
 use native.Mathlib.Omega.{arith}
 use lib.ListN.{length, length-append, length-map}
 use lib.IntN.{ℤ}
 use Rattle.words.specs.Words.{words, putWord, unsigned}
 use Rattle.words.proofs.Laws.{length-words}
-use Rattle.writer.specs.Words.{longs, firstWord, rangeOf, displayWords, headerWords, countWords, pointCount, sizeOf, elementWords}
+use Rattle.kinds.specs.Kinds.{isPointed}
+use Rattle.fields.specs.Words.{longs, firstWord, rangeLongs, displayWords, headerWords, countWords, pointsIn, sizeOf, elementWords}
+use Rattle.fields.specs.declared.Fields.{Fields}
+use Rattle.fields.proofs.Bounds.{fixed-is, count-small}
+use Rattle.fields.proofs.Element.{length-longs, length-header, size-least}
+use Rattle.fields.proofs.Writable.{Writable}
 use Rattle.writer.specs.Writing.{laid}
-use Rattle.writer.specs.declared.Fields.{Fields}
-use Rattle.writer.proofs.Bounds.{fixed-is, count-small}
-use Rattle.writer.proofs.Stores.{length-longs, laid-join, words-laid}
-use Rattle.writer.proofs.Element.{length-header, size-least}
-use Rattle.writer.proofs.Writable.{Writable}
+use Rattle.writer.proofs.Stores.{laid-join, words-laid}
 
 pub header-laid : (d : List ℕ) (f : Fields) (size : ℕ) → 36 ≤ length d →
-    laid (laid (putWord (putWord d 0 (firstWord f)) 1 (size - 2)) 2 (longs (rangeOf f))) 14 (displayWords f) ≡ laid d 0 (headerWords f size)
+    laid (laid (putWord (putWord d 0 (firstWord f)) 1 (size - 2)) 2 (longs (rangeLongs f))) 14 (displayWords f) ≡ laid d 0 (headerWords f size)
 unfolding headerWords
 header-laid d f size h =
     let a = firstWord f ∷ (size - 2) ∷ [] in
-    ap (λ x. laid (laid x 2 (longs (rangeOf f))) 14 (displayWords f)) (words-laid d 0 a (omega arith))
-    ∙ ap (λ x. laid x 14 (displayWords f)) (laid-join d 0 2 a (longs (rangeOf f)) refl (omega arith))
-    ∙ laid-join d 0 14 (a ++ longs (rangeOf f)) (displayWords f) refl (omega arith)
+    ap (λ x. laid (laid x 2 (longs (rangeLongs f))) 14 (displayWords f)) (words-laid d 0 a (omega arith))
+    ∙ ap (λ x. laid x 14 (displayWords f)) (laid-join d 0 2 a (longs (rangeLongs f)) refl (omega arith))
+    ∙ laid-join d 0 14 (a ++ longs (rangeLongs f)) (displayWords f) refl (omega arith)
+
+-- the place of the points: behind N, where there is one
+points-start : (kind n : ℕ) → cond (isPointed kind) 19 18 ≡ 18 + length (countWords kind n)
+points-start kind n = go (isPointed kind)
+  where
+    go : (b : Bool) → cond b 19 18 ≡ 18 + length (cond b (n ∷ []) [])
+    go true = refl
+    go false = refl
 
 module _ {dim : ℕ} {f : Fields} {ps : List ℤ} {tail : List ℕ} {room : ℕ} (w : Writable dim f ps tail room) where
   -- N is put behind the header, the points behind N, and the tail behind the points, where the fixed part ends
-  pub count-room : (19 ≤ sizeOf dim f ps tail) × (pointCount dim ps ≤ 101)
+  pub count-room : (19 ≤ sizeOf dim f ps tail) × (pointsIn dim ps ≤ 101)
   count-room =
       let c = w .call in
       (size-least dim f ps tail c, count-small dim (f .kind) (length ps) (c .dims) (c .kind) (c .fit) (w .count))
 
-  pub points-end : (at : ℕ) → at ≡ 18 + length (countWords (f .kind) (pointCount dim ps)) → at + 2 * length ps + length tail / 2 ≡ sizeOf dim f ps tail
+  pub points-end : (at : ℕ) → at ≡ cond (isPointed (f .kind)) 19 18 → at + 2 * length ps + length tail / 2 ≡ sizeOf dim f ps tail
   unfolding sizeOf
-  points-end at e = let c = w .call in let x = fixed-is dim (f .kind) (length ps) (c .dims) (c .kind) (c .fit) in omega arith
+  points-end at e = let c = w .call in let s = points-start (f .kind) (pointsIn dim ps) in let x = fixed-is dim (f .kind) (length ps) (c .dims) (c .kind) (c .fit) in omega arith
 
-  pub element-laid : (d : List ℕ) (at : ℕ) → at ≡ 18 + length (countWords (f .kind) (pointCount dim ps)) → 2 * sizeOf dim f ps tail ≤ length d →
-      laid (laid (laid (laid d 0 (headerWords f (sizeOf dim f ps tail))) 18 (countWords (f .kind) (pointCount dim ps))) at (longs (map unsigned ps)))
+  pub element-laid : (d : List ℕ) (at : ℕ) → at ≡ cond (isPointed (f .kind)) 19 18 → 2 * sizeOf dim f ps tail ≤ length d →
+      laid (laid (laid (laid d 0 (headerWords f (sizeOf dim f ps tail))) 18 (countWords (f .kind) (pointsIn dim ps))) at (longs (map unsigned ps)))
       (at + 2 * length ps) (words tail)
       ≡ laid d 0 (elementWords dim f ps tail)
   unfolding elementWords
   element-laid d at e h =
       let header = headerWords f (sizeOf dim f ps tail) in
-      let count = countWords (f .kind) (pointCount dim ps) in
+      let count = countWords (f .kind) (pointsIn dim ps) in
       let points = longs (map unsigned ps) in
       let x = points-end at e in
+      let s = points-start (f .kind) (pointsIn dim ps) in
       let l = length-header dim f ps tail (sizeOf dim f ps tail) in
       let p = length-longs (map unsigned ps) in
       let m = length-map ps unsigned in

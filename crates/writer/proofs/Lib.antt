@@ -1,5 +1,3 @@
 pub mod Stores
-pub mod Bounds
-pub mod Element
-pub mod Writable
 pub mod Laid
+pub mod Writes

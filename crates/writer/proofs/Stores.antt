@@ -4,69 +4,44 @@ use Prim.Native.Nat.{ℕ, _+_, _*_, _/_, _%_, _≤_, _<_}
 use mathlib.Core.Path.{_≡_, refl, sym, ap, _∙_}
 use mathlib.Core.List.{List, [], _∷_, _++_, map, append-assoc}
 use native.Mathlib.Omega.{arith}
-use native.Mathlib.Nat.{add-zero}
 use native.Mathlib.Numerals.{add-one}
-use lib.ListN.{length, getD, take, drop, set, length-append, length-drop, length-map, take-append-drop, List·getD-map}
+use lib.ListN.{length, getD, take, set, length-map, List·getD-map}
 use lib.IntN.{ℤ, pos}
-use lib.Seq.{sets-eq, length-take-le, take-at, drop-append-add, drop-drop, take-suc}
-use Rattle.words.specs.Words.{bytes, unsigned, putWord, putLong}
-use Rattle.words.proofs.Laws.{put-in, length-put, length-put-long, length-bytes}
-use Rattle.writer.specs.Words.{longs}
+use lib.Seq.{sets-eq, length-take-le, take-suc}
+use Rattle.words.specs.Words.{bytes, over, unsigned, putWord, putLong}
+use Rattle.words.proofs.Laws.{put-in, length-put, length-put-long, length-bytes, bytes-append}
+use Rattle.words.proofs.Over.{over-nil, length-over, over-over}
+use Rattle.fields.specs.Words.{longs}
+use Rattle.fields.proofs.Element.{length-longs}
 use Rattle.writer.specs.Writing.{laid}
-
-pub bytes-append : (ws vs : List ℕ) → bytes (ws ++ vs) ≡ bytes ws ++ bytes vs
-bytes-append [] vs = refl
-bytes-append (w ∷ ws) vs = ap (λ l. w % 256 ∷ w / 256 % 256 ∷ l) (bytes-append ws vs)
 
 pub longs-append : (us vs : List ℕ) → longs (us ++ vs) ≡ longs us ++ longs vs
 longs-append [] vs = refl
 longs-append (u ∷ us) vs = ap (λ l. u / 65536 ∷ u % 65536 ∷ l) (longs-append us vs)
 
-pub length-longs : (vs : List ℕ) → length (longs vs) ≡ 2 * length vs
-length-longs [] = refl
-length-longs (v ∷ vs) = let e = length-longs vs in omega arith
-
 ---- laid words
 
 pub laid-none : (d : List ℕ) (at : ℕ) → d ≡ laid d at []
-laid-none d at = rw (add-zero at) (sym (take-append-drop (2 * at) d))
+laid-none d at = sym (over-nil d (2 * at))
 
 -- the buffer keeps its length
 pub length-laid : (d : List ℕ) (at : ℕ) (ws : List ℕ) → at + length ws ≤ length d / 2 → length (laid d at ws) ≡ length d
-length-laid d at ws h =
-    let a = length-append (take (2 * at) d) (bytes ws ++ drop (2 * (at + length ws)) d) in
-    let b = length-append (bytes ws) (drop (2 * (at + length ws)) d) in
-    let t = length-take-le (2 * at) d (omega arith) in
-    let e = length-bytes ws in
-    let f = length-drop (2 * (at + length ws)) d in
-    omega arith
+length-laid d at ws h = let e = length-bytes ws in length-over d (2 * at) (bytes ws) (omega arith)
 
 -- words laid behind those that were laid
 pub laid-join : (d : List ℕ) (at next : ℕ) (ws vs : List ℕ) → next ≡ at + length ws → next + length vs ≤ length d / 2 →
     laid (laid d at ws) next vs ≡ laid d at (ws ++ vs)
 laid-join d at next ws vs n h =
-    let a = take (2 * at) d in
-    let x = bytes ws in
-    let c = drop (2 * (at + length ws)) d in
-    let t = length-take-le (2 * at) d (omega arith) in
     let e = length-bytes ws in
-    let l : length (take (2 * at) d ++ bytes ws) ≡ 2 * next = length-append a x ∙ omega arith in
-    let m : 2 * (next + length vs) ≡ length (take (2 * at) d ++ bytes ws) + 2 * length vs = omega arith in
-    let o : 2 * (at + length ws) + 2 * length vs ≡ 2 * (at + length (ws ++ vs)) = let y = length-append ws vs in omega arith in
-    let whole : laid d at ws ≡ (a ++ x) ++ c = sym (append-assoc a x c) in
-    let front : take (2 * next) (laid d at ws) ≡ a ++ x = ap (take (2 * next)) whole ∙ take-at (a ++ x) c (2 * next) l in
-    let back : drop (2 * (next + length vs)) (laid d at ws) ≡ drop (2 * (at + length (ws ++ vs))) d =
-    ap (λ k. drop k (laid d at ws)) m ∙ ap (drop (length (a ++ x) + 2 * length vs)) whole ∙ drop-append-add (a ++ x) c (2 * length vs)
-    ∙ drop-drop (2 * length vs) (2 * (at + length ws)) d ∙ ap (λ k. drop k d) o in
-    rw (front, back, bytes-append ws vs) (simp append-assoc)
+    over-over d (2 * at) (bytes ws) (2 * next) (bytes vs) (omega arith) (omega arith) ∙ ap (over d (2 * at)) (sym (bytes-append ws vs))
 
 -- a store lays a word
 pub laid-word : (d : List ℕ) (i w : ℕ) → i < length d / 2 → putWord d i w ≡ laid d i (w ∷ [])
+unfolding over
 laid-word d i w h =
     let b = w % 256 ∷ w / 256 % 256 ∷ [] in
-    let e : 2 * i + 2 ≡ 2 * (i + 1) = omega arith in
     put-in d i w h ∙ ap (λ k. set (set d (2 * i) (w % 256)) k (w / 256 % 256)) (add-one (2 * i))
-    ∙ sets-eq b d (2 * i) (omega arith) ∙ append-assoc (take (2 * i) d) b _ ∙ ap (λ k. take (2 * i) d ++ (b ++ drop k d)) e
+    ∙ sets-eq b d (2 * i) (omega arith) ∙ append-assoc (take (2 * i) d) b _
 
 -- a long is two words
 pub laid-long : (d : List ℕ) (i v : ℕ) → i + 2 ≤ length d / 2 → putLong d i v ≡ laid d i (longs (v ∷ []))

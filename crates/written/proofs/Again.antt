@@ -6,14 +6,14 @@ use native.Mathlib.Omega.{arith}
 use lib.ListN.{length, take, drop}
 use lib.Seq.{take-at}
 use lib.IntN.{ℤ}
-use Rattle.words.specs.Words.{words, bytes}
+use Rattle.words.specs.Words.{words, bytes, over}
 use Rattle.words.proofs.Laws.{length-bytes}
-use Rattle.writer.specs.Words.{elementWords}
-use Rattle.writer.specs.Writing.{writeFault}
-use Rattle.writer.specs.declared.Fields.{Fields}
+use Rattle.fields.specs.Words.{elementWords}
+use Rattle.fields.specs.Faults.{writeFault}
+use Rattle.fields.specs.declared.Fields.{Fields}
 use Rattle.writer.specs.declared.Written.the-variants as written
-use Rattle.writer.proofs.Element.{length-element}
-use Rattle.writer.proofs.Writable.{writable-none}
+use Rattle.fields.proofs.Element.{length-element}
+use Rattle.fields.proofs.Writable.{writable-none}
 use Rattle.written.specs.RoundTrip.{Given, Rewrites}
 use Rattle.written.proofs.Extents.{part-bytes}
 use Rattle.written.proofs.Rewrite.{size-seen, ends-by, call, size-again, stands-again, writable-again}
@@ -30,6 +30,7 @@ module _ {dim : ℕ} {s : List ℕ} {at : ℕ} {f : Fields} {points : List ℤ} 
       ∙ part-bytes s at (g .element .size) (g .file-bytes) (omega arith)
 
 pub rewrites : Rewrites
+unfolding over
 rewrites dim s at f points tail out r last g room w =
     let own = elementWords dim f points tail in
     let z = size-seen g in
@@ -37,5 +38,5 @@ rewrites dim s at f points tail out r last g room w =
     let l : length (bytes (elementWords dim f points tail)) ≡ 2 * g .element .size = let a = length-bytes own in let b = length-again g in omega arith in
     record {
       answer = w .answer ∙ rw none (ap written.Made (size-again g ∙ size-seen g));
-      same = ap (take (2 * g .element .size)) (w .bytes ∙ rw none refl) ∙ take-at (bytes own) (drop (2 * (0 + length own)) out) (2 * g .element .size) l ∙ bytes-again g;
+      same = ap (take (2 * g .element .size)) (w .bytes ∙ rw none refl) ∙ take-at (bytes own) (drop (0 + length (bytes own)) out) (2 * g .element .size) l ∙ bytes-again g;
     }

@@ -12,7 +12,8 @@ use lib.Dec.{eqb}
 use borrow.Author.Tests.{eq-eqb, le-leb}
 use Rattle.words.specs.Words.{words, bytes, Below}
 use Rattle.words.proofs.Laws.{length-bytes, words-bytes, words-below}
-use Rattle.files.specs.Judge.{callOk, judgeOf}
+use Rattle.limits.specs.Limits.{callOk}
+use Rattle.files.specs.Judge.{judgeOf}
 use Rattle.files.specs.Spots.{Spot, spotsOf, spotIn}
 use Rattle.grammar.proofs.Forest.{flat}
 use Rattle.grammar.proofs.Stands.{Stands, stands-append}
@@ -28,7 +29,7 @@ use Rattle.edits.proofs.Lengths.{length-raise}
 use Rattle.edits.proofs.Gaps.{under-starts, file-long, gap-found}
 use Rattle.edits.proofs.Judging.{tree-spots, judged-tree, tree-judged}
 use Rattle.edits.proofs.Sound.{sound}
-use Rattle.writer.proofs.Bounds.{both}
+use Rattle.fields.proofs.Bounds.{both}
 use Rattle.written.specs.RoundTrip.{AcceptedBytes}
 
 ---- accepted files as bytes and as words

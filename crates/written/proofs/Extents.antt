@@ -10,7 +10,7 @@ use lib.Dec.{eqb, leb, ltb}
 use borrow.Author.Tests.{eqb-true}
 use Rattle.words.specs.Words.{words, bytes, Below}
 use Rattle.words.proofs.Laws.{length-words, bytes-words, words-take, words-drop}
-use Rattle.elements.specs.Header.{typeAt, sizeAt}
+use Rattle.headers.specs.Header.{typeAt, sizeAt, extentWords}
 use Rattle.kinds.specs.Kinds.{isHeader}
 use Rattle.files.specs.Judge.{judgeOf}
 use Rattle.files.specs.declared.Judged.the-variants.{Accepted}
@@ -18,8 +18,9 @@ use Rattle.places.specs.declared.Above.{Above}
 use Rattle.places.specs.declared.Above.the-variants.{Under}
 use Rattle.places.specs.declared.Spotted.{Spotted}
 use Rattle.places.specs.declared.Spotted.the-variants as spotted
-use Rattle.places.specs.Places.{spottedAt, extentAnswer, extentBytes}
-use Rattle.places.specs.Descent.{extentWords, locateFrom, descentTo, locateOf}
+use Rattle.places.specs.Places.{spottedAt}
+use Rattle.extents.specs.Extents.{extentAnswer, extentBytes}
+use Rattle.places.specs.Descent.{locateFrom, descentTo, locateOf}
 use Rattle.places.proofs.Places.{spotted-inside, spotted-located}
 use Rattle.edits.proofs.Bounds.{below-take, below-drop}
 

@@ -9,19 +9,19 @@ use lib.ListN.{length}
 use lib.Dec.{eqb}
 use borrow.Author.Tests.{le-leb, eqb-true, eqb-false}
 use Rattle.words.specs.Words.{Below, wordAt, longAt}
-use Rattle.kinds.specs.FirstWord.{levelOf, reservedOf, cOf, typeOf, deletedOf}
-use Rattle.elements.specs.Header.{typeAt, sizeAt}
+use Rattle.kinds.specs.FirstWord.{levelOf, reservedOf, cOf, typeOf, deletedOf, bit}
+use Rattle.headers.specs.Header.{typeAt, sizeAt}
 use Rattle.kinds.specs.Kinds.{isLinked}
-use Rattle.elements.specs.Rules.{reservedOk}
+use Rattle.headers.specs.Flags.{reservedOk}
 use Rattle.grammar.proofs.Stands.{Stands, stands-nil, stands-join}
 use Rattle.places.specs.declared.Above.{Above}
 use Rattle.views.specs.declared.Range.the-variants as range
 use Rattle.views.specs.declared.Display.the-variants as display
-use Rattle.views.specs.Views.{rangeOf as rangeAt, displayOf, elementView}
-use Rattle.writer.specs.Words.{longs, bit, firstWord, rangeOf, symbology, displayWords, headerWords}
-use Rattle.writer.specs.Writing.{isWritten}
-use Rattle.writer.specs.declared.Fields.{Fields}
-use Rattle.writer.proofs.Bounds.{Bounds, by-kinds}
+use Rattle.views.specs.Views.{rangeOf, displayOf, elementView}
+use Rattle.fields.specs.Words.{longs, firstWord, rangeLongs, symbology, displayWords, headerWords}
+use Rattle.fields.specs.Faults.{isWritten}
+use Rattle.fields.specs.declared.Fields.{Fields}
+use Rattle.fields.proofs.Bounds.{Bounds, by-kinds}
 use Rattle.written.specs.Parts.{Shows}
 use Rattle.written.proofs.Spans.{stands-cons, stands-at, LongsAt, longs-small, longs-stand}
 
@@ -32,7 +32,7 @@ pub record Shown (ws : List ℕ) (at : ℕ) (f : Fields) : Type 0 where
   pub c : eqb (cOf (wordAt ws at)) 1 ≡ f .c
   pub kind : typeAt ws at ≡ f .kind
   pub deleted : eqb (deletedOf (wordAt ws at)) 1 ≡ f .deleted
-  pub range : LongsAt ws (at + 2) (rangeOf f)
+  pub range : LongsAt ws (at + 2) (rangeLongs f)
   pub group : wordAt ws (at + 14) ≡ f .group
   pub index : wordAt ws (at + 15) ≡ f .index
   pub properties : wordAt ws (at + 16) ≡ f .properties
@@ -41,8 +41,8 @@ pub record Shown (ws : List ℕ) (at : ℕ) (f : Fields) : Type 0 where
   pub colour : wordAt ws (at + 17) / 256 ≡ f .colour
 
 range-there : (ws : List ℕ) (at : ℕ) → 14 ≤ sizeAt ws at →
-    rangeAt ws at ≡ range.Longs (longAt ws (at + 2)) (longAt ws (at + 4)) (longAt ws (at + 6)) (longAt ws (at + 8)) (longAt ws (at + 10)) (longAt ws (at + 12))
-unfolding rangeAt
+    rangeOf ws at ≡ range.Longs (longAt ws (at + 2)) (longAt ws (at + 4)) (longAt ws (at + 6)) (longAt ws (at + 8)) (longAt ws (at + 10)) (longAt ws (at + 12))
+unfolding rangeOf
 range-there ws at h = rw (le-leb 14 (sizeAt ws at) h) refl
 
 display-there : (ws : List ℕ) (at : ℕ) → isWritten (typeAt ws at) ≡ true →
@@ -138,12 +138,12 @@ module _ (ws : List ℕ) (b : Below 65536 ws) (at : ℕ) (f : Fields) (v : Shown
   pub header-stands : reservedOf (wordAt ws at) ≡ 0 → at + 18 ≤ length ws → Stands (headerWords f (sizeAt ws at)) at ws
   unfolding headerWords
   header-stands z h =
-      let range : Stands (longs (rangeOf f)) (at + 1 + 1) ws =
-      stands-at (at + 1 + 1) (omega arith) (longs-stand ws b (at + 2) (rangeOf f) (v .range) (omega arith)) in
+      let range : Stands (longs (rangeLongs f)) (at + 1 + 1) ws =
+      stands-at (at + 1 + 1) (omega arith) (longs-stand ws b (at + 2) (rangeLongs f) (v .range) (omega arith)) in
       let display : Stands (displayWords f) (at + 1 + 1 + 12) ws = stands-at (at + 1 + 1 + 12) (omega arith) (display-stands h) in
-      let rest = longs (rangeOf f) ++ displayWords f in
+      let rest = longs (rangeLongs f) ++ displayWords f in
       stands-cons (firstWord f) ((sizeAt ws at - 2) ∷ rest) ws at (omega arith) (first-is z)
-      (stands-cons (sizeAt ws at - 2) rest ws (at + 1) (omega arith) (omega arith) (stands-join (longs (rangeOf f)) (displayWords f) range display))
+      (stands-cons (sizeAt ws at - 2) rest ws (at + 1) (omega arith) (omega arith) (stands-join (longs (rangeLongs f)) (displayWords f) range display))
 
   -- each field is in its range
   pub shown-bounds : Bounds f
@@ -157,7 +157,7 @@ module _ (ws : List ℕ) (b : Below 65536 ws) (at : ℕ) (f : Fields) (v : Shown
       let ss = b (at + 17) in
       record {
         level = let l = v .level in omega arith;
-        range = longs-small ws b (at + 2) (rangeOf f) (v .range);
+        range = longs-small ws b (at + 2) (rangeLongs f) (v .range);
         words = (omega arith, (omega arith, (omega arith, tt)));
         style = let x = v .style in omega arith;
         weight = let x = v .weight in omega arith;

@@ -2,7 +2,7 @@
 -- accepted file, and view, points, linkages and tail are those handed in.
 use Prim.Native.Nat.{ℕ, _+_, _*_, _≤_}
 use mathlib.Core.Path.{_≡_, refl, ap, _∙_, subst}
-use mathlib.Core.Bool.{Bool, true, cond, _||_, false≢true}
+use mathlib.Core.Bool.{Bool, true, cond, false≢true}
 use mathlib.Core.List.{List, append-nil}
 use mathlib.Core.Option.{Option, none, some}
 use native.Mathlib.Omega.{arith}
@@ -11,7 +11,7 @@ use lib.Seq.{take-at}
 use lib.IntN.{ℤ}
 use lib.Dec.{eqb}
 use borrow.Author.Tests.{ne-eqb}
-use Rattle.words.specs.Words.{words, bytes}
+use Rattle.words.specs.Words.{words, bytes, over}
 use Rattle.words.proofs.Laws.{length-bytes, words-bytes}
 use Rattle.kinds.specs.Kinds.{mayStand}
 use Rattle.files.specs.Spots.{Spot, spotsOf, spotIn}
@@ -25,12 +25,13 @@ use Rattle.edits.specs.Edits.{insert, apply}
 use Rattle.edits.specs.Allowed.{fine, isSome, startsAt, gapOk, depthBy, depthUnder, typeUnder, pieceFault, insertFault, editFault}
 use Rattle.edits.proofs.Faults.{fine-test, fine-both}
 use Rattle.edits.proofs.Judging.{piece-fine}
-use Rattle.writer.specs.Words.{bit, sizeOf, elementWords}
-use Rattle.writer.specs.Writing.{writeFault}
-use Rattle.writer.specs.declared.Fields.{Fields}
-use Rattle.writer.proofs.Bounds.{both, by-dims}
-use Rattle.writer.proofs.Element.{length-element}
-use Rattle.writer.proofs.Writable.{Writable, writable, writable-none}
+use Rattle.kinds.specs.FirstWord.{bit}
+use Rattle.fields.specs.Words.{sizeOf, elementWords}
+use Rattle.fields.specs.Faults.{writeFault}
+use Rattle.fields.specs.declared.Fields.{Fields}
+use Rattle.fields.proofs.Bounds.{both}
+use Rattle.fields.proofs.Element.{length-element}
+use Rattle.fields.proofs.Writable.{Writable, writable, writable-none}
 use Rattle.written.specs.Parts.{tailPlace}
 use Rattle.written.specs.RoundTrip.{Handed, under, Place, ReadBack, ReadsBack}
 use Rattle.written.proofs.Own.{written-below, written-own}
@@ -72,10 +73,9 @@ module _ {dim : ℕ} {f : Fields} {ps : List ℤ} {tail : List ℕ} {room : ℕ}
       Inserted dim ws h p (elementWords dim f ps tail) after → ReadBack dim (bytes after) h p f ps tail
   read-after ws h p handed after small i =
       let same = words-bytes after (i .kept .below) in
-      let dims : (eqb dim 2 || eqb dim 3) ≡ true = by-dims (λ m. (eqb m 2 || eqb m 3) ≡ true) dim (w .call .dims) refl refl in
       let n = length-element dim f ps tail (w .call) in
       let l = i .long in
-      let file = accepted-bytes dim after dims (omega arith) (i .kept) in
+      let file = accepted-bytes dim after (w .call .dims) (omega arith) (i .kept) in
       let x = i .spot in
       let stands : Stands (elementWords dim f ps tail) p (words (bytes after)) = rw same (i .stands) in
       let found : spottedAt dim (bytes after) p ≡ spotted.At (x .end) (x .depth) (aboveOf (x .header)) =
@@ -107,6 +107,7 @@ words-back dim s h p f ps tail handed place =
 
 -- what the buffer then begins with is the writer's words
 pub reads-back : ReadsBack
+unfolding over
 reads-back dim s h p f ps tail out r last handed place room wrote =
     let w = writable (handed .not-refused) in
     let none : writeFault dim f ps tail (length out) ≡ 0 = writable-none (record { call = w .call; count = w .count; size = w .size; linkages = w .linkages; fits = room }) in
@@ -115,6 +116,6 @@ reads-back dim s h p f ps tail out r last handed place room wrote =
     let l = length-bytes own in
     let same : words (take (2 * sizeOf dim f ps tail) last) ≡ elementWords dim f ps tail =
     ap (λ x. words (take (2 * sizeOf dim f ps tail) x)) (wrote .bytes ∙ rw none refl)
-    ∙ ap words (take-at (bytes own) (drop (2 * (0 + length own)) out) (2 * sizeOf dim f ps tail) (omega arith))
+    ∙ ap words (take-at (bytes own) (drop (0 + length (bytes own)) out) (2 * sizeOf dim f ps tail) (omega arith))
     ∙ words-bytes own (written-below w (handed .coordinates) (handed .tail-bytes)) in
     (wrote .answer ∙ rw none refl, rw same (words-back dim s h p f ps tail handed place))

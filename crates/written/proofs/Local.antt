@@ -11,11 +11,11 @@ use lib.IntN.{ℤ}
 use lib.Dec.{eqb}
 use borrow.Author.Tests.{le-leb, lt-ltb, le-ltb, eqb-true}
 use Rattle.words.specs.Words.{words, bytes, Below, wordAt, longAt, unsigned}
-use Rattle.words.proofs.Laws.{length-words, length-bytes, bytes-words}
+use Rattle.words.proofs.Laws.{length-words, length-bytes, bytes-words, bytes-append}
 use Rattle.linkages.specs.Linkages.{linkageIn}
 use Rattle.linkages.proofs.Local.{walk-local}
-use Rattle.kinds.specs.FirstWord.{levelOf, cOf, typeOf, deletedOf}
-use Rattle.elements.specs.Header.{typeAt, sizeAt, attributePartAt}
+use Rattle.kinds.specs.FirstWord.{levelOf, cOf, typeOf, deletedOf, bit}
+use Rattle.headers.specs.Header.{typeAt, sizeAt, attributePartAt}
 use Rattle.kinds.specs.Kinds.{isHeader, isPointed, isLinked}
 use Rattle.grammar.proofs.Stands.{Stands, stands-word, stands-first, stands-left, stands-right}
 use Rattle.places.specs.declared.Above.{Above}
@@ -27,15 +27,14 @@ use Rattle.reading.specs.declared.Attribute.the-variants as attribute
 use Rattle.views.specs.declared.View.the-variants.{Seen}
 use Rattle.places.specs.Places.{spottedAt}
 use Rattle.views.specs.Views.{rangeOf, displayOf, elementView, viewOf}
-use Rattle.reading.specs.Points.{beforePoints, pointAt, pointOf, pointCount as pointsOf}
+use Rattle.reading.specs.Points.{beforePoints, pointAt, pointOf, pointCount}
 use Rattle.reading.specs.Linkages.{attributeBy, linkageOf}
-use Rattle.writer.specs.Words.{longs, bit, firstWord, symbology, headerWords, countWords, pointCount, sizeOf, elementWords}
-use Rattle.writer.specs.Writing.{pointsFit}
-use Rattle.writer.specs.declared.Fields.{Fields}
-use Rattle.writer.proofs.Bounds.{by-dims, by-kinds, count-whole}
-use Rattle.writer.proofs.Stores.{bytes-append}
-use Rattle.writer.proofs.Element.{front, front-tail, length-header, length-front, length-element, size-least, size-at, kind-at, tail-early, tail-late}
-use Rattle.writer.proofs.Writable.{Writable}
+use Rattle.fields.specs.Words.{longs, firstWord, symbology, headerWords, countWords, pointsIn, sizeOf, elementWords}
+use Rattle.fields.specs.Faults.{pointsFit}
+use Rattle.fields.specs.declared.Fields.{Fields}
+use Rattle.fields.proofs.Bounds.{by-dims, by-kinds, count-whole}
+use Rattle.fields.proofs.Element.{front, front-tail, length-header, length-front, length-element, size-least, size-at, kind-at, tail-early, tail-late}
+use Rattle.fields.proofs.Writable.{Writable}
 use Rattle.written.specs.Parts.{Shows, GivesPoints, linkageMoved, tailPlace, tailLinkage}
 use Rattle.written.specs.RoundTrip.{Longs}
 use Rattle.written.proofs.Own.{plain-kind, first-read, symbology-read}
@@ -150,26 +149,26 @@ module _ {dim : ℕ} {f : Fields} {ps : List ℤ} {tail : List ℕ} {room : ℕ}
   ---- the points
 
   -- how many there are
-  count-there : pointsOf ws at ≡ pointCount dim ps
+  count-there : pointCount ws at ≡ pointsIn dim ps
   unfolding elementWords headerWords pointsFit
   count-there =
       rw (type-there, word-there 18 (omega arith))
       (by-kinds (λ t. pointsFit dim t (length ps) ≡ true →
-      cond (eqb t 3) 2 (cond (isPointed t) (wordAt (countWords t (pointCount dim ps) ++ (longs (map unsigned ps) ++ words tail)) 0) 0) ≡ pointCount dim ps)
+      cond (eqb t 3) 2 (cond (isPointed t) (wordAt (countWords t (pointsIn dim ps) ++ (longs (map unsigned ps) ++ words tail)) 0) 0) ≡ pointsIn dim ps)
       (f .kind) (w .call .kind)
       (by-dims (λ m. eqb (length ps) (2 * m) ≡ true → 2 ≡ length ps / m) dim (w .call .dims) (λ e. omega (arith, eqb-true (length ps) 4 e)) (λ e. omega (arith, eqb-true (length ps) 6 e)))
       (λ e. refl) (λ e. refl) (λ e. refl) (w .call .fit))
 
-  before-there : beforePoints ws at ≡ 18 + length (countWords (f .kind) (pointCount dim ps))
+  before-there : beforePoints ws at ≡ 18 + length (countWords (f .kind) (pointsIn dim ps))
   before-there =
       rw type-there
-      (by-kinds (λ t. cond (eqb t 3) 18 19 ≡ 18 + length (countWords t (pointCount dim ps))) (f .kind) (w .call .kind) refl refl refl refl)
+      (by-kinds (λ t. cond (eqb t 3) 18 19 ≡ 18 + length (countWords t (pointsIn dim ps))) (f .kind) (w .call .kind) refl refl refl refl)
 
   points-stand : Stands (longs (map unsigned ps)) (at + beforePoints ws at) ws
   unfolding elementWords
   points-stand =
       let header = headerWords f (sizeOf dim f ps tail) in
-      let count = countWords (f .kind) (pointCount dim ps) in
+      let count = countWords (f .kind) (pointsIn dim ps) in
       let points = longs (map unsigned ps) in
       let l = length-header dim f ps tail (sizeOf dim f ps tail) in
       let b = before-there in
@@ -202,13 +201,13 @@ module _ {dim : ℕ} {f : Fields} {ps : List ℤ} {tail : List ℕ} {room : ℕ}
   unfolding viewOf
   seen = rw found refl
 
-  point-there : (k : ℕ) → k < pointCount dim ps → pointOf dim s at k ≡ pointAt dim (words s) (at + beforePoints (words s) at + 2 * dim * k)
+  point-there : (k : ℕ) → k < pointsIn dim ps → pointOf dim s at k ≡ pointAt dim (words s) (at + beforePoints (words s) at + 2 * dim * k)
   unfolding pointOf
-  point-there k h = rw (found, count-there w stands, lt-ltb k (pointCount dim ps) h) refl
+  point-there k h = rw (found, count-there w stands, lt-ltb k (pointsIn dim ps) h) refl
 
-  no-point : pointOf dim s at (pointCount dim ps) ≡ point.Refused 13 0
+  no-point : pointOf dim s at (pointsIn dim ps) ≡ point.Refused 13 0
   unfolding pointOf
-  no-point = rw (found, count-there w stands, le-ltb (pointCount dim ps) (pointCount dim ps) (omega arith)) refl
+  no-point = rw (found, count-there w stands, le-ltb (pointsIn dim ps) (pointsIn dim ps) (omega arith)) refl
 
   pub points-given : Longs ps → GivesPoints dim s at ps
   points-given l =
@@ -217,8 +216,8 @@ module _ {dim : ℕ} {f : Fields} {ps : List ℤ} {tail : List ℕ} {room : ℕ}
       let first : start + 2 * dim * 0 ≡ start = by-dims (λ m. start + 2 * m * 0 ≡ start) dim (c .dims) (omega arith) (omega arith) in
       record {
         all =
-            points-numbers dim (c .dims) s at start (pointCount dim ps) point-there (pointCount dim ps) 0 (omega arith)
-            ∙ ap (numbersFrom (dim * pointCount dim ps) (words s)) first
+            points-numbers dim (c .dims) s at start (pointsIn dim ps) point-there (pointsIn dim ps) 0 (omega arith)
+            ∙ ap (numbersFrom (dim * pointsIn dim ps) (words s)) first
             ∙ ap (λ n. numbersFrom n (words s) start) (sym (count-whole dim (f .kind) (length ps) (c .dims) (c .kind) (c .fit)))
             ∙ numbers-stand ps (words s) start l (points-stand w stands);
         no-more = no-point;

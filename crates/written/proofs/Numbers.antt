@@ -6,13 +6,13 @@ use mathlib.Core.List.{List, [], _∷_, _++_, map}
 use native.Mathlib.Omega.{arith}
 use lib.ListN.{length}
 use lib.IntN.{ℤ}
+use Rattle.limits.specs.Limits.{dimOk}
 use Rattle.words.specs.Words.{words, longAt, signed, unsigned}
 use Rattle.words.proofs.Signed.{signed-unsigned}
-use Rattle.kinds.specs.Kinds.{oneOf}
 use Rattle.grammar.proofs.Stands.{Stands, stands-word, stands-first, stands-right}
 use Rattle.reading.specs.Points.{pointAt, pointOf}
-use Rattle.writer.specs.Words.{longs}
-use Rattle.writer.proofs.Bounds.{by-dims}
+use Rattle.fields.specs.Words.{longs}
+use Rattle.fields.proofs.Bounds.{by-dims}
 use Rattle.written.specs.Parts.{coordinates, pointsFrom}
 use Rattle.written.specs.RoundTrip.{Longs}
 
@@ -47,13 +47,13 @@ numbers-stand (z ∷ zs) ws q l s =
     cons (ap signed first ∙ signed-unsigned z (l .0)) (numbers-stand zs ws (q + 2) (l .1) (stands-right two (longs (map unsigned zs)) s))
 
 -- a point's coordinates are as many numbers as the file has dimensions
-point-numbers : (dim : ℕ) → oneOf (2 ∷ 3 ∷ []) dim ≡ true → (ws : List ℕ) (q : ℕ) → coordinates (pointAt dim ws q) ≡ numbersFrom dim ws q
+point-numbers : (dim : ℕ) → dimOk dim ≡ true → (ws : List ℕ) (q : ℕ) → coordinates (pointAt dim ws q) ≡ numbersFrom dim ws q
 point-numbers dim d ws q =
     let e : q + 4 ≡ q + 2 + 2 = omega arith in
     by-dims (λ m. coordinates (pointAt m ws q) ≡ numbersFrom m ws q) dim d refl (rw e refl)
 
 -- points one after another are numbers one after another
-module _ (dim : ℕ) (d : oneOf (2 ∷ 3 ∷ []) dim ≡ true) (s : List ℕ) (at start count : ℕ)
+module _ (dim : ℕ) (d : dimOk dim ≡ true) (s : List ℕ) (at start count : ℕ)
     (each : (k : ℕ) → k < count → pointOf dim s at k ≡ pointAt dim (words s) (start + 2 * dim * k)) where
   pub points-numbers : (n k : ℕ) → k + n ≤ count → pointsFrom n k dim s at ≡ numbersFrom (dim * n) (words s) (start + 2 * dim * k)
   unfolding pointsFrom

@@ -1,6 +1,6 @@
 -- The words that the writer makes, by themselves: what is read of the first one and of the symbology word, that all are
 -- words, and that they are the own words of an element of the grammar where C is as the depth asks.
-use Prim.Native.Nat.{ℕ, _-_, _/_, _%_, _≤_, _<_}
+use Prim.Native.Nat.{ℕ, _-_, _/_, _%_, _≤_, _<_, _+_}
 use mathlib.Core.Path.{_≡_, refl, sym, _∙_}
 use mathlib.Core.Bool.{Bool, true, false, cond, not, _&&_, _||_}
 use mathlib.Core.List.{List, [], _∷_, _++_, map}
@@ -13,20 +13,21 @@ use Rattle.words.specs.Words.{words, Below, wordAt, unsigned}
 use Rattle.words.proofs.Laws.{words-below}
 use Rattle.words.proofs.Signed.{unsigned-small}
 use Rattle.names.specs.Names.{nameOk}
-use Rattle.kinds.specs.FirstWord.{levelOf, reservedOf, cOf, typeOf, deletedOf}
-use Rattle.elements.specs.Header.{typeAt, sizeAt, pointsAt, countAt}
-use Rattle.kinds.specs.Kinds.{isHeader, isCounted, isPointed, fixedPart, mayStand}
-use Rattle.elements.specs.Rules.{reservedOk, placeOk, pointsOk, fixedOk, storedNameOk, countOk}
+use Rattle.kinds.specs.FirstWord.{levelOf, reservedOf, cOf, typeOf, deletedOf, bit}
+use Rattle.headers.specs.Header.{typeAt, sizeAt, pointsAt, countAt}
+use Rattle.kinds.specs.Kinds.{isHeader, isCounted, isPointed, isCell, nameWord, fixedPart, mayStand}
+use Rattle.headers.specs.Flags.{reservedOk, placeOk}
+use Rattle.elements.specs.Rules.{pointsOk, fixedOk, storedNameOk, countOk}
 use Rattle.kinds.proofs.Types.{Each}
 use Rattle.grammar.specs.Grammar.{Own}
 use Rattle.edits.proofs.Tests.{both-and, or-right}
 use Rattle.edits.proofs.Bounds.{below-nil, below-cons, below-append}
-use Rattle.writer.specs.Words.{longs, bit, firstWord, rangeOf, symbology, displayWords, headerWords, countWords, pointCount, sizeOf, elementWords}
-use Rattle.writer.specs.Writing.{isWritten, countOk as nOk}
-use Rattle.writer.specs.declared.Fields.{Fields}
-use Rattle.writer.proofs.Bounds.{Bounds, bounds, Called, by-kinds, count-small}
-use Rattle.writer.proofs.Element.{bit-small, kind-small, first-small, length-element, size-least, size-at, kind-at, fixed-at}
-use Rattle.writer.proofs.Writable.{Writable}
+use Rattle.fields.specs.Words.{longs, firstWord, rangeLongs, symbology, displayWords, headerWords, countWords, pointsIn, sizeOf, elementWords}
+use Rattle.fields.specs.Faults.{isWritten, pointNumberOk}
+use Rattle.fields.specs.declared.Fields.{Fields}
+use Rattle.fields.proofs.Bounds.{Bounds, bounds, Called, by-kinds, count-small}
+use Rattle.fields.proofs.Element.{bit-small, kind-small, first-small, length-element, size-least, size-at, kind-at, fixed-at}
+use Rattle.fields.proofs.Writable.{Writable}
 use Rattle.written.specs.RoundTrip.{Longs}
 
 ---- what is read of word 0 and of the symbology word
@@ -92,9 +93,9 @@ below-header f size b k h =
     let x = b .words .0 in
     let y = b .words .1 .0 in
     let z = b .words .1 .1 .0 in
-    below-append 65536 (firstWord f ∷ (size - 2) ∷ []) (longs (rangeOf f) ++ displayWords f)
+    below-append 65536 (firstWord f ∷ (size - 2) ∷ []) (longs (rangeLongs f) ++ displayWords f)
     (below-each 65536 (firstWord f ∷ (size - 2) ∷ []) (omega arith) (first-small f (b .level) k, (omega arith, tt)))
-    (below-append 65536 (longs (rangeOf f)) (displayWords f) (below-longs (rangeOf f) (b .range))
+    (below-append 65536 (longs (rangeLongs f)) (displayWords f) (below-longs (rangeLongs f) (b .range))
     (below-each 65536 (displayWords f) (omega arith) (omega arith, (omega arith, (omega arith, (omega arith, tt))))))
 
 ---- what the types that are written are not: headers, cells
@@ -109,7 +110,7 @@ module _ {dim : ℕ} {f : Fields} {ps : List ℤ} {tail : List ℕ} {room : ℕ}
       let c = w .call in
       let n = count-small dim (f .kind) (length ps) (c .dims) (c .kind) (c .fit) (w .count) in
       below-append 65536 (headerWords f (sizeOf dim f ps tail)) _ (below-header f (sizeOf dim f ps tail) (bounds f (c .fields)) (kind-small (f .kind) (c .kind)) (w .size))
-      (below-append 65536 (countWords (f .kind) (pointCount dim ps)) (longs (map unsigned ps) ++ words tail) (below-count (f .kind) (pointCount dim ps) (omega arith))
+      (below-append 65536 (countWords (f .kind) (pointsIn dim ps)) (longs (map unsigned ps) ++ words tail) (below-count (f .kind) (pointsIn dim ps) (omega arith))
       (below-append 65536 (longs (map unsigned ps)) (words tail) (below-longs (map unsigned ps) (each-long ps l)) (words-below tail b)))
 
   ---- the rules of the grammar
@@ -119,7 +120,7 @@ module _ {dim : ℕ} {f : Fields} {ps : List ℤ} {tail : List ℕ} {room : ℕ}
   first-is = refl
 
   -- N is in word 18 of the types that have it
-  points-at : isPointed (f .kind) ≡ true → pointsAt (elementWords dim f ps tail) 0 ≡ pointCount dim ps
+  points-at : isPointed (f .kind) ≡ true → pointsAt (elementWords dim f ps tail) 0 ≡ pointsIn dim ps
   unfolding elementWords headerWords
   points-at e = rw e refl
 
@@ -132,7 +133,7 @@ module _ {dim : ℕ} {f : Fields} {ps : List ℤ} {tail : List ℕ} {room : ℕ}
   place-ok depth e = or-right (eqb (typeOf (firstWord f)) 9) (eq-eqb _ _ (first-read (w .call) .c ∙ e))
 
   fixed-ok : fixedOk dim (elementWords dim f ps tail) 0 ≡ true
-  unfolding fixedOk nOk sizeOf
+  unfolding fixedOk pointNumberOk sizeOf
   fixed-ok = rw kind (go (isPointed (f .kind)) refl (w .count))
     where
       kind : typeAt (elementWords dim f ps tail) 0 ≡ f .kind
@@ -144,7 +145,7 @@ module _ {dim : ℕ} {f : Fields} {ps : List ℤ} {tail : List ℕ} {room : ℕ}
           let s = size-at dim f ps tail (w .call) in
           le-leb (fixedPart dim (f .kind) (pointsAt (elementWords dim f ps tail) 0)) (sizeAt (elementWords dim f ps tail) 0) (omega arith)
 
-      go : (b : Bool) → isPointed (f .kind) ≡ b → (not b || (leb 2 (pointCount dim ps) && leb (pointCount dim ps) 101)) ≡ true →
+      go : (b : Bool) → isPointed (f .kind) ≡ b → (not b || (leb 2 (pointsIn dim ps) && leb (pointsIn dim ps) 101)) ≡ true →
           ((not b || pointsOk (elementWords dim f ps tail) 0) && leb (fixedPart dim (f .kind) (pointsAt (elementWords dim f ps tail) 0)) (sizeAt (elementWords dim f ps tail) 0)) ≡ true
       go true e n =
           let s = size-at dim f ps tail (w .call) in
@@ -156,8 +157,7 @@ module _ {dim : ℕ} {f : Fields} {ps : List ℤ} {tail : List ℕ} {room : ℕ}
   unfolding storedNameOk
   name-ok =
       rw (kind-at dim f ps tail (w .call))
-      (by-kinds (λ t. ((not (eqb t 1) || nameOk (wordAt (elementWords dim f ps tail) 16) (wordAt (elementWords dim f ps tail) 17))
-      && (not (eqb t 2) || nameOk (wordAt (elementWords dim f ps tail) 19) (wordAt (elementWords dim f ps tail) 20))) ≡ true) (f .kind) (w .call .kind) refl refl refl refl)
+      (by-kinds (λ t. (not (isCell t) || nameOk (wordAt (elementWords dim f ps tail) (0 + nameWord t)) (wordAt (elementWords dim f ps tail) (0 + nameWord t + 1))) ≡ true) (f .kind) (w .call .kind) refl refl refl refl)
 
   count-ok : countOk (elementWords dim f ps tail) 0 0 ≡ true
   unfolding countOk

@@ -11,10 +11,11 @@ use lib.Seq.{length-take-le}
 use lib.IntN.{ℤ}
 use lib.Dec.{eqb, leb}
 use borrow.Author.Tests.{leb-true, eq-eqb}
+use Rattle.limits.specs.Limits.{dimOk}
 use Rattle.words.specs.Words.{words, bytes, Below, wordAt, unsigned}
 use Rattle.words.proofs.Laws.{length-bytes, words-bytes, words-drop, words-below}
-use Rattle.elements.specs.Header.{typeAt, sizeAt, pointsAt}
-use Rattle.kinds.specs.Kinds.{oneOf, isHeader, isPointed, isLinked, fixedPart}
+use Rattle.headers.specs.Header.{typeAt, sizeAt, pointsAt}
+use Rattle.kinds.specs.Kinds.{isHeader, isPointed, isLinked, fixedPart}
 use Rattle.elements.specs.Rules.{pointsOk, fixedOk}
 use Rattle.elements.proofs.Laws.{Checked, fixed-least, linked-size}
 use Rattle.grammar.proofs.Stands.{Stands, stands-nil, stands-part, stands-join, stands-right}
@@ -25,13 +26,12 @@ use Rattle.views.specs.declared.Element.{Element}
 use Rattle.views.specs.Views.{elementView}
 use Rattle.reading.specs.Points.{beforePoints}
 use Rattle.edits.proofs.Bounds.{below-take, below-drop}
-use Rattle.writer.specs.Words.{longs, headerWords, countWords, pointCount, sizeOf, elementWords}
-use Rattle.writer.specs.Writing.{isWritten, pointsFit, countOk}
-use Rattle.writer.specs.declared.Fields.{Fields}
-use Rattle.writer.proofs.Bounds.{both, bounds-ok, Called, by-dims, by-kinds, fixed-is}
-use Rattle.writer.proofs.Stores.{length-longs}
-use Rattle.writer.proofs.Element.{length-header, length-element, size-least, size-at}
-use Rattle.writer.proofs.Writable.{Writable}
+use Rattle.fields.specs.Words.{longs, headerWords, countWords, pointsIn, sizeOf, elementWords}
+use Rattle.fields.specs.Faults.{isWritten, pointsFit, pointNumberOk}
+use Rattle.fields.specs.declared.Fields.{Fields}
+use Rattle.fields.proofs.Bounds.{both, bounds-ok, Called, by-dims, by-kinds, fixed-is}
+use Rattle.fields.proofs.Element.{length-longs, length-header, length-element, size-least, size-at}
+use Rattle.fields.proofs.Writable.{Writable}
 use Rattle.written.specs.Parts.{Shows}
 use Rattle.written.specs.RoundTrip.{Given}
 use Rattle.written.proofs.Own.{plain-kind}
@@ -52,7 +52,7 @@ before-by : (t n : ℕ) → isWritten t ≡ true → cond (eqb t 3) 18 19 ≡ 18
 before-by t n k = by-kinds (λ t. cond (eqb t 3) 18 19 ≡ 18 + length (countWords t n)) t k refl refl refl refl
 
 -- so many points have a number of coordinates that the writer takes
-fit-by : (dim t m p : ℕ) → oneOf (2 ∷ 3 ∷ []) dim ≡ true → isWritten t ≡ true → p ≡ dim * countBy t m → pointsFit dim t p ≡ true
+fit-by : (dim t m p : ℕ) → dimOk dim ≡ true → isWritten t ≡ true → p ≡ dim * countBy t m → pointsFit dim t p ≡ true
 unfolding pointsFit
 fit-by dim t m p d k =
     by-kinds (λ t. p ≡ dim * countBy t m → pointsFit dim t p ≡ true) t k
@@ -67,10 +67,10 @@ module _ (dim t n m : ℕ) (k : isWritten t ≡ true) (e : n ≡ countBy t m) wh
   unfolding fixedPart
   fixed-by = by-kinds (λ t. n ≡ countBy t m → fixedPart dim t m ≡ fixedPart dim t n) t k (λ q. refl) (λ q. rw q refl) (λ q. rw q refl) (λ q. rw q refl) e
 
-  count-by : (b : Bool) → (not (isPointed t) || (b && (leb 2 m && leb m 101))) ≡ true → countOk t n ≡ true
-  unfolding countOk
+  count-by : (b : Bool) → (not (isPointed t) || (b && (leb 2 m && leb m 101))) ≡ true → pointNumberOk t n ≡ true
+  unfolding pointNumberOk
   count-by b =
-      by-kinds (λ t. n ≡ countBy t m → (not (isPointed t) || (b && (leb 2 m && leb m 101))) ≡ true → countOk t n ≡ true) t k
+      by-kinds (λ t. n ≡ countBy t m → (not (isPointed t) || (b && (leb 2 m && leb m 101))) ≡ true → pointNumberOk t n ≡ true) t k
       (λ q h. refl) small small small e
     where
       small : n ≡ m → (b && (leb 2 m && leb m 101)) ≡ true → (leb 2 n && leb n 101) ≡ true
@@ -91,7 +91,7 @@ module _ {dim : ℕ} {s : List ℕ} {at : ℕ} {f : Fields} {points : List ℤ} 
   small : Below 65536 (words s)
   small = words-below s (g .file-bytes)
 
-  dims : oneOf (2 ∷ 3 ∷ []) dim ≡ true
+  dims : dimOk dim ≡ true
   dims = call-dims dim s (accepted-is dim s (g .elements) (g .deepest) (g .marker) (g .judged) .call)
 
   kind-is : typeAt (words s) at ≡ f .kind
@@ -128,7 +128,7 @@ module _ {dim : ℕ} {s : List ℕ} {at : ℕ} {f : Fields} {points : List ℤ} 
       (subst (λ x. Shows x f) (sym (view .is)) (g .shows))
 
   -- its points
-  count : pointCount dim points ≡ countBy (f .kind) (pointsAt (words s) at)
+  count : pointsIn dim points ≡ countBy (f .kind) (pointsAt (words s) at)
   count =
       given-count dim s at (view .found) dims points (g .gives-points)
       ∙ ap (λ t. countBy t (pointsAt (words s) at)) kind-is
@@ -140,15 +140,15 @@ module _ {dim : ℕ} {s : List ℕ} {at : ℕ} {f : Fields} {points : List ℤ} 
       ∙ ap (λ t. dim * countBy t (pointsAt (words s) at)) kind-is)
 
   -- its fixed part and its tail
-  fixed-same : fixedPart dim (typeAt (words s) at) (pointsAt (words s) at) ≡ fixedPart dim (f .kind) (pointCount dim points)
+  fixed-same : fixedPart dim (typeAt (words s) at) (pointsAt (words s) at) ≡ fixedPart dim (f .kind) (pointsIn dim points)
   fixed-same =
       ap (λ t. fixedPart dim t (pointsAt (words s) at)) kind-is
-      ∙ fixed-by dim (f .kind) (pointCount dim points) (pointsAt (words s) at) written-kind count
+      ∙ fixed-by dim (f .kind) (pointsIn dim points) (pointsAt (words s) at) written-kind count
 
-  fixed-within : fixedPart dim (f .kind) (pointCount dim points) ≤ sizeAt (words s) at
+  fixed-within : fixedPart dim (f .kind) (pointsIn dim points) ≤ sizeAt (words s) at
   fixed-within = let l = fixed-least dim (words s) at (rules .fixed) in let e = fixed-same in omega arith
 
-  fixed-words : fixedPart dim (f .kind) (pointCount dim points) ≡ 18 + (length (countWords (f .kind) (pointCount dim points)) + 2 * length points)
+  fixed-words : fixedPart dim (f .kind) (pointsIn dim points) ≡ 18 + (length (countWords (f .kind) (pointsIn dim points)) + 2 * length points)
   fixed-words = fixed-is dim (f .kind) (length points) dims written-kind fits
 
   -- its own words
@@ -161,21 +161,21 @@ module _ {dim : ℕ} {s : List ℕ} {at : ℕ} {f : Fields} {points : List ℤ} 
       let d = length-drop at (words s) in
       length-take-le (sizeAt (words s) at) (drop at (words s)) (omega arith)
 
-  tail-part : tail ≡ drop (2 * fixedPart dim (f .kind) (pointCount dim points)) (bytes part)
+  tail-part : tail ≡ drop (2 * fixedPart dim (f .kind) (pointsIn dim points)) (bytes part)
   tail-part =
       sym (g .gives-tail)
-      ∙ ap (drop (2 * fixedPart dim (f .kind) (pointCount dim points)))
+      ∙ ap (drop (2 * fixedPart dim (f .kind) (pointsIn dim points)))
       (extent-own dim s at (g .elements) (g .deepest) (g .marker) (view .end) (view .depth) (view .above) (g .file-bytes) (g .judged) (view .found) (ap isHeader kind-is ∙ plain-kind (f .kind) written-kind))
 
-  tail-is : words tail ≡ drop (fixedPart dim (f .kind) (pointCount dim points)) part
+  tail-is : words tail ≡ drop (fixedPart dim (f .kind) (pointsIn dim points)) part
   tail-is =
-      let n = fixedPart dim (f .kind) (pointCount dim points) in
+      let n = fixedPart dim (f .kind) (pointsIn dim points) in
       ap words tail-part ∙ words-drop n (bytes part)
       ∙ ap (drop n) (words-bytes part (below-take 65536 (sizeAt (words s) at) (drop at (words s)) (omega arith) (below-drop 65536 at (words s) small)))
 
-  tail-long : length tail ≡ 2 * (sizeAt (words s) at - fixedPart dim (f .kind) (pointCount dim points))
+  tail-long : length tail ≡ 2 * (sizeAt (words s) at - fixedPart dim (f .kind) (pointsIn dim points))
   tail-long =
-      let n = fixedPart dim (f .kind) (pointCount dim points) in
+      let n = fixedPart dim (f .kind) (pointsIn dim points) in
       let a = length-bytes part in
       let b = part-long in
       ap length tail-part ∙ length-drop (2 * n) (bytes part) ∙ omega arith
@@ -183,9 +183,9 @@ module _ {dim : ℕ} {s : List ℕ} {at : ℕ} {f : Fields} {points : List ℤ} 
   pub call : Called dim f (length points) (length tail)
   call = record { dims = dims; kind = written-kind; fields = bounds-ok f (shown-bounds (words s) small at f fields); fit = fits; even = (let l = tail-long in omega arith) }
 
-  tail-stands : Stands (words tail) (at + fixedPart dim (f .kind) (pointCount dim points)) (words s)
+  tail-stands : Stands (words tail) (at + fixedPart dim (f .kind) (pointsIn dim points)) (words s)
   tail-stands =
-      let n = fixedPart dim (f .kind) (pointCount dim points) in
+      let n = fixedPart dim (f .kind) (pointsIn dim points) in
       let h = fixed-within in
       let e = ends-by in
       let b = part-long in
@@ -196,7 +196,7 @@ module _ {dim : ℕ} {s : List ℕ} {at : ℕ} {f : Fields} {points : List ℤ} 
   pub size-again : sizeOf dim f points tail ≡ sizeAt (words s) at
   unfolding sizeOf
   size-again =
-      let n = fixedPart dim (f .kind) (pointCount dim points) in
+      let n = fixedPart dim (f .kind) (pointsIn dim points) in
       let h = fixed-within in
       let l = tail-long in
       omega arith
@@ -209,22 +209,22 @@ module _ {dim : ℕ} {s : List ℕ} {at : ℕ} {f : Fields} {points : List ℤ} 
       let e = ends-by in
       rw size-again (header-stands (words s) small at f fields (reserved-zero (wordAt (words s) at) (ap isWritten kind-is ∙ written-kind) (rules .reserved)) (omega arith))
 
-  points-again : Stands (longs (map unsigned points)) (at + (18 + length (countWords (f .kind) (pointCount dim points)))) (words s)
+  points-again : Stands (longs (map unsigned points)) (at + (18 + length (countWords (f .kind) (pointsIn dim points)))) (words s)
   points-again =
-      let b : beforePoints (words s) at ≡ 18 + length (countWords (f .kind) (pointCount dim points)) =
-      ap (λ t. cond (eqb t 3) 18 19) kind-is ∙ before-by (f .kind) (pointCount dim points) written-kind in
+      let b : beforePoints (words s) at ≡ 18 + length (countWords (f .kind) (pointsIn dim points)) =
+      ap (λ t. cond (eqb t 3) 18 19) kind-is ∙ before-by (f .kind) (pointsIn dim points) written-kind in
       let l = given-longs dim s at (view .found) dims points (g .gives-points) small in
       let m = length-map points unsigned in
       let x = fixed-words in
       let h = fixed-within in
       let e = ends-by in
-      longs-stand (words s) small (at + (18 + length (countWords (f .kind) (pointCount dim points)))) (map unsigned points) (rw b at l) (omega arith)
+      longs-stand (words s) small (at + (18 + length (countWords (f .kind) (pointsIn dim points)))) (map unsigned points) (rw b at l) (omega arith)
 
   pub stands-again : Stands (elementWords dim f points tail) at (words s)
   unfolding elementWords
   stands-again =
       let header = headerWords f (sizeOf dim f points tail) in
-      let n = countWords (f .kind) (pointCount dim points) in
+      let n = countWords (f .kind) (pointsIn dim points) in
       let coordinates = longs (map unsigned points) in
       let a = length-header dim f points tail (sizeOf dim f points tail) in
       let b = length-longs (map unsigned points) in
@@ -233,7 +233,7 @@ module _ {dim : ℕ} {s : List ℕ} {at : ℕ} {f : Fields} {points : List ℤ} 
       let e = ends-by in
       let l = size-least dim f points tail call in
       let z = size-again in
-      let second = count-stands dim (f .kind) (pointCount dim points) (pointsAt (words s) at) written-kind count (words s) (at + 18) refl (omega arith) in
+      let second = count-stands dim (f .kind) (pointsIn dim points) (pointsAt (words s) at) written-kind count (words s) (at + 18) refl (omega arith) in
       stands-join header (n ++ (coordinates ++ words tail)) header-again
       (stands-join n (coordinates ++ words tail) (stands-at (at + length header) (omega arith) second)
       (stands-join coordinates (words tail) (stands-at (at + length header + length n) (omega arith) points-again)
@@ -241,10 +241,10 @@ module _ {dim : ℕ} {s : List ℕ} {at : ℕ} {f : Fields} {points : List ℤ} 
 
   ---- the call
 
-  count-again : countOk (f .kind) (pointCount dim points) ≡ true
+  count-again : pointNumberOk (f .kind) (pointsIn dim points) ≡ true
   unfolding fixedOk
   count-again =
-      count-by dim (f .kind) (pointCount dim points) (pointsAt (words s) at) written-kind count (leb 19 (sizeAt (words s) at))
+      count-by dim (f .kind) (pointsIn dim points) (pointsAt (words s) at) written-kind count (leb 19 (sizeAt (words s) at))
       (subst (λ t. (not (isPointed t) || pointsOk (words s) at) ≡ true) kind-is (both (not (isPointed (typeAt (words s) at)) || pointsOk (words s) at) _ (rules .fixed) .0))
 
   pub writable-again : (room : ℕ) → 2 * sizeAt (words s) at ≤ room → Writable dim f points tail room

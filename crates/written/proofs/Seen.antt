@@ -2,16 +2,15 @@
 -- its rules hold at its place.
 use Prim.Native.Nat.{ℕ, _+_, _≤_}
 use mathlib.Core.Path.{_≡_, refl, sym, ap, _∙_, subst}
-use mathlib.Core.Bool.{Bool, true, false, _&&_, _||_}
-use mathlib.Core.List.{List, [], _∷_}
+use mathlib.Core.Bool.{true, and-eq-true-iff}
+use mathlib.Core.List.{List}
 use mathlib.Core.Option.{Option, none, some}
 use native.Mathlib.Omega.{arith}
 use lib.ListN.{length}
-use lib.Dec.{eqb}
 use Rattle.words.specs.Words.{words}
-use Rattle.kinds.specs.Kinds.{oneOf}
 use Rattle.elements.proofs.Laws.{Checked}
-use Rattle.files.specs.Judge.{judgeOf, callOk}
+use Rattle.files.specs.Judge.{judgeOf}
+use Rattle.limits.specs.Limits.{callOk, dimOk, sizeOk}
 use Rattle.files.specs.Spots.{Spot, spotsOf, spotIn}
 use Rattle.files.specs.declared.Judged.the-variants.{Accepted}
 use Rattle.grammar.proofs.Stands.{Stands, stands-fit}
@@ -33,14 +32,9 @@ use Rattle.places.proofs.Places.{spot-inside, spotted-found}
 use Rattle.written.proofs.Spans.{stands-at}
 
 -- the dimension of a good call is 2 or 3
-pub call-dims : (dim : ℕ) (s : List ℕ) → callOk dim s ≡ true → oneOf (2 ∷ 3 ∷ []) dim ≡ true
+pub call-dims : (dim : ℕ) (s : List ℕ) → callOk dim s ≡ true → dimOk dim ≡ true
 unfolding callOk
-call-dims dim s = go (eqb dim 2) (eqb dim 3) _
-  where
-    go : (a b c : Bool) → ((a || b) && c) ≡ true → (a || (b || false)) ≡ true
-    go true b c e = refl
-    go false true c e = refl
-    go false false c e = e
+call-dims dim s e = and-eq-true-iff (dimOk dim) (sizeOk (length s)) .0 e .0
 
 -- the rules of an element hold at a place of words, by their end
 pub record Ruled (dim : ℕ) (ws : List ℕ) (at : ℕ) : Type 0 where

@@ -9,7 +9,7 @@ use lib.Seq.{drop-cons}
 use Rattle.words.specs.Words.{Below, wordAt, longAt}
 use Rattle.kinds.proofs.Types.{Each}
 use Rattle.grammar.proofs.Stands.{Stands, stands-nil}
-use Rattle.writer.specs.Words.{longs}
+use Rattle.fields.specs.Words.{longs}
 
 pub stands-cons : (w : ℕ) (l ws : List ℕ) (at : ℕ) → at < length ws → wordAt ws at ≡ w → Stands l (at + 1) ws → Stands (w ∷ l) at ws
 stands-cons w l ws at h e s = record {

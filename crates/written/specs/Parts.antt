@@ -1,4 +1,4 @@
--- The parts of an element of a written kind, as the reading calls give them and as the writer takes them: header fields,
+-- The parts of an element of a type that is written, as the reading calls give them and as the writer takes them: header fields,
 -- points, tail and linkages. s are a file's bytes, at is the element's place.
 use Prim.Native.Nat.{ℕ, zero, suc, _+_, _-_, _*_, _/_, _%_}
 use mathlib.Core.Path.{_≡_}
@@ -19,10 +19,10 @@ use Rattle.reading.specs.declared.Point.{Point}
 use Rattle.reading.specs.declared.Point.the-variants as point
 use Rattle.reading.specs.declared.Attribute.{Attribute}
 use Rattle.reading.specs.declared.Attribute.the-variants as attribute
-use Rattle.places.specs.Places.{extentBytes}
+use Rattle.extents.specs.Extents.{extentBytes}
 use Rattle.reading.specs.Points.{pointOf}
-use Rattle.writer.specs.Words.{pointCount}
-use Rattle.writer.specs.declared.Fields.{Fields}
+use Rattle.fields.specs.Words.{pointsIn}
+use Rattle.fields.specs.declared.Fields.{Fields}
 
 -- a view shows these header fields
 pub record Shows (e : Element) (f : Fields) : Type 0 where
@@ -46,8 +46,8 @@ pointsFrom (suc n) k dim s at = coordinates (pointOf dim s at k) ++ pointsFrom n
 
 -- the calls for points give these coordinates, and 13 for the number after the last
 pub record GivesPoints (dim : ℕ) (s : List ℕ) (at : ℕ) (points : List ℤ) : Type 0 where
-  pub all : pointsFrom (pointCount dim points) 0 dim s at ≡ points
-  pub no-more : pointOf dim s at (pointCount dim points) ≡ point.Refused 13 0
+  pub all : pointsFrom (pointsIn dim points) 0 dim s at ≡ points
+  pub no-more : pointOf dim s at (pointsIn dim points) ≡ point.Refused 13 0
 
 -- a linkage of a tail that begins at a place of the file
 abbrev pub linkageMoved : ℕ → Linkage → Attribute
@@ -56,7 +56,7 @@ linkageMoved from linked.Nothing = attribute.Refused 13 0
 
 -- where the tail begins, counted from the element's start
 abbrev pub tailPlace : ℕ → Fields → List ℤ → ℕ
-tailPlace dim f points = fixedPart dim (f .kind) (pointCount dim points)
+tailPlace dim f points = fixedPart dim (f .kind) (pointsIn dim points)
 
 -- the tail that reading gives: of the bytes of the extent, which of a written type is the element, all after the fixed part
 abbrev pub tailRead : ℕ → List ℕ → ℕ → Fields → List ℤ → List ℕ

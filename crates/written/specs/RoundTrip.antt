@@ -1,5 +1,5 @@
--- The two round trips (demand 2): what is written reads back the same, and accepted elements of a written
--- kind rewrite to the same bytes.
+-- The two round trips (demand 2): what is written reads back the same, and accepted elements of a type
+-- that is written rewrite to the same bytes.
 use Prim.Native.Nat.{ℕ, _+_, _*_, _≤_, _<_}
 use mathlib.Core.Path.{_≡_}
 use mathlib.Core.Bool.{Bool, true, false}
@@ -20,9 +20,10 @@ use Rattle.views.specs.Views.{viewOf}
 use Rattle.reading.specs.Linkages.{linkageOf}
 use Rattle.edits.specs.Edits.{insert, apply, downTo}
 use Rattle.edits.specs.Allowed.{fine, gapOk, roomFault, depthUnder, typeUnder}
-use Rattle.writer.specs.Words.{sizeOf}
-use Rattle.writer.specs.Writing.{isWritten, writeFault, Writes}
-use Rattle.writer.specs.declared.Fields.{Fields}
+use Rattle.fields.specs.Words.{sizeOf}
+use Rattle.fields.specs.Faults.{isWritten, writeFault}
+use Rattle.writer.specs.Writing.{Writes}
+use Rattle.fields.specs.declared.Fields.{Fields}
 use Rattle.writer.specs.declared.Written.{Written}
 use Rattle.writer.specs.declared.Written.the-variants as written
 use Rattle.written.specs.Parts.{Shows, GivesPoints, tailRead, tailLinkage}
@@ -88,7 +89,7 @@ ReadsBack =
 
 ---- accepted elements rewrite to the same bytes
 
--- what the reading calls give of an element of a written kind in an accepted file
+-- what the reading calls give of an element of a type that is written, in an accepted file
 pub record Given (dim : ℕ) (s : List ℕ) (at : ℕ) (f : Fields) (points : List ℤ) (tail : List ℕ) : Type 0 where
   pub elements : ℕ
   pub deepest : ℕ

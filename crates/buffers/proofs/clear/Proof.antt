@@ -5,7 +5,7 @@ use native.Mathlib.Omega.{arith}
 use native.Mathlib.Numerals.{add-one}
 use lib.ListN.{length, length-set, replicate}
 use borrow.Author.Needs.{needs}
-use Rattle.buffers.specs.Moves.{over}
+use Rattle.words.specs.Words.{over}
 use Rattle.buffers.proofs.Over.{zero-start, zero-turn}
 use Rattle.buffers.proofs.clear.Statement.{statement}
 use Rattle.buffers.proofs.clear.Tie as tie

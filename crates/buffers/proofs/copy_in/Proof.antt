@@ -6,8 +6,9 @@ use native.Mathlib.Numerals.{add-one}
 use lib.ListN.{length, length-set, take}
 use lib.Seq.{take-all}
 use borrow.Author.Needs.{needs}
-use Rattle.buffers.specs.Moves.{over}
-use Rattle.buffers.proofs.Over.{over-nil, copy-turn}
+use Rattle.words.specs.Words.{over}
+use Rattle.words.proofs.Over.{over-nil}
+use Rattle.buffers.proofs.Over.{copy-turn}
 use Rattle.buffers.proofs.Fits.{copied-fits, copied-not}
 use Rattle.buffers.proofs.copy_in.Statement.{statement}
 use Rattle.buffers.proofs.copy_in.Tie as tie

@@ -7,7 +7,7 @@ use native.Mathlib.Numerals.{add-one}
 use lib.ListN.{length, length-set}
 use lib.Seq.{slice}
 use borrow.Author.Needs.{needs}
-use Rattle.buffers.specs.Moves.{over}
+use Rattle.words.specs.Words.{over}
 use Rattle.buffers.proofs.Over.{slice-start, down-turn}
 use Rattle.buffers.proofs.move_down.Statement.{statement}
 use Rattle.buffers.proofs.move_down.Tie as tie

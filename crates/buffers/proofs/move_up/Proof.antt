@@ -6,7 +6,7 @@ use native.Mathlib.Omega.{arith}
 use lib.ListN.{length, length-set}
 use lib.Seq.{slice}
 use borrow.Author.Needs.{needs}
-use Rattle.buffers.specs.Moves.{over}
+use Rattle.words.specs.Words.{over}
 use Rattle.buffers.proofs.Over.{slice-start, up-turn}
 use Rattle.buffers.proofs.move_up.Statement.{statement}
 use Rattle.buffers.proofs.move_up.Tie as tie

@@ -4,11 +4,11 @@ use borrow.Author.Needs.{needs}
 use Rattle.dgn_views.proofs.put_common.Statement.{statement}
 use Rattle.dgn_views.proofs.put_common.Tie as tie
 
-flag-of-requires : tie.Need-flag-of-requires
-flag-of-requires c κs = search needs
+pick-requires : tie.Need-pick-requires
+pick-requires c κs = search needs
 
-flag-of-requires-2 : tie.Need-flag-of-requires-2
-flag-of-requires-2 c κs = search needs
+pick-requires-2 : tie.Need-pick-requires-2
+pick-requires-2 c κs = search needs
 
 slice-aggregate-put-numbers : tie.Need-slice-aggregate-put-numbers
 slice-aggregate-put-numbers c = search needs
@@ -38,14 +38,14 @@ same-length : tie.Need-same-length
 same-length c = search needs
 
 returns : tie.Need-returns
-returns c = cc ((c .before .before .before .before .before .before .before .before .before .before .before .before .before .before .before .before .before .before .flag-of .ensures), (c .before .before .before .before .before .before .before .before .before .before .before .before .before .before .before .before .before .flag-of2 .ensures), (c .before .before .before .before .before .before .before .before .before .before .before .before .before .before .put-numbers .ensures), (c .before .before .before .before .before .before .before .before .before .before .above-numbers .ensures), (c .before .before .before .before .before .before .before .before .put-numbers2 .ensures), (c .before .before .before .before .range-numbers .ensures), (c .before .before .put-numbers3 .ensures), common-put ((c .before .before .before .before .before .before .before .before .before .before .before .before .before .before .before .before .before .before .before .before .args .out .now)) ((c .before .before .before .before .before .before .before .before .before .before .before .before .before .before .before .before .before .before .before .before .args .element)))
+returns c = cc ((c .before .before .before .before .before .before .before .before .before .before .before .before .before .before .before .before .before .before .pick .ensures), (c .before .before .before .before .before .before .before .before .before .before .before .before .before .before .before .before .before .pick2 .ensures), (c .before .before .before .before .before .before .before .before .before .before .before .before .before .before .put-numbers .ensures), (c .before .before .before .before .before .before .before .before .before .before .above-numbers .ensures), (c .before .before .before .before .before .before .before .before .put-numbers2 .ensures), (c .before .before .before .before .range-numbers .ensures), (c .before .before .put-numbers3 .ensures), common-put ((c .before .before .before .before .before .before .before .before .before .before .before .before .before .before .before .before .before .before .before .before .args .out .now)) ((c .before .before .before .before .before .before .before .before .before .before .before .before .before .before .before .before .before .before .before .before .args .element)))
 
 pub put-common-spec : {M : Type 1} → statement M
 put-common-spec =
     tie.close
     (tie.spec
-    flag-of-requires
-    flag-of-requires-2
+    pick-requires
+    pick-requires-2
     slice-aggregate-put-numbers
     put-numbers-requires
     above-numbers-requires

@@ -6,7 +6,7 @@ use native.Mathlib.Omega.{arith}
 use native.Mathlib.Numerals.{add-one}
 use lib.ListN.{length, length-set, take}
 use lib.Seq.{sets, take-all}
-use Rattle.dgn_views.proofs.Laws.{put-turn}
+use Rattle.words.proofs.Puts.{put-turn}
 use Rattle.dgn_views.proofs.put_numbers.Statement.{statement}
 use Rattle.dgn_views.proofs.put_numbers.Tie as tie
 

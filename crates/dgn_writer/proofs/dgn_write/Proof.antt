@@ -1,6 +1,6 @@
 -- No room for the answer, no header fields, or the writer's own answer (proofs/Writing).
 use mathlib.Core.Path.{ap}
-use Rattle.elements.proofs.Laws.{refused, accepted}
+use Rattle.headers.proofs.Checks.{refused, accepted}
 use Rattle.dgn_writer.specs.Writing.{writeReply}
 use Rattle.dgn_writer.proofs.Writing.{given-sixteen, not-answered, not-given, written}
 use borrow.Author.Needs.{needs}

@@ -8,12 +8,15 @@ use native.Mathlib.Omega.{arith}
 use lib.Dec.{leb}
 use borrow.Author.Tests.{le-leb, lt-leb}
 use Rattle.words.specs.Words.{words, wordAt}
-use Rattle.elements.specs.Header.{typeAt, sizeAt}
+use Rattle.headers.specs.Header.{typeAt, sizeAt}
 use Rattle.kinds.specs.Kinds.{isHeader, mayStand}
 use Rattle.elements.specs.Attributes.{linkagesOk}
-use Rattle.elements.specs.Rules.{reservedOk, placeOk, fixedOk, Check, check, firstFault, contentChecks, checks, faultOf, HeadRead}
+use Rattle.headers.specs.Flags.{reservedOk, placeOk}
+use Rattle.elements.specs.Rules.{fixedOk, contentChecks, checks, faultOf, HeadRead}
+use Rattle.headers.specs.Checks.{Check, check, firstFault}
 use Rattle.elements.specs.declared.Head.the-variants.{Bad}
-use Rattle.elements.proofs.Laws.{pass, stop, tail, first, fault-here, fault-later, simple-same, element-within, header-within, read-bad, read-plain, read-complex}
+use Rattle.headers.proofs.Checks.{pass, stop, tail, first, fault-here, fault-later}
+use Rattle.elements.proofs.Laws.{simple-same, element-within, header-within, read-bad, read-plain, read-complex}
 use Rattle.elements.proofs.head_at.Statement.{statement}
 use Rattle.elements.proofs.head_at.Tie as tie
 

@@ -8,9 +8,11 @@ use lib.ListN.{drop}
 use Rattle.words.specs.Words.{words}
 use Rattle.kinds.specs.Kinds.{mayStand}
 use Rattle.elements.specs.Attributes.{linkagesOk}
-use Rattle.elements.specs.Rules.{fixedOk, extentOk, Check, check, contentChecks}
+use Rattle.elements.specs.Rules.{fixedOk, extentOk, contentChecks}
+use Rattle.headers.specs.Checks.{Check, check}
 use Rattle.kinds.proofs.Types.{header-long}
-use Rattle.elements.proofs.Laws.{refused, accepted, header-short, header-fixed, header-part, extent-header, First, pass, stop, tail, first}
+use Rattle.headers.proofs.Checks.{refused, accepted, First, pass, stop, tail, first}
+use Rattle.elements.proofs.Laws.{header-short, header-fixed, header-part, extent-header}
 use Rattle.elements.proofs.header_fault.Statement.{statement}
 use Rattle.elements.proofs.header_fault.Tie as tie
 

@@ -9,8 +9,10 @@ use lib.ListN.{drop}
 use borrow.Author.Tests.{le-leb, lt-leb}
 use Rattle.words.specs.Words.{words}
 use Rattle.elements.specs.Attributes.{linkagesOk}
-use Rattle.elements.specs.Rules.{fixedOk, Check, check}
-use Rattle.elements.proofs.Laws.{refused, accepted, linked-size, linkages-linked, First, pass, stop, tail, first}
+use Rattle.elements.specs.Rules.{fixedOk}
+use Rattle.headers.specs.Checks.{Check, check}
+use Rattle.headers.proofs.Checks.{refused, accepted, First, pass, stop, tail, first}
+use Rattle.elements.proofs.Laws.{linked-size, linkages-linked}
 use Rattle.elements.proofs.plain_fault.Statement.{statement}
 use Rattle.elements.proofs.plain_fault.Tie as tie
 

@@ -9,7 +9,7 @@ use Rattle.words.specs.Words.{words}
 use Rattle.words.proofs.Laws.{lent-below, words-below}
 use Rattle.kinds.specs.Kinds.{isPointed, fixedPart}
 use Rattle.kinds.proofs.Types.{plain-pointed, pointed-part}
-use Rattle.elements.specs.Header.{pointsAt}
+use Rattle.headers.specs.Header.{pointsAt}
 use Rattle.elements.specs.Rules.{pointsOk, fixedOk}
 use Rattle.elements.proofs.Laws.{plain-fixed, fixed-points}
 use Rattle.elements.proofs.plain_part.Statement.{statement}

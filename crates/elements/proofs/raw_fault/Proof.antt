@@ -5,8 +5,8 @@ use mathlib.Core.Path.{refl, sym, ap, _∙_}
 use lib.Dec.{eqb, leb}
 use borrow.Author.Tests.{ne-eqb}
 use Rattle.kinds.specs.Kinds.{isUnread}
-use Rattle.elements.specs.Rules.{Check, check}
-use Rattle.elements.proofs.Laws.{refused, accepted, pass, stop, tail, first}
+use Rattle.headers.specs.Checks.{Check, check}
+use Rattle.headers.proofs.Checks.{refused, accepted, pass, stop, tail, first}
 use Rattle.elements.proofs.raw_fault.Statement.{statement}
 use Rattle.elements.proofs.raw_fault.Tie as tie
 

@@ -1,6 +1,6 @@
--- The type decides which of the two parts of the definition is left.
-use mathlib.Core.Bool.{and-true}
-use mathlib.Core.Path.{sym, _∙_}
+-- The type decides whether there is a name, and where.
+use Prim.Native.Nat.{_+_}
+use mathlib.Core.Path.{_≡_, sym}
 use native.Mathlib.Omega.{arith}
 use borrow.Author.Tests.{ne-eqb}
 use Rattle.elements.specs.Rules.{storedNameOk}
@@ -24,7 +24,7 @@ name-ok-requires c κs = tt
 
 returns : tie.Need-returns
 unfolding storedNameOk
-returns c = rw (sym (c .before .before .before .before .before .pre .0), c .before .before .before .if1 .taken, sym (c .before .before .word .ensures .is), sym (c .before .word2 .ensures .is)) (c .name-ok .ensures ∙ sym (and-true _))
+returns c = let e : c .before .before .before .before .before .args .at + 16 + 1 ≡ c .before .before .before .before .before .args .at + 17 = omega arith in rw (sym (c .before .before .before .before .before .pre .0), c .before .before .before .if1 .taken, e, sym (c .before .before .word .ensures .is), sym (c .before .word2 .ensures .is)) (c .name-ok .ensures)
 
 add-word-3 : tie.Need-add-word-3
 add-word-3 c = omega arith
@@ -43,7 +43,7 @@ name-ok-requires-2 c κs = tt
 
 returns-2 : tie.Need-returns-2
 unfolding storedNameOk
-returns-2 c = rw (sym (c .before .before .before .before .before .before .pre .0), c .before .before .before .if2 .taken, sym (c .before .before .word3 .ensures .is), sym (c .before .word4 .ensures .is)) (c .name-ok2 .ensures)
+returns-2 c = let e : c .before .before .before .before .before .before .args .at + 19 + 1 ≡ c .before .before .before .before .before .before .args .at + 20 = omega arith in rw (sym (c .before .before .before .before .before .before .pre .0), c .before .before .before .if2 .taken, e, sym (c .before .before .word3 .ensures .is), sym (c .before .word4 .ensures .is)) (c .name-ok2 .ensures)
 
 returns-3 : tie.Need-returns-3
 unfolding storedNameOk

@@ -16,7 +16,7 @@ use Rattle.files.proofs.judge_list.Kinds as judge-list-kinds
 use Rattle.files.proofs.+judge_element+judge_list.Lts-judge_list as judge-list-lts
 use Rattle.files.proofs.count_ok.Reads as count-ok-reads
 use Rattle.elements.proofs.head_at.Reads as head-at-reads
-use Rattle.elements.proofs.type_at.Reads as type-at-reads
+use Rattle.headers.proofs.type_at.Reads as type-at-reads
 use Rattle.files.proofs.closed.Reads as closed-reads
 use Rattle.files.proofs.depth_of.Reads as depth-of-reads
 use Rattle.files.proofs.larger.Reads as larger-reads

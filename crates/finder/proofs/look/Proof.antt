@@ -4,9 +4,10 @@ use mathlib.Core.Path.{sym, _∙_}
 use native.Mathlib.Omega.{arith}
 use borrow.Author.Needs.{needs}
 use Rattle.words.specs.Words.{words}
+use Rattle.words.proofs.Laws.{lent-below}
+use Rattle.headers.proofs.Laws.{size-small}
 use Rattle.finder.specs.declared.Found.{Found}
 use Rattle.finder.specs.Look.{FirstFrom}
-use Rattle.finder.proofs.Order.{size-small}
 use Rattle.finder.proofs.Looks.{look-none, look-hit, look-next}
 use Rattle.finder.proofs.look.Statement.{statement}
 use Rattle.finder.proofs.look.Tie as tie
@@ -35,7 +36,8 @@ size-at-requires c κs = search needs
 
 add-at : tie.Need-add-at Inv-loop μ-loop
 add-at c =
-    let size = size-small ((c .before .before .before .before .before .before .args .file .now)) ((c .before .before .before .before .before .shared-slice-known .given)) ((c .before .before .before .before .loop .at)) in
+    let s = c .before .before .before .before .before .before .args .file .now in
+    let size = size-small s (lent-below s (c .before .before .before .before .before .shared-slice-known .given)) (c .before .before .before .before .loop .at) in
     omega (arith, (c .before .before .before .loop-test .taken), (c .before .before .before .before .before .before .pre .1), (c .size-at .ensures))
 
 add-n : tie.Need-add-n Inv-loop μ-loop

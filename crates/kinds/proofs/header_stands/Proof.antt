@@ -1,7 +1,7 @@
 -- The tests before each return decide the parts of `stands-header`.
 use mathlib.Core.Bool.{and-true, and-false}
 use mathlib.Core.Path.{sym, _∙_}
-use borrow.Author.Tests.{ne-eqb, lt-ltb, ltb-false, le-ltb}
+use borrow.Author.Tests.{ne-eqb, lt-ltb, le-ltb}
 use Rattle.kinds.proofs.Types.{stands-header, header-solid, twice}
 use Rattle.kinds.proofs.header_stands.Statement.{statement}
 use Rattle.kinds.proofs.header_stands.Tie as tie

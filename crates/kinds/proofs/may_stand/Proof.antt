@@ -1,5 +1,4 @@
 -- A header by `header_stands`; of the other types only 17 stands under 7 (`stands`).
-use mathlib.Core.Bool.{and-true}
 use mathlib.Core.Path.{sym, _∙_}
 use borrow.Author.Tests.{ne-eqb}
 use Rattle.kinds.proofs.Types.{stands}

@@ -6,7 +6,7 @@ use native.Mathlib.Omega.{arith}
 use native.Mathlib.Numerals.{add-one}
 use lib.ListN.{length, length-set, take}
 use lib.Seq.{sets, take-all}
-use Rattle.listing.proofs.Laws.{put-turn}
+use Rattle.words.proofs.Puts.{put-turn}
 use Rattle.listing.proofs.put_bytes.Statement.{statement}
 use Rattle.listing.proofs.put_bytes.Tie as tie
 

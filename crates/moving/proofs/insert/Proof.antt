@@ -6,14 +6,14 @@ use borrow.Author.Needs.{needs}
 use Rattle.moving.proofs.insert.Statement.{statement}
 use Rattle.moving.proofs.insert.Tie as tie
 
-piece-ok-requires : tie.Need-piece-ok-requires
-piece-ok-requires c κs = search needs
+size-ok-requires : tie.Need-size-ok-requires
+size-ok-requires c κs = search needs
 
 refused-requires : tie.Need-refused-requires
 refused-requires c κs = search needs
 
 returns : tie.Need-returns
-returns c = answered ((c .refused .ensures)) (not-lent _ _ _ (sym ((c .before .before .piece-ok .ensures)) ∙ not-true _ ((c .before .if1 .taken))))
+returns c = answered ((c .refused .ensures)) (not-lent _ _ _ (sym ((c .before .before .size-ok .ensures)) ∙ not-true _ ((c .before .if1 .taken))))
 
 open-at-requires : tie.Need-open-at-requires
 open-at-requires c κs = search needs
@@ -25,13 +25,13 @@ enum-known-marker : tie.Need-enum-known-marker
 enum-known-marker c = search needs
 
 insert-opened-requires : tie.Need-insert-opened-requires
-insert-opened-requires c κs = let o = opened-ready ((c .before .before .before .before .before .before .before .before .before .before .before .before .args .dim)) ((c .before .before .before .before .before .before .before .before .before .before .before .before .args .file .now)) ((c .before .before .before .before .before .before .before .before .before .before .before .before .args .used)) ((c .before .before .before .before .before .before .before .before .before .before .before .before .args .journal .now)) ((c .before .before .before .before .before .before .before .before .before .before .before .before .args .jused)) _ _ ((c .before .before .before .before .before .open-at .ensures)) _ _ ((c .before .before .before .marker .given .1)) in (o .0, (o .1, sym ((c .before .before .before .before .before .before .before .before .piece-ok .ensures)) ∙ not-false _ ((c .before .before .before .before .before .before .before .if1 .left))))
+insert-opened-requires c κs = let o = opened-ready ((c .before .before .before .before .before .before .before .before .before .before .before .before .args .dim)) ((c .before .before .before .before .before .before .before .before .before .before .before .before .args .file .now)) ((c .before .before .before .before .before .before .before .before .before .before .before .before .args .used)) ((c .before .before .before .before .before .before .before .before .before .before .before .before .args .journal .now)) ((c .before .before .before .before .before .before .before .before .before .before .before .before .args .jused)) _ _ ((c .before .before .before .before .before .open-at .ensures)) _ _ ((c .before .before .before .marker .given .1)) in (o .0, (o .1, sym ((c .before .before .before .before .before .before .before .before .size-ok .ensures)) ∙ not-false _ ((c .before .before .before .before .before .before .before .if1 .left))))
 
 same-length : tie.Need-same-length
 same-length c = search needs
 
 returns-2 : tie.Need-returns-2
-returns-2 c = closed _ _ _ _ _ (sym ((c .before .before .before .before .before .before .piece-ok .ensures)) ∙ not-false _ ((c .before .before .before .before .before .if1 .left))) (opened-refused ((c .before .before .before .before .before .before .before .before .before .before .args .dim)) ((c .before .before .before .before .before .before .before .before .before .before .args .file .now)) ((c .before .before .before .before .before .before .before .before .before .before .args .used)) ((c .before .before .before .before .before .before .before .before .before .before .args .journal .now)) ((c .before .before .before .before .before .before .before .before .before .before .args .jused)) _ _ ((c .before .before .before .open-at .ensures)) _ _ ((c .before .number .given .1)))
+returns-2 c = closed _ _ _ _ _ (sym ((c .before .before .before .before .before .before .size-ok .ensures)) ∙ not-false _ ((c .before .before .before .before .before .if1 .left))) (opened-refused ((c .before .before .before .before .before .before .before .before .before .before .args .dim)) ((c .before .before .before .before .before .before .before .before .before .before .args .file .now)) ((c .before .before .before .before .before .before .before .before .before .before .args .used)) ((c .before .before .before .before .before .before .before .before .before .before .args .journal .now)) ((c .before .before .before .before .before .before .before .before .before .before .args .jused)) _ _ ((c .before .before .before .open-at .ensures)) _ _ ((c .before .number .given .1)))
 
 same-length-2 : tie.Need-same-length-2
 same-length-2 c = search needs
@@ -46,7 +46,7 @@ pub insert-spec : {M : Type 1} → statement M
 insert-spec =
     tie.close
     (tie.spec
-    piece-ok-requires
+    size-ok-requires
     refused-requires
     returns
     open-at-requires

@@ -1,7 +1,7 @@
 -- `names::unpack` meets its contract: the test is that of `unpacked`, and the words of a stored name are small enough to be taken apart.
 use mathlib.Core.Path.{sym, ap₂, _∙_}
 use borrow.Author.Needs.{needs}
-use Rattle.names.specs.Names.{textIn, answerOf, unpacked}
+use Rattle.names.specs.Names.{textIn, textAnswer, unpacked}
 use Rattle.names.proofs.Stored.{both-ok, word-small}
 use Rattle.names.proofs.unpack.Statement.{statement}
 use Rattle.names.proofs.unpack.Tie as tie
@@ -22,7 +22,7 @@ returns : tie.Need-returns
 unfolding unpacked
 returns c =
     simp (sym (c .before .before .before .before .name-ok .ensures), c .before .before .before .if1 .taken)
-    (c .text-of .ensures ∙ ap₂ (λ l m. answerOf (textIn l m)) (c .before .before .letters .ensures) (c .before .letters2 .ensures))
+    (c .text-of .ensures ∙ ap₂ (λ l m. textAnswer (textIn l m)) (c .before .before .letters .ensures) (c .before .letters2 .ensures))
 
 returns-2 : tie.Need-returns-2
 unfolding unpacked

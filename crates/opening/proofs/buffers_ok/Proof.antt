@@ -7,34 +7,34 @@ use borrow.Author.Needs.{needs}
 use Rattle.opening.proofs.buffers_ok.Statement.{statement}
 use Rattle.opening.proofs.buffers_ok.Tie as tie
 
-lengths-ok-requires : tie.Need-lengths-ok-requires
-lengths-ok-requires c κs = search needs
+used-ok-requires : tie.Need-used-ok-requires
+used-ok-requires c κs = search needs
 
 returns : tie.Need-returns
-returns c = rw (sym (c .before .lengths-ok .ensures) ∙ not-true _ (c .if1 .taken))
+returns c = rw (sym (c .before .used-ok .ensures) ∙ not-true _ (c .if1 .taken))
 
-lengths-ok-requires-2 : tie.Need-lengths-ok-requires-2
-lengths-ok-requires-2 c κs = search needs
+used-ok-requires-2 : tie.Need-used-ok-requires-2
+used-ok-requires-2 c κs = search needs
 
 returns-2 : tie.Need-returns-2
-returns-2 c = rw (sym (c .before .before .before .lengths-ok .ensures) ∙ not-false _ (c .before .before .if1 .left), sym (c .before .lengths-ok2 .ensures) ∙ not-true _ (c .if2 .taken))
+returns-2 c = rw (sym (c .before .before .before .used-ok .ensures) ∙ not-false _ (c .before .before .if1 .left), sym (c .before .used-ok2 .ensures) ∙ not-true _ (c .if2 .taken))
 
 slice-aggregate-ends-in-marker : tie.Need-slice-aggregate-ends-in-marker
-slice-aggregate-ends-in-marker c = sym (length-take-le _ _ (lengths-true _ _ (sym (c .before .before .before .before .lengths-ok .ensures) ∙ not-false _ (c .before .before .before .if1 .left)) .within))
+slice-aggregate-ends-in-marker c = sym (length-take-le _ _ (lengths-true _ _ (sym (c .before .before .before .before .used-ok .ensures) ∙ not-false _ (c .before .before .before .if1 .left)) .within))
 
 ends-in-marker-requires : tie.Need-ends-in-marker-requires
 ends-in-marker-requires c κs = search needs
 
 returns-3 : tie.Need-returns-3
-returns-3 c = rw (sym (c .before .before .before .before .before .lengths-ok .ensures) ∙ not-false _ (c .before .before .before .before .if1 .left), sym (c .before .before .before .lengths-ok2 .ensures) ∙ not-false _ (c .before .before .if2 .left)) (c .ends-in-marker .ensures)
+returns-3 c = rw (sym (c .before .before .before .before .before .used-ok .ensures) ∙ not-false _ (c .before .before .before .before .if1 .left), sym (c .before .before .before .used-ok2 .ensures) ∙ not-false _ (c .before .before .if2 .left)) (c .ends-in-marker .ensures)
 
 pub buffers-ok-spec : {M : Type 1} → statement M
 buffers-ok-spec =
     tie.close
     (tie.spec
-    lengths-ok-requires
+    used-ok-requires
     returns
-    lengths-ok-requires-2
+    used-ok-requires-2
     returns-2
     slice-aggregate-ends-in-marker
     ends-in-marker-requires

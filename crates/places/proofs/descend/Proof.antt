@@ -10,7 +10,8 @@ use Rattle.kinds.specs.Kinds.{isHeader}
 use Rattle.places.specs.declared.Spotted.{Spotted}
 use Rattle.places.specs.declared.Above.the-variants.{Top}
 use Rattle.places.specs.Descent.{IsLocated}
-use Rattle.places.proofs.Descent.{words-two, words-small, size-small, step-over, step-into, step-own, step-here, step-past}
+use Rattle.headers.proofs.Laws.{words-two, words-small, size-small}
+use Rattle.places.proofs.Descent.{step-over, step-into, step-own, step-here, step-past}
 use Rattle.places.proofs.descend.Statement.{statement}
 use Rattle.places.proofs.descend.Tie as tie
 

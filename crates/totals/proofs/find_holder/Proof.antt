@@ -5,7 +5,7 @@ use mathlib.Core.Path.{_≡_, refl, sym, _∙_}
 use native.Mathlib.Omega.{arith}
 use borrow.Author.Needs.{needs}
 use Rattle.words.specs.Words.{words}
-use Rattle.places.proofs.Descent.{words-two}
+use Rattle.headers.proofs.Laws.{words-two}
 use Rattle.totals.specs.Totals.{holderOf}
 use Rattle.totals.proofs.Holders.{holder-past, holder-here, holder-beyond}
 use Rattle.totals.proofs.find_holder.Statement.{statement}

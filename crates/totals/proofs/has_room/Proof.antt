@@ -6,7 +6,7 @@ use lib.Dec.{leb}
 use borrow.Author.Tests.{lt-leb}
 use borrow.Author.Needs.{needs}
 use Rattle.words.specs.Words.{words}
-use Rattle.elements.specs.Header.{extentAt}
+use Rattle.headers.specs.Header.{extentAt}
 use Rattle.totals.proofs.Descent.{room-test}
 use Rattle.totals.proofs.has_room.Statement.{statement}
 use Rattle.totals.proofs.has_room.Tie as tie

@@ -1,5 +1,7 @@
 -- The type says where the two words are, as in `nameWords`.
-use mathlib.Core.Path.{sym, _∙_}
+use Prim.Native.Nat.{_+_}
+use mathlib.Core.Path.{_≡_, sym, _∙_}
+use native.Mathlib.Omega.{arith}
 use borrow.Author.Tests.{eq-eqb, ne-eqb}
 use Rattle.views.specs.Views.{nameWords}
 use borrow.Author.Needs.{needs}
@@ -23,7 +25,10 @@ word-requires-2 c κs = search needs
 
 returns : tie.Need-returns
 unfolding nameWords
-returns c = rw ((c .before .word .ensures .is), (c .word2 .ensures .is), eq-eqb _ 1 (sym (c .before .before .before .type-at .ensures) ∙ (c .before .before .if1 .taken)))
+returns c =
+    let at = c .before .before .before .before .before .args .at in
+    let e : at + 16 + 1 ≡ at + 17 = omega arith in
+    rw ((c .before .word .ensures .is), (c .word2 .ensures .is), ← e, eq-eqb _ 1 (sym (c .before .before .before .type-at .ensures) ∙ (c .before .before .if1 .taken)))
 
 add-word-3 : tie.Need-add-word-3
 add-word-3 c = search needs
@@ -39,7 +44,10 @@ word-requires-4 c κs = search needs
 
 returns-2 : tie.Need-returns-2
 unfolding nameWords
-returns-2 c = rw ((c .before .word3 .ensures .is), (c .word4 .ensures .is), ne-eqb _ 1 (rw (c .before .before .before .before .type-at .ensures) at (c .before .before .before .if1 .left)), eq-eqb _ 2 (sym (c .before .before .before .before .type-at .ensures) ∙ (c .before .before .if2 .taken)))
+returns-2 c =
+    let at = c .before .before .before .before .before .before .args .at in
+    let e : at + 19 + 1 ≡ at + 20 = omega arith in
+    rw ((c .before .word3 .ensures .is), (c .word4 .ensures .is), ← e, ne-eqb _ 1 (rw (c .before .before .before .before .type-at .ensures) at (c .before .before .before .if1 .left)), eq-eqb _ 2 (sym (c .before .before .before .before .type-at .ensures) ∙ (c .before .before .if2 .taken)))
 
 returns-3 : tie.Need-returns-3
 unfolding nameWords

@@ -1,4 +1,4 @@
-use mathlib.Core.Path.{refl, sym, _∙_}
+use mathlib.Core.Path.{sym, _∙_}
 use native.Mathlib.Omega.{arith}
 use Rattle.writer.proofs.Stores.{laid-none, laid-word}
 use borrow.Author.Needs.{needs}
@@ -18,10 +18,13 @@ same-length : tie.Need-same-length
 same-length c = search needs
 
 returns : tie.Need-returns
-returns c = let e = sym ((c .before .before .before .before .before .is-pointed .ensures)) ∙ ((c .before .before .before .before .if1 .taken)) in (rw e refl, rw e (((c .before .before .put-word .ensures)) ∙ laid-word ((c .before .before .before .before .before .before .before .args .out .now)) 18 ((c .before .before .before .before .before .before .before .args .n)) (omega (arith, (c .before .before .before .before .before .before .before .pre .0)))))
+returns c =
+    let start = c .before .before .before .before .before .before .before in
+    rw (sym (c .before .before .before .before .before .is-pointed .ensures) ∙ c .before .before .before .before .if1 .taken)
+    (c .before .before .put-word .ensures ∙ laid-word (start .args .out .now) 18 (start .args .n) (omega (arith, start .pre .0)))
 
 returns-2 : tie.Need-returns-2
-returns-2 c = let e = sym ((c .before .is-pointed .ensures)) ∙ ((c .if1 .left)) in (rw e refl, rw e (laid-none ((c .before .before .before .args .out .now)) 18))
+returns-2 c = rw (sym (c .before .is-pointed .ensures) ∙ c .if1 .left) (laid-none (c .before .before .before .args .out .now) 18)
 
 pub put-count-spec : {M : Type 1} → statement M
 put-count-spec =

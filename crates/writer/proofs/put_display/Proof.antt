@@ -2,8 +2,8 @@
 use mathlib.Core.Path.{ap, _∙_}
 use native.Mathlib.Omega.{arith}
 use Rattle.words.specs.Words.{putWord}
-use Rattle.writer.specs.Words.{symbology, displayWords}
-use Rattle.writer.proofs.Bounds.{bounds}
+use Rattle.fields.specs.Words.{symbology, displayWords}
+use Rattle.fields.proofs.Bounds.{bounds}
 use Rattle.writer.proofs.Stores.{words-laid}
 use borrow.Author.Needs.{needs}
 use Rattle.writer.proofs.put_display.Statement.{statement}

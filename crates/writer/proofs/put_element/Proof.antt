@@ -5,38 +5,51 @@ use mathlib.Core.List.{map}
 use native.Mathlib.Omega.{arith}
 use lib.ListN.{length}
 use Rattle.words.specs.Words.{words, unsigned}
-use Rattle.writer.specs.Words.{longs, headerWords, countWords, pointCount}
+use Rattle.fields.specs.Words.{longs, headerWords, countWords, pointsIn}
+use Rattle.fields.proofs.Bounds.{dim-some}
+use Rattle.fields.proofs.Writable.{writable}
 use Rattle.writer.specs.Writing.{laid}
-use Rattle.writer.proofs.Bounds.{called-ok, dim-some}
-use Rattle.writer.proofs.Writable.{writable}
 use Rattle.writer.proofs.Laid.{count-room, points-end, element-laid}
 use borrow.Author.Needs.{needs}
 use Rattle.writer.proofs.put_element.Statement.{statement}
 use Rattle.writer.proofs.put_element.Tie as tie
 
-size-of-requires : tie.Need-size-of-requires
-size-of-requires c κs = let w = writable ((c .before .before .pre)) in (called-ok (w .call), w .count)
+points-place-requires : tie.Need-points-place-requires
+points-place-requires c κs = search needs
+
+mul-end : tie.Need-mul-end
+mul-end c = search needs
+
+add-end : tie.Need-add-end
+add-end c = let w = writable (c .before .before .before .pre) in omega (arith, points-end w (c .points-place .result) (c .points-place .ensures), w .size)
+
+add-size : tie.Need-add-size
+add-size c = let w = writable (c .before .before .before .pre) in omega (arith, points-end w (c .points-place .result) (c .points-place .ensures), w .size)
 
 put-header-requires : tie.Need-put-header-requires
-put-header-requires c κs = let w = writable ((c .before .before .before .before .pre)) in let l = count-room w in ((omega (arith, w .fits), (omega (arith, (c .before .size-of .ensures)), omega (arith, (c .before .size-of .ensures), w .size))), (w .call .kind, w .call .fields))
+put-header-requires c κs =
+    let w = writable (c .before .before .before .before .pre) in
+    let l = count-room w in
+    let e = points-end w (c .before .points-place .result) (c .before .points-place .ensures) in
+    ((omega (arith, w .fits), (omega arith, omega (arith, w .size))), (w .call .kind, w .call .fields))
 
 div-put-count : tie.Need-div-put-count
-div-put-count c = omega (arith, dim-some (writable ((c .before .before .before .before .before .before .before .before .pre)) .call))
+div-put-count c = omega (arith, dim-some (writable (c .before .before .before .before .before .before .before .before .pre) .call))
 
 put-count-requires : tie.Need-put-count-requires
-put-count-requires c κs = let w = writable ((c .before .before .before .before .before .before .before .before .pre)) in (omega (arith, (c .before .before .before .put-header .kept), count-room w .0, w .fits), omega (arith, count-room w .1))
+put-count-requires c κs =
+    let w = writable (c .before .before .before .before .before .before .before .before .pre) in
+    (omega (arith, c .before .before .before .put-header .kept, count-room w .0, w .fits), omega (arith, count-room w .1))
 
 put-points-requires : tie.Need-put-points-requires
-put-points-requires c κs = let w = writable ((c .before .before .before .before .before .before .before .before .before .before .before .before .pre)) in omega (arith, points-end w ((c .before .before .before .put-count .result)) ((c .before .before .before .put-count .ensures .0)), w .fits, (c .before .before .before .before .before .before .before .put-header .kept), (c .before .before .before .put-count .kept))
-
-mul-put-tail : tie.Need-mul-put-tail
-mul-put-tail c = search needs
-
-add-put-tail : tie.Need-add-put-tail
-add-put-tail c = let w = writable ((c .before .before .before .before .before .before .before .before .before .before .before .before .before .before .before .before .pre)) in omega (arith, points-end w ((c .before .before .before .before .before .before .before .put-count .result)) ((c .before .before .before .before .before .before .before .put-count .ensures .0)), w .size)
+put-points-requires c κs =
+    let w = writable (c .before .before .before .before .before .before .before .before .before .before .before .before .pre) in
+    omega (arith, points-end w (c .before .before .before .before .before .before .before .before .before .points-place .result) (c .before .before .before .before .before .before .before .before .before .points-place .ensures), w .fits, c .before .before .before .before .before .before .before .put-header .kept, c .before .before .before .put-count .kept)
 
 put-tail-requires : tie.Need-put-tail-requires
-put-tail-requires c κs = let w = writable ((c .before .before .before .before .before .before .before .before .before .before .before .before .before .before .before .before .pre)) in omega (arith, points-end w ((c .before .before .before .before .before .before .before .put-count .result)) ((c .before .before .before .before .before .before .before .put-count .ensures .0)), w .fits, (c .before .before .before .before .before .before .before .before .before .before .before .put-header .kept), (c .before .before .before .before .before .before .before .put-count .kept), (c .before .before .before .put-points .kept))
+put-tail-requires c κs =
+    let w = writable (c .before .before .before .before .before .before .before .before .before .before .before .before .before .before .before .before .pre) in
+    omega (arith, points-end w (c .before .before .before .before .before .before .before .before .before .before .before .before .before .points-place .result) (c .before .before .before .before .before .before .before .before .before .before .before .before .before .points-place .ensures), w .fits, c .before .before .before .before .before .before .before .before .before .before .before .put-header .kept, c .before .before .before .before .before .before .before .put-count .kept, c .before .before .before .put-points .kept)
 
 same-length : tie.Need-same-length
 same-length c = search needs
@@ -46,25 +59,26 @@ returns c =
     let start = c .before .before .before .before .before .before .before .before .before .before .before .before .before .before .before .before .before .before .before in
     let a = start .args in
     let w = writable (start .pre) in
-    let size = c .before .before .before .before .before .before .before .before .before .before .before .before .before .before .before .before .size-of .ensures in
-    let count = c .before .before .before .before .before .before .before .before .before .before .put-count in
+    let place = c .before .before .before .before .before .before .before .before .before .before .before .before .before .before .before .before .points-place in
+    let size = points-end w (place .result) (place .ensures) in
     let header = c .before .before .before .before .before .before .before .before .before .before .before .before .before .before .put-header .ensures ∙ ap (λ n. laid (a .out .now) 0 (headerWords (a .fields) n)) size in
-    let counted = count .ensures .1 ∙ ap (λ x. laid x 18 (countWords (a .fields .kind) (pointCount (a .dim) (a .points .now)))) header in
-    let points = c .before .before .before .before .before .before .put-points .ensures ∙ ap (λ x. laid x (count .result) (longs (map unsigned (a .points .now)))) counted in
-    let tail = c .before .before .put-tail .ensures ∙ ap (λ x. laid x (count .result + 2 * length (a .points .now)) (words (a .tail .now))) points in
-    (size, tail ∙ element-laid w (a .out .now) (count .result) (count .ensures .0) (w .fits))
+    let counted = c .before .before .before .before .before .before .before .before .before .before .put-count .ensures ∙ ap (λ x. laid x 18 (countWords (a .fields .kind) (pointsIn (a .dim) (a .points .now)))) header in
+    let points = c .before .before .before .before .before .before .put-points .ensures ∙ ap (λ x. laid x (place .result) (longs (map unsigned (a .points .now)))) counted in
+    let tail = c .before .before .put-tail .ensures ∙ ap (λ x. laid x (place .result + 2 * length (a .points .now)) (words (a .tail .now))) points in
+    (size, tail ∙ element-laid w (a .out .now) (place .result) (place .ensures) (w .fits))
 
 pub put-element-spec : {M : Type 1} → statement M
 put-element-spec =
     tie.close
     (tie.spec
-    size-of-requires
+    points-place-requires
+    mul-end
+    add-end
+    add-size
     put-header-requires
     div-put-count
     put-count-requires
     put-points-requires
-    mul-put-tail
-    add-put-tail
     put-tail-requires
     same-length
     returns)

@@ -3,10 +3,10 @@ use Prim.Native.Nat.{_-_}
 use mathlib.Core.Path.{ap, _∙_}
 use native.Mathlib.Omega.{arith}
 use Rattle.words.specs.Words.{putWord}
-use Rattle.writer.specs.Words.{longs, rangeOf, displayWords}
+use Rattle.fields.specs.Words.{longs, rangeLongs, displayWords}
 use Rattle.writer.specs.Writing.{laid}
-use Rattle.writer.proofs.Bounds.{bounds}
-use Rattle.writer.proofs.Element.{kind-small, first-small}
+use Rattle.fields.proofs.Bounds.{bounds}
+use Rattle.fields.proofs.Element.{kind-small, first-small}
 use Rattle.writer.proofs.Laid.{header-laid}
 use borrow.Author.Needs.{needs}
 use Rattle.writer.proofs.put_header.Statement.{statement}
@@ -45,7 +45,7 @@ returns c =
     let f = start .args .fields in
     let one = c .before .before .before .before .before .before .before .before .before .before .before .before .before .before .put-word .ensures ∙ ap (putWord (start .args .out .now) 0) (c .before .before .before .before .before .before .before .before .before .before .before .before .before .before .before .first-word .ensures) in
     let two = c .before .before .before .before .before .before .before .before .before .before .put-word2 .ensures ∙ ap (λ x. putWord x 1 (start .args .size - 2)) one in
-    let range = c .before .before .before .before .before .before .put-range .ensures ∙ ap (λ x. laid x 2 (longs (rangeOf f))) two in
+    let range = c .before .before .before .before .before .before .put-range .ensures ∙ ap (λ x. laid x 2 (longs (rangeLongs f))) two in
     let display = c .before .before .put-display .ensures ∙ ap (λ x. laid x 14 (displayWords f)) range in
     display ∙ header-laid (start .args .out .now) f (start .args .size) (start .pre .0 .0)
 

@@ -9,7 +9,7 @@ use lib.ListN.{length, getD, take, length-map}
 use lib.Seq.{take-all}
 use borrow.Author.Needs.{needs}
 use Rattle.words.specs.Words.{unsigned, putLong}
-use Rattle.writer.specs.Words.{longs}
+use Rattle.fields.specs.Words.{longs}
 use Rattle.writer.specs.Writing.{laid}
 use Rattle.writer.proofs.Stores.{laid-none, next-point}
 use Rattle.writer.proofs.put_points.Statement.{statement}

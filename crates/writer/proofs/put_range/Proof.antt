@@ -2,8 +2,8 @@
 use mathlib.Core.Path.{ap, _∙_}
 use native.Mathlib.Omega.{arith}
 use Rattle.words.specs.Words.{putLong}
-use Rattle.writer.specs.Words.{rangeOf}
-use Rattle.writer.proofs.Bounds.{bounds}
+use Rattle.fields.specs.Words.{rangeLongs}
+use Rattle.fields.proofs.Bounds.{bounds}
 use Rattle.writer.proofs.Stores.{longs-laid}
 use borrow.Author.Needs.{needs}
 use Rattle.writer.proofs.put_range.Statement.{statement}
@@ -58,7 +58,7 @@ returns c =
     let four = c .before .before .before .before .before .before .before .before .before .before .before .before .put-long4 .ensures ∙ ap (λ x. putLong x 8 (f .«high_x»)) three in
     let five = c .before .before .before .before .before .before .before .put-long5 .ensures ∙ ap (λ x. putLong x 10 (f .«high_y»)) four in
     let six = c .before .before .put-long6 .ensures ∙ ap (λ x. putLong x 12 (f .«high_z»)) five in
-    six ∙ longs-laid (start .args .out .now) 2 (rangeOf f) (omega (arith, start .pre .0))
+    six ∙ longs-laid (start .args .out .now) 2 (rangeLongs f) (omega (arith, start .pre .0))
 
 pub put-range-spec : {M : Type 1} → statement M
 put-range-spec =

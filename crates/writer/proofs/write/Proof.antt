@@ -1,5 +1,5 @@
 use mathlib.Core.Path.{sym, _∙_}
-use Rattle.writer.proofs.Writable.{writes-refused, writes-made}
+use Rattle.writer.proofs.Writes.{writes-refused, writes-made}
 use borrow.Author.Needs.{needs}
 use Rattle.writer.proofs.write.Statement.{statement}
 use Rattle.writer.proofs.write.Tie as tie

@@ -3,7 +3,7 @@ use mathlib.Core.Path.{sym, ap, _∙_}
 use native.Mathlib.Omega.{arith}
 use Rattle.words.proofs.Laws.{lent-below}
 use Rattle.reading.specs.Linkages.{attributeBy, linkageOf}
-use Rattle.places.proofs.Descent.{size-small}
+use Rattle.headers.proofs.Laws.{size-small}
 use Rattle.places.proofs.Places.{Inside, spotted-inside}
 use Rattle.reading.proofs.Numbered.{linkage-there, linkage-none}
 use borrow.Author.Needs.{needs}

@@ -1,0 +1,42 @@
+// The C interface of an element's linkages, as in include/dgn.h. No logic: the contract is the library's own equation,
+// put into numbers by specs/Answers.
+ghost use Rattle.reading.specs.Linkages.{linkageOf};
+ghost use Rattle.answers.specs.Answers.{Replied};
+ghost use Rattle.dgn_linkages.specs.Answers.{linkageReply};
+
+#[no_mangle]
+pub extern "C" fn dgn_linkage(
+    file: &[u8],
+    dim: usize,
+    place: usize,
+    k: usize,
+    out: &mut [usize],
+) -> usize
+    ensures { λ r. ⌜ Replied 4 (linkageReply (linkageOf dim (now (file .entry)) place k)) (now (out .entry)) r (now (out .exit)) ⌝ }
+{
+    if out.len() < 4 {
+        return 1;
+    }
+    match reading::linkage_at(file, dim, place, k) {
+        reading::Attribute::At {
+            user,
+            place: start,
+            size,
+            id,
+        } => {
+            let kind = kinds::pick(user, 1, 0);
+            out[0] = kind;
+            out[1] = start;
+            out[2] = size;
+            out[3] = id;
+            0
+        }
+        reading::Attribute::Refused {
+            number,
+            place: fault,
+        } => {
+            out[0] = fault;
+            number
+        }
+    }
+}

@@ -1,0 +1,211 @@
+// The header fields of an element of type 3, 4, 6 or 11, and the checks of what is handed to the writer, in document
+// 01's order. The definitions are in specs/: Words (an element's words), Faults (the checks).
+ghost use mathlib.Core.Path.{_≡_};
+ghost use mathlib.Core.Bool.{true};
+ghost use lib.ListN.{length};
+ghost use Rattle.limits.specs.Limits.{dimOk};
+ghost use Rattle.elements.specs.Attributes.{linkagesOk};
+ghost use Rattle.fields.specs.Words.{rangeLongs, pointsIn, sizeOf, elementWords};
+ghost use Rattle.fields.specs.Faults.{eachAtMost, isWritten, wordsOk, symbologyOk, fieldsOk, pointsFit, argumentsOk, pointNumberOk, writeFault};
+
+// All header fields of an element; its size and N follow from its points and its tail.
+pub struct Fields {
+    pub kind: usize,
+    pub level: usize,
+    pub c: bool,
+    pub deleted: bool,
+    pub low_x: usize,
+    pub low_y: usize,
+    pub low_z: usize,
+    pub high_x: usize,
+    pub high_y: usize,
+    pub high_z: usize,
+    pub group: usize,
+    pub index: usize,
+    pub properties: usize,
+    pub style: usize,
+    pub weight: usize,
+    pub colour: usize,
+}
+
+// 1: the types that are written.
+fn kind_ok(kind: usize) -> bool
+    ensures { λ r. ⌜ r ≡ isWritten kind ⌝ }
+{
+    match kind {
+        3 | 6 | 11 => true,
+        4 => true,
+        _ => false,
+    }
+}
+
+// 1: the range longs.
+fn range_ok(fields: Fields) -> bool
+    ensures { λ r. ⌜ r ≡ eachAtMost 4294967295 (rangeLongs fields) ⌝ }
+{
+    if 4294967295 < fields.low_x {
+        return false;
+    }
+    if 4294967295 < fields.low_y {
+        return false;
+    }
+    if 4294967295 < fields.low_z {
+        return false;
+    }
+    if 4294967295 < fields.high_x {
+        return false;
+    }
+    if 4294967295 < fields.high_y {
+        return false;
+    }
+    if 4294967295 < fields.high_z {
+        return false;
+    }
+    true
+}
+
+// 1: the fields of a word each.
+fn words_ok(fields: Fields) -> bool
+    ensures { λ r. ⌜ r ≡ wordsOk fields ⌝ }
+{
+    if 65535 < fields.group {
+        return false;
+    }
+    if 65535 < fields.index {
+        return false;
+    }
+    if 65535 < fields.properties {
+        return false;
+    }
+    true
+}
+
+// 1: the fields of the symbology word.
+fn symbology_ok(fields: Fields) -> bool
+    ensures { λ r. ⌜ r ≡ symbologyOk fields ⌝ }
+{
+    if 7 < fields.style {
+        return false;
+    }
+    if 31 < fields.weight {
+        return false;
+    }
+    if 255 < fields.colour {
+        return false;
+    }
+    true
+}
+
+// 1: all fields.
+fn fields_ok(fields: Fields) -> bool
+    ensures { λ r. ⌜ r ≡ fieldsOk fields ⌝ }
+{
+    if 63 < fields.level {
+        return false;
+    }
+    if !range_ok(fields) {
+        return false;
+    }
+    if !words_ok(fields) {
+        return false;
+    }
+    symbology_ok(fields)
+}
+
+// 1: the number of coordinates.
+fn points_fit(dim: usize, kind: usize, n: usize) -> bool
+    requires { ⌜ dimOk dim ≡ true ⌝ }
+    ensures { λ r. ⌜ r ≡ pointsFit dim kind n ⌝ }
+{
+    if kind == 3 {
+        return n == 2 * dim;
+    }
+    n % dim == 0
+}
+
+// 1: everything that is handed in, by its numbers.
+fn arguments_ok(dim: usize, fields: Fields, points: usize, tail: usize) -> bool
+    ensures { λ r. ⌜ r ≡ argumentsOk dim fields points tail ⌝ }
+{
+    if !limits::dim_ok(dim) {
+        return false;
+    }
+    if !kind_ok(fields.kind) {
+        return false;
+    }
+    if !fields_ok(fields) {
+        return false;
+    }
+    if !points_fit(dim, fields.kind, points) {
+        return false;
+    }
+    tail % 2 == 0
+}
+
+// 7: N.
+fn point_number_ok(kind: usize, n: usize) -> bool
+    ensures { λ r. ⌜ r ≡ pointNumberOk kind n ⌝ }
+{
+    if !kinds::is_pointed(kind) {
+        return true;
+    }
+    if n < 2 {
+        return false;
+    }
+    n <= 101
+}
+
+// The size, in words.
+fn size_of(dim: usize, fields: Fields, points: &[i32], tail: &[u8]) -> usize
+    requires { ⌜ argumentsOk dim fields (length (now points)) (length (now tail)) ≡ true ⌝ }
+    requires { ⌜ pointNumberOk (fields .kind) (pointsIn dim (now points)) ≡ true ⌝ }
+    ensures { λ r. ⌜ r ≡ sizeOf dim fields (now (points .entry)) (now (tail .entry)) ⌝ }
+{
+    let n = points.len() / dim;
+    kinds::fixed_part(dim, fields.kind, n as u16) + tail.len() / 2
+}
+
+// 11: the attribute part, where A is set. It begins not before the tail nor after its end, and linkages fill it.
+fn tail_ok(dim: usize, fields: Fields, points: &[i32], tail: &[u8]) -> bool
+    requires { ⌜ argumentsOk dim fields (length (now points)) (length (now tail)) ≡ true ⌝ }
+    requires { ⌜ pointNumberOk (fields .kind) (pointsIn dim (now points)) ≡ true ⌝ }
+    ensures { λ r. ⌜ r ≡ linkagesOk dim (elementWords dim fields (now (points .entry)) (now (tail .entry))) 0 ⌝ }
+{
+    if fields.properties / 2048 % 2 == 0 {
+        return true;
+    }
+    let n = points.len() / dim;
+    let fixed = kinds::fixed_part(dim, fields.kind, n as u16);
+    let part = 16 + fields.index;
+    if part < fixed {
+        return false;
+    }
+    let end = tail.len() / 2;
+    if end < part - fixed {
+        return false;
+    }
+    linkages::linkages_fill(tail, part - fixed, end)
+}
+
+// The number of the first fault, 0 where there is none, with a buffer of `room` bytes.
+pub fn write_fault(dim: usize, fields: Fields, points: &[i32], tail: &[u8], room: usize) -> usize
+    ensures { λ r. ⌜ r ≡ writeFault dim fields (now (points .entry)) (now (tail .entry)) room ⌝ }
+{
+    if !arguments_ok(dim, fields, points.len(), tail.len()) {
+        return 1;
+    }
+    if !point_number_ok(fields.kind, points.len() / dim) {
+        return 7;
+    }
+    let size = size_of(dim, fields, points, tail);
+    if 65535 < size {
+        return 8;
+    }
+    if !tail_ok(dim, fields, points, tail) {
+        return 11;
+    }
+    if room < 2 * size {
+        return 15;
+    }
+    0
+}

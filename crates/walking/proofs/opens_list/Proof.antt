@@ -1,0 +1,45 @@
+-- `opens_list` answers `opens`, by the depth and by whether the element is a header.
+use mathlib.Core.Path.{sym, ap, _∙_}
+use Rattle.kinds.specs.Kinds.{isHeader}
+use Rattle.walking.proofs.Steps.{opens-deep, opens-by}
+use borrow.Author.Needs.{needs}
+use Rattle.walking.proofs.opens_list.Statement.{statement}
+use Rattle.walking.proofs.opens_list.Tie as tie
+
+returns : tie.Need-returns
+returns c = opens-deep _ _ _ (c .if1 .taken)
+
+type-at-requires : tie.Need-type-at-requires
+type-at-requires c κs = search needs
+
+is-header-requires : tie.Need-is-header-requires
+is-header-requires c κs = search needs
+
+size-at-requires : tie.Need-size-at-requires
+size-at-requires c κs = search needs
+
+extent-at-requires : tie.Need-extent-at-requires
+extent-at-requires c κs = search needs
+
+returns-2 : tie.Need-returns-2
+returns-2 c =
+    rw (c .before .size-at .ensures, c .extent-at .ensures)
+    (opens-by _ _ _ _ (c .before .before .before .before .before .if1 .left)
+    (sym (ap isHeader (c .before .before .before .before .type-at .ensures)) ∙ sym (c .before .before .before .is-header .ensures) ∙ c .before .before .if2 .taken))
+
+returns-3 : tie.Need-returns-3
+returns-3 c =
+    opens-by _ _ _ _ (c .before .before .before .if1 .left)
+    (sym (ap isHeader (c .before .before .type-at .ensures)) ∙ sym (c .before .is-header .ensures) ∙ c .if2 .left)
+
+pub opens-list-spec : {M : Type 1} → statement M
+opens-list-spec =
+    tie.close
+    (tie.spec
+    returns
+    type-at-requires
+    is-header-requires
+    size-at-requires
+    extent-at-requires
+    returns-2
+    returns-3)
