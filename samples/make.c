@@ -1,6 +1,6 @@
 /* Makes the sample files in a folder:
  *   make FOLDER
- * Lines, line strings, shapes and curves are made by dgn_write, the headers of cells here, word by word as document 01
+ * Lines, line strings, shapes and curves are made by dgn_write, the headers of cells here, word by word as docs/RULES.md
  * says; their ranges and the words that it does not name are 0. Each file is judged before it is written: where an
  * answer is not the expected one, the program says so and ends with status 1.
  */

@@ -1,4 +1,4 @@
-/* Every function of include/dgn.h, called from C as the header declares it, on the worked cell of document 01: a 2D
+/* Every function of include/dgn.h, called from C as the header declares it, on the worked cell of docs/RULES.md: a 2D
  * cell of 46 words named 00417 with one line of 26 words, marked deleted, and the end marker. Its last line is
  * "N passed, M failed". */
 #include <stdio.h>

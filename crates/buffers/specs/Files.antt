@@ -1,4 +1,4 @@
--- A file's buffer with words put in and taken out (document 01, "Editing": the rest moves, and words freed at the end
+-- A file's buffer with words put in and taken out (RULES.md, "Edits": the rest moves, and words freed at the end
 -- become zero). Lengths are in bytes, places in words.
 use Prim.Native.Nat.{ℕ, _+_, _*_, _%_}
 use mathlib.Core.List.{List}

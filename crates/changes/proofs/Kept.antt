@@ -17,7 +17,7 @@ use Rattle.edits.proofs.Fields.{flagged-small}
 use Rattle.buffers.proofs.Stored.{stored-bytes}
 use Rattle.totals.proofs.Corrected.{below-put}
 use Rattle.totals.proofs.Totals.{length-totals, below-totals}
-use Rattle.cell_names.specs.CellNames.{namePut}
+use Rattle.changes.specs.CellNames.{namePut}
 use Rattle.changes.specs.Changes.{flagPut, totalsUnder}
 
 kept-stored : (f : List ℕ) (used : ℕ) (y : List ℕ) → used % 2 ≡ 0 → length y ≡ used → Below 256 y → y ++ drop used f ≡ stored f used (words y)

@@ -31,7 +31,7 @@ use Rattle.buffers.proofs.Laws.{inserted-stored, removed-stored}
 use Rattle.opening.specs.Opening.{headerOf}
 use Rattle.opening.proofs.Opening.{AcceptedUsed}
 use Rattle.opening.proofs.Accepted.{standing, found-is}
-use Rattle.cell_names.specs.CellNames.{namePut}
+use Rattle.changes.specs.CellNames.{namePut}
 use Rattle.changes.specs.Changes.{flagPut, totalsUnder, usedTotals, pieceIn, extentOut}
 use Rattle.changes.proofs.Steps.{piece-within, extent-within}
 use Rattle.changes.proofs.Kept.{below-under, flag-stored, name-stored, totals-stored}

@@ -1,9 +1,10 @@
--- The promises, in the user's order, each with a one-line proof that cites where it is proved.
+-- The promises, in the order of the demands, each with a one-line proof that cites where it is proved.
 use Prim.Native.Nat.{ℕ, _+_, _-_, _/_, _<_, _≤_}
 use mathlib.Core.Path.{_≡_}
-use mathlib.Core.Logic.{_↔_, _≢_}
-use mathlib.Core.Bool.{true}
-use mathlib.Core.List.{List, _++_}
+use mathlib.Core.Logic.{_↔_, _≢_, _⊎_}
+use mathlib.Core.Bool.{true, false}
+use mathlib.Core.List.{List, [], _∷_, _++_}
+use mathlib.Core.Option.{Option, some}
 use lib.ListN.{length, take, drop}
 use lib.IntN.{ℤ}
 use lib.Signed.{mag}
@@ -12,39 +13,79 @@ use Rattle.words.proofs.Laws as stores
 use Rattle.words.proofs.Signed as signs
 use Rattle.names.specs.Names.{packed, unpacked, textAnswer, textOf, nameOk}
 use Rattle.names.specs.declared.Packed.the-variants.{Words}
+use Rattle.names.specs.declared.Packed.the-variants as text
+use Rattle.names.specs.declared.Answer.the-variants as letters
+use Rattle.names.proofs.Refusals as texts
 use Rattle.names.proofs.OneToOne as names
-use Rattle.limits.specs.Limits.{callOk}
+use Rattle.kinds.specs.Kinds.{oneOf}
+use Rattle.limits.specs.Limits.{dimOk, callOk}
 use Rattle.files.specs.Judge.{judgeOf}
-use Rattle.files.specs.Spots.{Spot, deepest, spotsOf}
+use Rattle.files.specs.Refused.{RefusedBy}
+use Rattle.files.specs.Spots.{Spot, deepest, spotsOf, spotIn}
 use Rattle.files.specs.declared.Judged.the-variants.{Accepted, Refused}
 use Rattle.grammar.specs.Grammar.{File}
 use Rattle.grammar.specs.Reading.{Reading}
 use Rattle.grammar.proofs.Exact as exact
-use Rattle.grammar.proofs.Numbers as numbers
+use Rattle.grammar.specs.FirstFault.{FirstFault, Refusal}
+use Rattle.grammar.proofs.FirstFault as faults
+use Rattle.places.specs.Extents.{extentAnswer}
+use Rattle.places.specs.declared.Extent.the-variants as extent
+use Rattle.places.proofs.Refusals as places
 use Rattle.views.specs.Views.{viewOf}
 use Rattle.views.specs.Starts.{Starts, Accepts}
+use Rattle.views.specs.declared.View.the-variants as view
 use Rattle.views.proofs.Starts as starts
+use Rattle.views.proofs.Refusals as seen
+use Rattle.elements.specs.Attributes.{hasAttributes}
+use Rattle.points_linkages.specs.Points.{pointOf}
+use Rattle.points_linkages.specs.Linkages.{linkageOf}
+use Rattle.points_linkages.specs.Listed.{ByNumber}
+use Rattle.points_linkages.specs.declared.Point.the-variants as point
+use Rattle.points_linkages.specs.declared.Attribute.the-variants as attribute
+use Rattle.points_linkages.proofs.Refusals as points
+use Rattle.points_linkages.proofs.Listed as numbered
 use Rattle.finder.specs.Finder.{findOf}
-use Rattle.finder.specs.Answers.{Finds, Stored}
+use Rattle.finder.specs.Meaning.{Finds, Stored}
 use Rattle.finder.specs.declared.Found.the-variants as found
 use Rattle.finder.proofs.Named as named
+use Rattle.finder.proofs.Refusals as finds
 use Rattle.walking.specs.Walk.{walkStart}
-use Rattle.linkages.specs.Linkages.{Linkages, fillFrom, linkagesFill}
+use Rattle.linkages.specs.Linkages.{Linkages, fillFrom, linkagesFill, linkageIn}
+use Rattle.linkages.specs.Listed.{FilledBy, kth}
 use Rattle.linkages.proofs.Meaning as meaning
+use Rattle.linkages.proofs.Listed as listed
 use Rattle.listing.specs.Lines.{headingLine, endLine}
-use Rattle.written.specs.RoundTrip.{ReadsBack, Rewrites}
-use Rattle.written.proofs.InFile as back
-use Rattle.written.proofs.Again as again
+use Rattle.fields.specs.declared.Fields.{Fields}
+use Rattle.writer.specs.Writing.{Writes}
+use Rattle.writer.specs.declared.Written.{Written}
+use Rattle.writer.specs.declared.Written.the-variants as written
+use Rattle.writer.proofs.Refusals as writes
+use Rattle.round_trips.specs.RoundTrip.{ReadsBack, Rewrites}
+use Rattle.round_trips.proofs.InFile as back
+use Rattle.round_trips.proofs.Again as again
 use Rattle.demands.specs.Listing.{listingOf, walkLines, walkPlace}
 use Rattle.demands.specs.Starred.{allHold, starred}
+use Rattle.demands.specs.ReadingCalls.{FileRefused, Found}
+use Rattle.demands.proofs.ReadingCalls as reads
 use Rattle.demands.proofs.Listing as listing
 use Rattle.demands.proofs.Starred as worked
-use Rattle.edits.specs.Calls.{Session, Call, step}
+use Rattle.demands.specs.SessionCases.{full, putLarge}
+use Rattle.demands.proofs.Lengths as lengths
+use Rattle.demands.proofs.Growth as growth
+use Rattle.edits.specs.Calls.{Session, Call, rename-call, insert-call, undo-call, step}
 use Rattle.edits.specs.Book.{wasRefused}
 use Rattle.edits.specs.Demand.{EveryRun}
 use Rattle.edits.specs.declared.Edited.the-variants as edit
 use Rattle.edits.proofs.Refusals as refusals
 use Rattle.edits.proofs.Numbers as calls
+use Rattle.edits.specs.Start.{AcceptedOpens}
+use Rattle.edits.specs.Refusals.{EveryRefusal, PiecePlace}
+use Rattle.edits.specs.Causes.{EditRefused, InsertRefused, UndoRefused}
+use Rattle.edits.specs.Made.{MadeExactly, EditsMade, MarkMade, RenameMade, InsertMade, RemoveMade}
+use Rattle.edits.proofs.Start as start
+use Rattle.edits.proofs.Causes as causes
+use Rattle.edits.proofs.Allowed as allowed
+use Rattle.edits.proofs.PlainEdits as plain
 use Rattle.edits.proofs.Every as every
 use Rattle.sessions.specs.Runs.{EveryCall}
 use Rattle.sessions.proofs.Runs as runs
@@ -59,9 +100,70 @@ refusal-keeps = refusals.refusal-keeps
 pub call-number : (dim : ℕ) (s : Session) (c : Call) (n p : ℕ) → step dim s c .answer ≡ edit.Refused n p → (1 ≤ n) × (n ≤ 19)
 call-number = calls.call-number
 
+-- a refused call of a session answers as judging the used file does, or one of the call's own numbers at place 0; an insert also
+-- its piece's own at the place within the piece, or 8 at a header from the top down to the named one
+pub call-refused : EveryRefusal
+call-refused = calls.every-refusal
+
+-- a rename by a text that is no name is refused
+pub bad-text : (dim : ℕ) (s : Session) (p : ℕ) (t : List ℕ) (n q : ℕ) → packed t ≡ text.Refused n q →
+    wasRefused (step dim s (rename-call p t) .answer) ≡ true
+bad-text = reads.bad-text
+
+-- the piece's own refusal is a number from 3 to 12, at a word of the piece; of an empty piece at 0
+pub piece-place : PiecePlace
+piece-place = calls.piece-place
+
+-- of the causes of an edit, of an insert's own and of an undo, each in its order, the first is the one answered
+pub edit-refused : EditRefused
+edit-refused = causes.edit-refused
+
+pub insert-refused : InsertRefused
+insert-refused = causes.insert-refused
+
+pub undo-refused : UndoRefused
+undo-refused = causes.undo-refused
+
+---- demand 1: the number and the place of each refusal; those of judging are with demand 2
+
+-- a refused call on a file answers as judging does of the file, or a number of its own, at place 0: an extent, a view, a
+-- point and a linkage with 13
+pub extent-refused : (dim : ℕ) (s : List ℕ) (at n p : ℕ) → extentAnswer dim s at ≡ extent.Refused n p → RefusedBy dim s (13 ∷ []) n p
+extent-refused = places.extent-refused
+
+pub view-refused : (dim : ℕ) (s : List ℕ) (at n p : ℕ) → viewOf dim s at ≡ view.Refused n p → RefusedBy dim s (13 ∷ []) n p
+view-refused = seen.view-refused
+
+pub point-refused : (dim : ℕ) (s : List ℕ) (at k n p : ℕ) → pointOf dim s at k ≡ point.Refused n p → RefusedBy dim s (13 ∷ []) n p
+point-refused = points.point-refused
+
+pub linkage-refused : (dim : ℕ) (s : List ℕ) (at k n p : ℕ) → linkageOf dim s at k ≡ attribute.Refused n p → RefusedBy dim s (13 ∷ []) n p
+linkage-refused = points.linkage-refused
+
+-- the finder with 12 or 13
+pub find-refused : (dim : ℕ) (s t : List ℕ) (n p c : ℕ) → findOf dim s t ≡ found.Refused n p c → RefusedBy dim s (12 ∷ 13 ∷ []) n p
+find-refused = finds.find-refused
+
+-- and where judging refuses the file, every one of them answers that number and place
+pub file-refused : (dim : ℕ) (s : List ℕ) (n p : ℕ) → judgeOf dim s ≡ Refused n p → FileRefused dim s n p
+file-refused = reads.file-refused
+
+-- a text and a word pair with 12 at 0
+pub pack-refused : (t : List ℕ) (n p : ℕ) → packed t ≡ text.Refused n p → (n ≡ 12) × (p ≡ 0)
+pack-refused = texts.pack-refused
+
+pub unpack-refused : (a b n p : ℕ) → unpacked a b .answer ≡ letters.Refused n p → (n ≡ 12) × (p ≡ 0)
+unpack-refused = texts.unpack-refused
+
+-- the writer with 1, 7, 8, 11 or 15 at 0, and its buffer stays as it was
+pub write-refused : (dim : ℕ) (f : Fields) (points : List ℤ) (tail out : List ℕ) (r : Written) (last : List ℕ) (n p : ℕ) →
+    Writes dim f points tail out r last → r ≡ written.Refused n p → (oneOf (1 ∷ 7 ∷ 8 ∷ 11 ∷ 15 ∷ []) n ≡ true) × (p ≡ 0) × (last ≡ out)
+write-refused = writes.write-refused
+
 ---- demand 2: accepted exactly when the structure holds, with one reading
 
--- a file is accepted, with these numbers, exactly where it is of the grammar and they are its elements' and marker's
+-- a file is accepted, with these numbers, exactly where it is of the grammar and they are its elements' and marker's; the
+-- grammar states the rules of an element in its own words, and elements-are says that its elements are those of the list
 pub accepted-exactly : (dim : ℕ) (s : List ℕ) (e d k : ℕ) → (judgeOf dim s ≡ Accepted e d k) ↔ Reading dim s e d k
 accepted-exactly = exact.accepted-exactly
 
@@ -73,9 +175,21 @@ every-file = exact.is-accepted
 pub refused-is-none : (dim : ℕ) (s : List ℕ) (n p : ℕ) → judgeOf dim s ≡ Refused n p → callOk dim s ≡ true → (xs : List Spot) (k : ℕ) → File dim (words s) xs k → ⊥
 refused-is-none = exact.refused-is-none
 
--- the number of a refused file is one from 1 to 12
-pub refusal-number : (dim : ℕ) (s : List ℕ) (n p : ℕ) → judgeOf dim s ≡ Refused n p → (1 ≤ n) × (n ≤ 12)
-refusal-number = numbers.refusal-number
+-- the first fault decides: a file of an allowed length and dimension is refused, with this number and place, exactly where they are its first fault's
+pub refused-exactly : (dim : ℕ) (s : List ℕ) (n p : ℕ) → callOk dim s ≡ true → (judgeOf dim s ≡ Refused n p) ↔ FirstFault dim (words s) n p
+refused-exactly = faults.refused-exactly
+
+-- words have one first fault at most
+pub one-fault : (dim : ℕ) (ws : List ℕ) (n p m q : ℕ) → FirstFault dim ws n p → FirstFault dim ws m q → (n ≡ m) × (p ≡ q)
+one-fault = faults.one-fault
+
+-- a file of another length or dimension, and no other, is refused with 1 at 0
+pub refused-call : (dim : ℕ) (s : List ℕ) → (judgeOf dim s ≡ Refused 1 0) ↔ (callOk dim s ≡ false)
+refused-call = faults.refused-call
+
+-- a refusal is 1 at 0, 2 at the file's end, or a number from 3 to 12 at a word of the file
+pub refusal-place : (dim : ℕ) (s : List ℕ) (n p : ℕ) → judgeOf dim s ≡ Refused n p → Refusal (length (words s)) n p
+refusal-place = faults.refusal-place
 
 -- the elements of a file of the grammar are the one list spotsOf, over which the calls are stated
 pub elements-are : (dim : ℕ) (ws : List ℕ) (xs : List Spot) (k : ℕ) → File dim ws xs k → xs ≡ spotsOf dim ws
@@ -107,10 +221,35 @@ linkages-are = meaning.fills-is
 pub are-linkages : {xs : List ℕ} → Linkages xs → (pre post : List ℕ) → linkagesFill (pre ++ (xs ++ post)) (length pre) (length pre + length xs) ≡ true
 are-linkages = meaning.is-fills
 
+-- linkage k of those that fill a part is the k-th of them: its kind, its place behind those before it, its size and its id;
+-- and there is none for any other k
+pub linkage-is : (xs : List (List ℕ)) (ws : List ℕ) (at end : ℕ) → FilledBy xs ws at end → (k : ℕ) → linkageIn ws at end k ≡ kth xs at k
+linkage-is = listed.linkage-is
+
+-- the linkages of an accepted element with attributes fill its attribute part, and the call for linkage k gives the k-th of them, 13
+-- at 0 for any other k
+pub linkage-by-number : (dim : ℕ) (s : List ℕ) (place e d m : ℕ) (x : Spot) → judgeOf dim s ≡ Accepted e d m → spotIn (spotsOf dim (words s)) place ≡ some x →
+    hasAttributes (words s) place ≡ true → ByNumber dim s place
+linkage-by-number = numbered.by-number
+
 -- a view accepts each place in the list of elements, and no other place
 pub view-accepts : (dim : ℕ) (s : List ℕ) (p e d m : ℕ) → judgeOf dim s ≡ Accepted e d m →
     (Starts (spotsOf dim (words s)) p → Accepts (viewOf dim s p)) × (Accepts (viewOf dim s p) → Starts (spotsOf dim (words s)) p)
 view-accepts = starts.view-accepts
+
+-- of the element in the list that starts at a place, an extent ends where it does, and a view shows its depth and its header
+pub found-is : (dim : ℕ) (s : List ℕ) (at e d m : ℕ) (x : Spot) → judgeOf dim s ≡ Accepted e d m → spotIn (spotsOf dim (words s)) at ≡ some x →
+    Found dim s at x
+found-is = reads.found-is
+
+-- of an accepted file, a view and an extent are refused, with 13 at 0, exactly where no element starts
+pub view-none : (dim : ℕ) (s : List ℕ) (at e d m : ℕ) → judgeOf dim s ≡ Accepted e d m →
+    (viewOf dim s at ≡ view.Refused 13 0) ↔ (Starts (spotsOf dim (words s)) at → ⊥)
+view-none = seen.view-none
+
+pub extent-none : (dim : ℕ) (s : List ℕ) (at e d m : ℕ) → judgeOf dim s ≡ Accepted e d m →
+    (extentAnswer dim s at ≡ extent.Refused 13 0) ↔ (Starts (spotsOf dim (words s)) at → ⊥)
+extent-none = seen.extent-none
 
 -- the finder's count is the found element's ordinal plus one, and 13 carries the count of all elements
 pub finder-count : (dim : ℕ) (s t : List ℕ) (e d m a b : ℕ) → judgeOf dim s ≡ Accepted e d m → packed t ≡ Words a b →
@@ -137,10 +276,35 @@ reads-back = back.reads-back
 pub rewrites : Rewrites
 rewrites = again.rewrites
 
----- demand 2: the worked cases of document 01 that it marks with *, and its table of fixed parts
+---- demand 2 and demand 3: the worked cases that RULES.md marks with *, its table of fixed parts, and cases of its rules, of
+---- its orders of checks and of sessions, as one list
 
 pub starred-hold : allHold starred ≡ true
 starred-hold = worked.starred-hold
+
+-- a case of 8, at the outermost header that would grow too large, before the buffer's room counts
+pub growth-first : (rest : List ℕ) → length rest ≡ 130880 → step 2 full (putLarge rest) .answer ≡ edit.Refused 8 2
+growth-first = growth.growth-first
+
+-- 1,048,576 bytes may be lent: a file of that length with the marker first is accepted, and a session whose two buffers have it
+-- opens, its undo finding nothing
+pub longest-judged : (dim : ℕ) (rest : List ℕ) → dimOk dim ≡ true → length rest ≡ 1048574 → judgeOf dim (255 ∷ 255 ∷ rest) ≡ Accepted 0 0 0
+longest-judged = lengths.longest-judged
+
+pub longest-edited : (dim : ℕ) (rest journal : List ℕ) → dimOk dim ≡ true → length rest ≡ 1048574 → length journal ≡ 1048576 →
+    step dim (record { file = 255 ∷ 255 ∷ rest; used = 2; journal = journal; jused = 0 }) undo-call .answer ≡ edit.Refused 17 0
+longest-edited = lengths.longest-edited
+
+-- more is refused with 1: a file, a buffer of a session in every call, the piece of an insert
+pub longer-judged : (dim : ℕ) (s : List ℕ) → 1048576 < length s → judgeOf dim s ≡ Refused 1 0
+longer-judged = lengths.longer-judged
+
+pub longer-edited : (dim : ℕ) (s : Session) (c : Call) → (1048576 < length (s .file)) ⊎ (1048576 < length (s .journal)) → step dim s c .answer ≡ edit.Refused 1 0
+longer-edited = lengths.longer-edited
+
+pub longer-piece : (dim : ℕ) (s : Session) (h : Option ℕ) (p : ℕ) (piece : List ℕ) → 1048576 < length piece →
+    step dim s (insert-call h p piece) .answer ≡ edit.Refused 1 0
+longer-piece = lengths.longer-piece
 
 ---- demand 2: texts and stored names match one to one
 
@@ -161,6 +325,10 @@ no-two-part-codes = names.no-two-share
 
 ---- demand 3, one theorem over every list of calls
 
+-- every accepted file opens a session: its bytes through the marker at the front of a buffer, and an empty journal
+pub accepted-opens : AcceptedOpens
+accepted-opens = start.accepted-opens
+
 -- over the definitions that the five contracts are equations with
 pub demand-three : EveryRun
 demand-three = every.demand-three
@@ -168,6 +336,28 @@ demand-three = every.demand-three
 -- of the calls themselves, with any answers and bytes that their contracts allow, each lent what the last one left
 pub every-call : EveryCall
 every-call = runs.every-call
+
+-- an edit is made exactly where nothing refuses it, and answers the used lengths after it
+pub made-exactly : MadeExactly
+made-exactly = allowed.made-exactly
+
+pub edits-made : EditsMade
+edits-made = allowed.edits-made
+
+-- in plain facts, of a session that opens: a mark is made where an element starts at the place, its flag is not as wanted and 12
+-- bytes of the journal are free; a rename where it is a cell and the text a name, with 16 bytes; an insert where place and piece have
+-- no fault and the file's buffer has room, with 12 bytes; a remove with 12 bytes and those of the extent
+pub mark-made : MarkMade
+mark-made = plain.mark-made
+
+pub rename-made : RenameMade
+rename-made = plain.rename-made
+
+pub insert-made : InsertMade
+insert-made = plain.insert-made
+
+pub remove-made : RemoveMade
+remove-made = plain.remove-made
 
 ---- words and signed longs: what is stored is read back, and every other word stays
 

@@ -1,3 +1,6 @@
-pub mod Starred
-pub mod Listing
 pub mod Demands
+pub mod Starred
+pub mod Lengths
+pub mod Growth
+pub mod Listing
+pub mod ReadingCalls

@@ -1,2 +1,6 @@
+pub mod Cases
+pub mod Elements
+pub mod SessionCases
 pub mod Starred
 pub mod Listing
+pub mod ReadingCalls

@@ -1,4 +1,4 @@
--- The listing of the program celllist (document 01, "Worked on both sides"): one line of a refused file or of more than
+-- The listing of the program celllist (RULES.md, "Listing"): one line of a refused file or of more than
 -- 65,536 bytes; else the heading, a line for each element in file order, and the end.
 use Prim.Native.Nat.{ℕ, zero, suc}
 use mathlib.Core.Bool.{cond}

@@ -1,31 +1,24 @@
--- The worked cases of document 01 that it marks with *, its table of fixed parts, its rules of what may stand where and of
--- bits 6 and 7, and cases of its counts, stored names and attribute parts, as one list. That all hold is one statement of the
--- page of demands.
-use Prim.Native.Nat.{ℕ, suc, _+_, _*_, _-_}
+-- The worked cases that RULES.md marks with *, its table of fixed parts, its rules of what may stand where and of
+-- bits 6 and 7, cases of its depths, totals, counts, stored names and attribute parts, of its orders of checks and of
+-- sessions, as one list. That all hold is one statement of the page of demands.
+use Prim.Native.Nat.{ℕ, zero, suc, _+_, _*_}
 use mathlib.Core.List.{List, [], _∷_, _++_}
-use mathlib.Core.Bool.{Bool, true, false, cond, _&&_}
-use lib.Dec.{eqb}
+use mathlib.Core.Bool.{Bool, true, _&&_}
 use lib.IntN.{ℤ, pos, negsuc}
-use lib.ListN.{replicate}
 use Rattle.words.specs.Words.{words, bytes, longAt, signed}
-use Rattle.names.specs.Names.{packed, packedNumbers, unpacked, answerNumbers}
+use Rattle.names.specs.Names.{wordOf, packed, packedNumbers, unpacked, answerNumbers}
+use Rattle.names.specs.declared.Packed.{Packed}
+use Rattle.names.specs.declared.Packed.the-variants as name
+use Rattle.kinds.specs.FirstWord.{bit}
 use Rattle.kinds.specs.Kinds.{fixedPart, mayStand}
+use Rattle.limits.specs.Limits.{sizeOk, usedOk}
+use Rattle.elements.specs.Rules.{extentOk}
 use Rattle.files.specs.Judge.{judgeOf, judgedNumbers}
-
--- a worked case: the numbers that the definitions give, and the numbers of document 01
-pub data Case : Type 0 where
-  case : List ℕ → List ℕ → Case
-
--- whether two lists of numbers are the same
-abbrev pub same : List ℕ → List ℕ → Bool
-same [] [] = true
-same [] (y ∷ ys) = false
-same (x ∷ xs) [] = false
-same (x ∷ xs) (y ∷ ys) = eqb x y && same xs ys
-
--- whether a case holds
-abbrev pub holds : Case → Bool
-holds (case given paper) = same given paper
+use Rattle.points_linkages.specs.Points.{pointOf}
+use Rattle.points_linkages.specs.Numbers.{pointNumber, pointGiven}
+use Rattle.demands.specs.Cases.{Case, case, holds}
+use Rattle.demands.specs.Elements.{firstWord, live, plain, attributed, raw, line, deadLine, text, cell, namedCell, libraryCell, chain, counting, inCells, text00417, text417}
+use Rattle.demands.specs.SessionCases.{sessionCases}
 
 -- whether each case of a list holds
 abbrev pub allHold : List Case → Bool
@@ -37,13 +30,6 @@ abbrev pub signedNumbers : ℤ → List ℕ
 signedNumbers (pos n) = 0 ∷ n ∷ []
 signedNumbers (negsuc n) = 1 ∷ suc n ∷ []
 
--- the texts 00417 and 417, in bytes
-abbrev pub text00417 : List ℕ
-text00417 = 48 ∷ 48 ∷ 52 ∷ 49 ∷ 55 ∷ []
-
-abbrev pub text417 : List ℕ
-text417 = 52 ∷ 49 ∷ 55 ∷ []
-
 -- 01 00 02 00 is 65538, FF FF FE FF is -2 when signed
 abbrev pub longCases : List Case
 longCases =
@@ -52,6 +38,23 @@ longCases =
     []
 
 -- 00417 is 49234, 51080; 417 is 55677, 0; word 64000: 12
+-- n numbers from one on, numbers times another, and the first words of texts of one letter
+abbrev pub from : ℕ → ℕ → List ℕ
+from zero k = []
+from (suc n) k = k ∷ from n (k + 1)
+
+abbrev pub times : ℕ → List ℕ → List ℕ
+times m [] = []
+times m (k ∷ ks) = m * k ∷ times m ks
+
+abbrev pub firstWord? : Packed → ℕ
+firstWord? (name.Words a b) = a
+firstWord? (name.Refused n p) = 65536
+
+abbrev pub firstWords : List ℕ → List ℕ
+firstWords [] = []
+firstWords (c ∷ cs) = firstWord? (packed (c ∷ [])) ∷ firstWords cs
+
 abbrev pub nameCases : List Case
 nameCases =
     case (packedNumbers (packed text00417)) (0 ∷ 49234 ∷ 51080 ∷ []) ∷
@@ -59,21 +62,30 @@ nameCases =
     case (answerNumbers (unpacked 49234 51080 .answer) ++ unpacked 49234 51080 .letters) (0 ∷ 5 ∷ text00417 ++ (0 ∷ [])) ∷
     case (answerNumbers (unpacked 55677 0 .answer) ++ unpacked 55677 0 .letters) (0 ∷ 3 ∷ text417 ++ (0 ∷ 0 ∷ 0 ∷ [])) ∷
     case (answerNumbers (unpacked 63999 63999 .answer) ++ unpacked 63999 63999 .letters) (0 ∷ 6 ∷ 57 ∷ 57 ∷ 57 ∷ 57 ∷ 57 ∷ 57 ∷ []) ∷
+    -- each letter of the set packs to its code: a space before A, then A-Z, $, . and 0-9
+    case (packedNumbers (packed (32 ∷ 65 ∷ []))) (0 ∷ 40 ∷ 0 ∷ []) ∷
+    case (firstWords (from 26 65)) (times 1600 (from 26 1)) ∷
+    case (firstWords (36 ∷ 46 ∷ [])) (times 1600 (27 ∷ 28 ∷ [])) ∷
+    case (firstWords (from 10 48)) (times 1600 (from 10 30)) ∷
+    -- a space inside a name stays
+    case (answerNumbers (unpacked 1601 0 .answer) ++ unpacked 1601 0 .letters) (0 ∷ 3 ∷ 65 ∷ 32 ∷ 65 ∷ 0 ∷ 0 ∷ 0 ∷ []) ∷
     case (answerNumbers (unpacked 64000 0 .answer)) (12 ∷ 0 ∷ []) ∷
     case (answerNumbers (unpacked 0 64000 .answer)) (12 ∷ 0 ∷ []) ∷
     []
 
--- an element of a type, so many words long, C as given; all zeros from word 2 on but for word 18
-abbrev pub plain : ℕ → ℕ → ℕ → ℕ → List ℕ
-plain c kind size n = (128 * c + 256 * kind) ∷ (size - 2) ∷ replicate 16 0 ++ (n ∷ replicate (size - 19) 0)
+-- what judging a file of these words and the marker answers, in 2D and in 3D
+abbrev pub judged : ℕ → List ℕ → List ℕ
+judged dim ws = judgedNumbers (judgeOf dim (bytes (ws ++ (65535 ∷ []))))
+
+abbrev pub judged2D : List ℕ → List ℕ
+judged2D = judged 2
+
+abbrev pub judged3D : List ℕ → List ℕ
+judged3D = judged 3
 
 -- the 2D cell of 46 words with total T and one 26-word line
 abbrev pub cellWithLine : ℕ → List ℕ
-cellWithLine total = plain 0 2 46 total ++ plain 1 3 26 0
-
--- what judging a 2D file of these words and the marker answers
-abbrev pub judged2D : List ℕ → List ℕ
-judged2D ws = judgedNumbers (judgeOf 2 (bytes (ws ++ (65535 ∷ []))))
+cellWithLine total = cell 0 total ++ line 1
 
 -- empty file: 2 at 0; only FF FF: accepted, 0 elements; one byte: 1
 abbrev pub fileCases : List Case
@@ -86,19 +98,19 @@ fileCases =
 -- 2D line of 26 words: accepted; of 25: 7
 abbrev pub lineCases : List Case
 lineCases =
-    case (judged2D (plain 0 3 26 0)) (0 ∷ 1 ∷ 0 ∷ 26 ∷ []) ∷
-    case (judged2D (plain 0 3 25 0)) (7 ∷ 0 ∷ []) ∷
+    case (judged2D (line 0)) (0 ∷ 1 ∷ 0 ∷ 26 ∷ []) ∷
+    case (judged2D (plain 3 0 25 [])) (7 ∷ 0 ∷ []) ∷
     []
 
 -- 2D type 4 with N=2 needs 27 words; N=1 and N=102: 7; N=101 needs 423
 abbrev pub pointCases : List Case
 pointCases =
-    case (judged2D (plain 0 4 27 2)) (0 ∷ 1 ∷ 0 ∷ 27 ∷ []) ∷
-    case (judged2D (plain 0 4 26 2)) (7 ∷ 0 ∷ []) ∷
-    case (judged2D (plain 0 4 27 1)) (7 ∷ 0 ∷ []) ∷
-    case (judged2D (plain 0 4 427 102)) (7 ∷ 0 ∷ []) ∷
-    case (judged2D (plain 0 4 423 101)) (0 ∷ 1 ∷ 0 ∷ 423 ∷ []) ∷
-    case (judged2D (plain 0 4 422 101)) (7 ∷ 0 ∷ []) ∷
+    case (judged2D (plain 4 0 27 (2 ∷ []))) (0 ∷ 1 ∷ 0 ∷ 27 ∷ []) ∷
+    case (judged2D (plain 4 0 26 (2 ∷ []))) (7 ∷ 0 ∷ []) ∷
+    case (judged2D (plain 4 0 27 (1 ∷ []))) (7 ∷ 0 ∷ []) ∷
+    case (judged2D (plain 4 0 427 (102 ∷ []))) (7 ∷ 0 ∷ []) ∷
+    case (judged2D (plain 4 0 423 (101 ∷ []))) (0 ∷ 1 ∷ 0 ∷ 423 ∷ []) ∷
+    case (judged2D (plain 4 0 422 (101 ∷ []))) (7 ∷ 0 ∷ []) ∷
     []
 
 -- 2D cell of 46 words with one 26-word line: T=53 accepted; 52: 3 at the line; 54: 3 at the marker's word
@@ -131,13 +143,13 @@ tableCases =
     case (fixedParts 12 0) (20 ∷ 20 ∷ []) ∷
     case (fixedParts 14 0) (20 ∷ 20 ∷ []) ∷
     case (fixedParts 17 0) (18 ∷ 18 ∷ []) ∷
-    case (fixedPart 3 18 0 ∷ judged2D (plain 0 18 21 2)) (21 ∷ 6 ∷ 0 ∷ []) ∷
-    case (fixedPart 3 19 0 ∷ judged2D (plain 0 19 21 2)) (21 ∷ 6 ∷ 0 ∷ []) ∷
+    case (fixedPart 3 18 0 ∷ judged2D (plain 18 0 21 (2 ∷ []))) (21 ∷ 6 ∷ 0 ∷ []) ∷
+    case (fixedPart 3 19 0 ∷ judged2D (plain 19 0 21 (2 ∷ []))) (21 ∷ 6 ∷ 0 ∷ []) ∷
     []
 
 -- which of the types 1, 2, 3, 7, 12, 17, 19 and 25 may stand in a 3D file under a header of a type (0: at the top), 1 for each
 abbrev pub standing : ℕ → ℕ → ℕ
-standing under kind = cond (mayStand 3 under kind) 1 0
+standing under kind = bit (mayStand 3 under kind)
 
 abbrev pub standingUnder : ℕ → List ℕ
 standingUnder under =
@@ -164,39 +176,28 @@ placeCases =
     case (standingUnder 18) (0 ∷ 0 ∷ 1 ∷ 0 ∷ 0 ∷ 1 ∷ 0 ∷ 1 ∷ []) ∷
     case (standingUnder 19) (0 ∷ 0 ∷ 1 ∷ 0 ∷ 0 ∷ 1 ∷ 0 ∷ 1 ∷ []) ∷
     case (standing 0 24 ∷ standing 0 27 ∷ standing 0 87 ∷ []) (0 ∷ 0 ∷ 0 ∷ []) ∷
-    case (judgedNumbers (judgeOf 3 (bytes (plain 0 18 21 2 ++ (65535 ∷ []))))) (0 ∷ 1 ∷ 0 ∷ 21 ∷ []) ∷
-    case (judged2D (2496 ∷ 0 ∷ [])) (0 ∷ 1 ∷ 0 ∷ 2 ∷ []) ∷
-    case (judged2D (1344 ∷ 0 ∷ [])) (4 ∷ 0 ∷ []) ∷
-    case (judged2D (1408 ∷ 0 ∷ [])) (5 ∷ 0 ∷ []) ∷
+    case (judged3D (plain 18 0 21 (2 ∷ []))) (0 ∷ 1 ∷ 0 ∷ 21 ∷ []) ∷
+    case (judged2D (firstWord 9 1 1 0 ∷ 0 ∷ [])) (0 ∷ 1 ∷ 0 ∷ 2 ∷ []) ∷
+    case (judged2D (firstWord 5 0 1 0 ∷ 0 ∷ [])) (4 ∷ 0 ∷ []) ∷
+    case (judged2D (firstWord 5 1 0 0 ∷ 0 ∷ [])) (5 ∷ 0 ∷ []) ∷
     []
-
--- a 2D complex chain of 20 words around one line, with a count
-abbrev pub chain : ℕ → List ℕ
-chain count = 3072 ∷ 18 ∷ replicate 16 0 ++ (27 ∷ count ∷ plain 1 3 26 0)
-
--- a library cell and a 2D cell, each with a name of two words and nothing under it
-abbrev pub libraryCell : ℕ → ℕ → List ℕ
-libraryCell first second = 256 ∷ 33 ∷ replicate 14 0 ++ (first ∷ second ∷ 16 ∷ replicate 16 0)
-
-abbrev pub cell : ℕ → ℕ → List ℕ
-cell first second = 512 ∷ 44 ∷ replicate 16 0 ++ (27 ∷ first ∷ second ∷ replicate 25 0)
 
 -- a 2D line with A set, its attribute part from word 16 + index on and four words behind its fixed part
 abbrev pub linked : ℕ → ℕ → List ℕ
-linked index first = 768 ∷ 28 ∷ replicate 13 0 ++ (index ∷ 2048 ∷ replicate 9 0 ++ (first ∷ 0 ∷ 0 ∷ 0 ∷ []))
+linked index first = attributed 3 30 index (0 ∷ 0 ∷ 0 ∷ 0 ∷ 0 ∷ 0 ∷ 0 ∷ 0 ∷ first ∷ [])
 
 -- a count in word 19 that differs from the direct components: 9; a stored name with a word above 63999, in words 16-17 of
 -- type 1 and 19-20 of type 2: 12; an attribute part that linkages fill, else 11, and 11 where it begins in the fixed part
 abbrev pub ruleCases : List Case
 ruleCases =
-    case (judged2D (chain 1)) (0 ∷ 2 ∷ 1 ∷ 46 ∷ []) ∷
-    case (judged2D (chain 0)) (9 ∷ 0 ∷ []) ∷
+    case (judged2D (chain 0 27 1 ++ line 1)) (0 ∷ 2 ∷ 1 ∷ 46 ∷ []) ∷
+    case (judged2D (chain 0 27 0 ++ line 1)) (9 ∷ 0 ∷ []) ∷
     case (judged2D (libraryCell 49234 51080)) (0 ∷ 1 ∷ 0 ∷ 35 ∷ []) ∷
     case (judged2D (libraryCell 64000 0)) (12 ∷ 0 ∷ []) ∷
     case (judged2D (libraryCell 0 64000)) (12 ∷ 0 ∷ []) ∷
-    case (judged2D (cell 55677 0)) (0 ∷ 1 ∷ 0 ∷ 46 ∷ []) ∷
-    case (judged2D (cell 64000 0)) (12 ∷ 0 ∷ []) ∷
-    case (judged2D (cell 0 64000)) (12 ∷ 0 ∷ []) ∷
+    case (judged2D (namedCell 27 55677 0)) (0 ∷ 1 ∷ 0 ∷ 46 ∷ []) ∷
+    case (judged2D (namedCell 27 64000 0)) (12 ∷ 0 ∷ []) ∷
+    case (judged2D (namedCell 27 0 64000)) (12 ∷ 0 ∷ []) ∷
     case (judged2D (linked 10 0)) (0 ∷ 1 ∷ 0 ∷ 30 ∷ []) ∷
     case (judged2D (linked 10 32768)) (0 ∷ 1 ∷ 0 ∷ 30 ∷ []) ∷
     case (judged2D (linked 10 4099)) (0 ∷ 1 ∷ 0 ∷ 30 ∷ []) ∷
@@ -205,6 +206,148 @@ ruleCases =
     case (judged2D (linked 9 0)) (11 ∷ 0 ∷ []) ∷
     []
 
+-- lengths in bytes: of a file or buffer, with a used length, and of a used length in its buffer
+abbrev pub lengthCases : List Case
+lengthCases =
+    -- 1,048,576 may be lent, 1,048,578 and an odd number not
+    case (bit (sizeOk 1048576) ∷ bit (sizeOk 1048578) ∷ bit (sizeOk 1048575) ∷ []) (1 ∷ 0 ∷ 0 ∷ []) ∷
+    -- the same of a buffer with a used length
+    case (bit (usedOk 1048576 1048576) ∷ bit (usedOk 1048578 2) ∷ bit (usedOk 1048575 2) ∷ []) (1 ∷ 0 ∷ 0 ∷ []) ∷
+    -- a used length is not beyond its buffer, and even
+    case (bit (usedOk 8 8) ∷ bit (usedOk 8 10) ∷ bit (usedOk 8 7) ∷ []) (1 ∷ 0 ∷ 0 ∷ []) ∷
+    []
+
+-- code 29 in a stored name: 12
+abbrev pub codeCases : List Case
+codeCases =
+    -- as each letter of the first word
+    case (judged2D (namedCell 27 (wordOf 29 1 1) 0)) (12 ∷ 0 ∷ []) ∷
+    case (judged2D (namedCell 27 (wordOf 1 29 1) 0)) (12 ∷ 0 ∷ []) ∷
+    case (judged2D (namedCell 27 (wordOf 1 1 29) 0)) (12 ∷ 0 ∷ []) ∷
+    -- as each letter of the second word
+    case (judged2D (namedCell 27 0 (wordOf 29 1 1))) (12 ∷ 0 ∷ []) ∷
+    case (judged2D (namedCell 27 0 (wordOf 1 29 1))) (12 ∷ 0 ∷ []) ∷
+    case (judged2D (namedCell 27 0 (wordOf 1 1 29))) (12 ∷ 0 ∷ []) ∷
+    -- the codes beside it are letters
+    case (judged2D (namedCell 27 (wordOf 28 30 28) (wordOf 30 28 30))) (0 ∷ 1 ∷ 0 ∷ 46 ∷ []) ∷
+    []
+
+-- depths
+abbrev pub depthCases : List Case
+depthCases =
+    -- depth 8 is the deepest allowed
+    case (judged2D (inCells 8 (raw 1))) (0 ∷ 9 ∷ 8 ∷ 370 ∷ []) ∷
+    -- depth 9: 10, at the element
+    case (judged2D (inCells 9 (raw 1))) (10 ∷ 414 ∷ []) ∷
+    []
+
+-- totals
+abbrev pub totalCases : List Case
+totalCases =
+    -- T = 65,517: 8
+    case (judged2D (cell 0 65517)) (8 ∷ 0 ∷ []) ∷
+    -- with 65,536 words left, 65,516 is the greatest total
+    case (bit (extentOk (cell 0 65516) 0 65536) ∷ bit (extentOk (cell 0 65517) 0 65536) ∷ []) (1 ∷ 0 ∷ []) ∷
+    -- an extent that ends before its header does: 8
+    case (judged2D (cell 0 26)) (8 ∷ 0 ∷ []) ∷
+    []
+
+-- counts
+abbrev pub countCases : List Case
+countCases =
+    -- a deleted component counts in the total and in the count
+    case (judged2D (chain 0 53 2 ++ line 1 ++ deadLine 1)) (0 ∷ 3 ∷ 1 ∷ 72 ∷ []) ∷
+    -- left out of the count: 9
+    case (judged2D (chain 0 53 1 ++ line 1 ++ deadLine 1)) (9 ∷ 0 ∷ []) ∷
+    -- left out of the total it stands at the top, where C is wrong
+    case (judged2D (chain 0 27 1 ++ line 1 ++ deadLine 1)) (5 ∷ 46 ∷ []) ∷
+    -- the count of a text node, and one that differs
+    case (judged2D (counting 7 35 2 (text 1 ++ text 1))) (0 ∷ 3 ∷ 1 ∷ 71 ∷ []) ∷
+    case (judged2D (counting 7 35 1 (text 1 ++ text 1))) (9 ∷ 0 ∷ []) ∷
+    -- of a shape
+    case (judged2D (counting 14 20 1 (line 1))) (0 ∷ 2 ∷ 1 ∷ 46 ∷ []) ∷
+    case (judged2D (counting 14 20 2 (line 1))) (9 ∷ 0 ∷ []) ∷
+    -- of a surface
+    case (judged3D (counting 18 21 1 (raw 1))) (0 ∷ 2 ∷ 1 ∷ 23 ∷ []) ∷
+    case (judged3D (counting 18 21 0 (raw 1))) (9 ∷ 0 ∷ []) ∷
+    -- of a solid
+    case (judged3D (counting 19 21 1 (raw 1))) (0 ∷ 2 ∷ 1 ∷ 23 ∷ []) ∷
+    case (judged3D (counting 19 21 0 (raw 1))) (9 ∷ 0 ∷ []) ∷
+    -- no components at all is allowed, and counted
+    case (judged2D (counting 12 20 0 [])) (0 ∷ 1 ∷ 0 ∷ 20 ∷ []) ∷
+    case (judged2D (counting 12 20 1 [])) (9 ∷ 0 ∷ []) ∷
+    []
+
+-- attribute parts
+abbrev pub attributeCases : List Case
+attributeCases =
+    -- one that begins at the element's end is empty
+    case (judged2D (linked 14 0)) (0 ∷ 1 ∷ 0 ∷ 30 ∷ []) ∷
+    -- past the end: 11
+    case (judged2D (linked 15 0)) (11 ∷ 0 ∷ []) ∷
+    -- an empty one on a cell, and one that begins in its fixed part: 11, at the header
+    case (judged2D (line 0 ++ attributed 2 46 30 (27 ∷ []))) (0 ∷ 2 ∷ 0 ∷ 72 ∷ []) ∷
+    case (judged2D (line 0 ++ attributed 2 46 29 (27 ∷ []))) (11 ∷ 26 ∷ []) ∷
+    -- past the end of a chain's own words
+    case (judged2D (line 0 ++ attributed 12 20 5 (1 ∷ []))) (11 ∷ 26 ∷ []) ∷
+    []
+
+-- the order of checks of one element: 3, 4, 5, 10, 6, 7, 8, 11, 12, its components, 9; each case has two faults
+abbrev pub orderCases : List Case
+orderCases =
+    -- cut, and bit 6 set
+    case (judged2D (firstWord 5 0 1 0 ∷ 2 ∷ [])) (3 ∷ 0 ∷ []) ∷
+    -- bit 6 set, and C set at the top
+    case (judged2D (firstWord 5 1 1 0 ∷ 0 ∷ [])) (4 ∷ 0 ∷ []) ∷
+    -- C clear in a component, and depth 9
+    case (judged2D (inCells 9 (raw 0))) (5 ∷ 414 ∷ []) ∷
+    -- depth 9, and a type that is not read
+    case (judged2D (inCells 9 (live 24 1 ∷ 0 ∷ []))) (10 ∷ 414 ∷ []) ∷
+    -- a surface in a 2D file, and shorter than its fixed part
+    case (judged2D (plain 18 0 20 [])) (6 ∷ 0 ∷ []) ∷
+    -- a cell shorter than its fixed part, and its total too large
+    case (judged2D (plain 2 0 45 (65517 ∷ []))) (7 ∷ 0 ∷ []) ∷
+    -- a total too large, and an attribute part in the fixed part
+    case (judged2D (attributed 2 46 0 (65517 ∷ []))) (8 ∷ 0 ∷ []) ∷
+    -- an attribute part in the fixed part, and a word above 63999 in the name
+    case (judged2D (attributed 2 46 0 (27 ∷ 64000 ∷ []))) (11 ∷ 0 ∷ []) ∷
+    -- a word above 63999 in the name, and a component with C clear
+    case (judged2D (namedCell 29 64000 0 ++ raw 0)) (12 ∷ 0 ∷ []) ∷
+    -- a component with C clear, and a count that differs
+    case (judged2D (chain 0 3 0 ++ raw 0)) (5 ∷ 20 ∷ []) ∷
+    []
+
+-- point k of the element at the top of a file: the number of the answer, then each coordinate as two numbers
+abbrev pub signedAll : List ℤ → List ℕ
+signedAll [] = []
+signedAll (z ∷ zs) = signedNumbers z ++ signedAll zs
+
+abbrev pub pointNumbers : ℕ → List ℕ → ℕ → List ℕ
+pointNumbers dim ws k =
+    pointNumber (pointOf dim (bytes (ws ++ (65535 ∷ []))) 0 k) ∷ signedAll (pointGiven (pointOf dim (bytes (ws ++ (65535 ∷ []))) 0 k))
+
+-- point 1 of a type with N points, in 2D (65538, -2) and in 3D (65538, -2, 7), and 13 for a point that is not there or another type
+abbrev pub flatPoints : ℕ → List ℕ
+flatPoints kind = plain kind 0 27 (2 ∷ 0 ∷ 0 ∷ 0 ∷ 0 ∷ 1 ∷ 2 ∷ 65535 ∷ 65534 ∷ [])
+
+abbrev pub solidPoints : ℕ → List ℕ
+solidPoints kind = plain kind 0 31 (2 ∷ 0 ∷ 0 ∷ 0 ∷ 0 ∷ 0 ∷ 0 ∷ 1 ∷ 2 ∷ 65535 ∷ 65534 ∷ 0 ∷ 7 ∷ [])
+
+abbrev pub givenCases : List Case
+givenCases =
+    case (pointNumbers 2 (flatPoints 4) 1) (0 ∷ 0 ∷ 65538 ∷ 1 ∷ 2 ∷ 0 ∷ 0 ∷ []) ∷
+    case (pointNumbers 2 (flatPoints 6) 1) (0 ∷ 0 ∷ 65538 ∷ 1 ∷ 2 ∷ 0 ∷ 0 ∷ []) ∷
+    case (pointNumbers 2 (flatPoints 11) 1) (0 ∷ 0 ∷ 65538 ∷ 1 ∷ 2 ∷ 0 ∷ 0 ∷ []) ∷
+    case (pointNumbers 2 (flatPoints 21) 1) (0 ∷ 0 ∷ 65538 ∷ 1 ∷ 2 ∷ 0 ∷ 0 ∷ []) ∷
+    case (pointNumbers 3 (solidPoints 21) 1) (0 ∷ 0 ∷ 65538 ∷ 1 ∷ 2 ∷ 0 ∷ 7 ∷ []) ∷
+    case (pointNumbers 2 (plain 3 0 26 (0 ∷ 0 ∷ 0 ∷ 0 ∷ 1 ∷ 2 ∷ 65535 ∷ 65534 ∷ [])) 1) (0 ∷ 0 ∷ 65538 ∷ 1 ∷ 2 ∷ 0 ∷ 0 ∷ []) ∷
+    case (pointNumbers 2 (flatPoints 21) 2) (13 ∷ 0 ∷ 0 ∷ []) ∷
+    case (pointNumbers 2 (line 0) 2) (13 ∷ 0 ∷ 0 ∷ []) ∷
+    case (pointNumbers 2 (text 0) 0) (13 ∷ 0 ∷ 0 ∷ []) ∷
+    []
+
 -- the one list
 abbrev pub starred : List Case
-starred = longCases ++ nameCases ++ fileCases ++ lineCases ++ pointCases ++ cellCases ++ tableCases ++ placeCases ++ ruleCases
+starred =
+    longCases ++ nameCases ++ fileCases ++ lineCases ++ pointCases ++ cellCases ++ tableCases ++ placeCases ++ ruleCases
+    ++ lengthCases ++ givenCases ++ codeCases ++ depthCases ++ totalCases ++ countCases ++ attributeCases ++ orderCases ++ sessionCases

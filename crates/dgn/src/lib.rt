@@ -4,7 +4,7 @@
 ghost use Rattle.files.specs.Judge.{judgeOf};
 ghost use Rattle.finder.specs.Finder.{findOf};
 ghost use Rattle.answers.specs.Answers.{Replied};
-ghost use Rattle.dgn.specs.Answers.{judgeReply, findReply};
+ghost use Rattle.dgn.specs.JudgeFind.{judgeReply, findReply};
 
 #[no_mangle]
 pub extern "C" fn dgn_judge(file: &[u8], dim: usize, out: &mut [usize]) -> usize

@@ -1,8 +1,8 @@
 // The C interface of an element's linkages, as in include/dgn.h. No logic: the contract is the library's own equation,
 // put into numbers by specs/Answers.
-ghost use Rattle.reading.specs.Linkages.{linkageOf};
+ghost use Rattle.points_linkages.specs.Linkages.{linkageOf};
 ghost use Rattle.answers.specs.Answers.{Replied};
-ghost use Rattle.dgn_linkages.specs.Answers.{linkageReply};
+ghost use Rattle.dgn_linkages.specs.LinkageNumbers.{linkageReply};
 
 #[no_mangle]
 pub extern "C" fn dgn_linkage(
@@ -17,8 +17,8 @@ pub extern "C" fn dgn_linkage(
     if out.len() < 4 {
         return 1;
     }
-    match reading::linkage_at(file, dim, place, k) {
-        reading::Attribute::At {
+    match points_linkages::linkage_at(file, dim, place, k) {
+        points_linkages::Attribute::At {
             user,
             place: start,
             size,
@@ -31,7 +31,7 @@ pub extern "C" fn dgn_linkage(
             out[3] = id;
             0
         }
-        reading::Attribute::Refused {
+        points_linkages::Attribute::Refused {
             number,
             place: fault,
         } => {

@@ -7,7 +7,7 @@ ghost use lib.ListN.{length};
 ghost use lib.Seq.{sets};
 ghost use Rattle.names.specs.Names.{packed, unpacked};
 ghost use Rattle.answers.specs.Answers.{Replied};
-ghost use Rattle.dgn_names.specs.Answers.{packReply, unpackReply};
+ghost use Rattle.dgn_names.specs.PackUnpack.{packReply, unpackReply};
 
 #[no_mangle]
 pub extern "C" fn dgn_pack(text: &[u8], out: &mut [usize]) -> usize

@@ -15,19 +15,19 @@ use Rattle.elements.specs.Rules.{headOf, countOk}
 use Rattle.elements.specs.declared.Head.{Head}
 use Rattle.elements.specs.declared.Head.the-variants.{Bad, Plain, Complex}
 use Rattle.elements.proofs.Laws.{head-means, fault-none, element-within, header-within}
-use Rattle.ends.specs.Ends.{stopOf}
+use Rattle.files.specs.Ends.{stopOf}
 use Rattle.files.specs.Judge.{addTo, andThen, enclose, elementBy, listBy, elementFrom, listFrom, topOf, answer, judgeOf}
 use Rattle.limits.specs.Limits.{callOk}
-use Rattle.ends.specs.declared.Stop.{Stop}
-use Rattle.ends.specs.declared.Stop.the-variants.{More, Done, Lacking}
+use Rattle.files.specs.declared.Stop.{Stop}
+use Rattle.files.specs.declared.Stop.the-variants.{More, Done, Lacking}
 use Rattle.files.specs.declared.Verdict.{Verdict}
 use Rattle.files.specs.declared.Verdict.the-variants.{Good, Fault}
 use Rattle.files.specs.declared.Judged.{Judged}
 use Rattle.files.specs.declared.Judged.the-variants as judged
 use Rattle.files.specs.Spots.{Spot, spotsOf, spotIn}
 use Rattle.places.specs.Places.{spottedBy, spottedAt}
-use Rattle.reading.specs.Points.{pointCount, pointBy, pointOf}
-use Rattle.reading.specs.declared.Point.the-variants as points
+use Rattle.points_linkages.specs.Points.{pointCount, pointBy, pointOf}
+use Rattle.points_linkages.specs.declared.Point.the-variants as points
 
 -- the place of a verdict is at most b
 abbrev By : ℕ → Verdict → Type 0

@@ -1,9 +1,9 @@
 // The C interface of a place, as in include/dgn.h: an element's extent and its points. No logic: each contract is the
 // library's own equation, put into numbers by specs/Answers.
-ghost use Rattle.extents.specs.Extents.{extentAnswer};
-ghost use Rattle.reading.specs.Points.{pointOf};
+ghost use Rattle.places.specs.Extents.{extentAnswer};
+ghost use Rattle.points_linkages.specs.Points.{pointOf};
 ghost use Rattle.answers.specs.Answers.{Replied};
-ghost use Rattle.dgn_places.specs.Answers.{extentReply, pointReply};
+ghost use Rattle.dgn_places.specs.ExtentPoint.{extentReply, pointReply};
 
 #[no_mangle]
 pub extern "C" fn dgn_extent(file: &[u8], dim: usize, place: usize, out: &mut [usize]) -> usize
@@ -12,13 +12,13 @@ pub extern "C" fn dgn_extent(file: &[u8], dim: usize, place: usize, out: &mut [u
     if out.len() < 2 {
         return 1;
     }
-    match extents::extent_answer(file, dim, place) {
-        extents::Extent::At { start, end } => {
+    match places::extent_answer(file, dim, place) {
+        places::Extent::At { start, end } => {
             out[0] = start;
             out[1] = end;
             0
         }
-        extents::Extent::Refused {
+        places::Extent::Refused {
             number,
             place: fault,
         } => {
@@ -41,20 +41,20 @@ pub extern "C" fn dgn_point(
     if out.len() < 3 {
         return 1;
     }
-    match reading::point_at(file, dim, place, k) {
-        reading::Point::Flat { x, y } => {
+    match points_linkages::point_at(file, dim, place, k) {
+        points_linkages::Point::Flat { x, y } => {
             out[0] = x;
             out[1] = y;
             out[2] = 0;
             0
         }
-        reading::Point::Solid { x, y, z } => {
+        points_linkages::Point::Solid { x, y, z } => {
             out[0] = x;
             out[1] = y;
             out[2] = z;
             0
         }
-        reading::Point::Refused {
+        points_linkages::Point::Refused {
             number,
             place: fault,
         } => {

@@ -7,7 +7,7 @@ use lib.Dec.{eqb}
 use borrow.Author.Tests.{le-leb, lt-leb}
 use Rattle.edits.specs.declared.Edited.{Edited}
 use Rattle.edits.specs.Calls.{Session, Call, mark-call, Result}
-use Rattle.steps.specs.Steps.{Stepped}
+use Rattle.opening.specs.Steps.{Stepped}
 use Rattle.answers.specs.Answers.{Replied}
 use Rattle.edit_answers.specs.Editing.{editReply, Left, StepLeft, MarkLeft}
 use Rattle.answers.proofs.Laws.{too-short, answered}

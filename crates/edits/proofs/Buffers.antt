@@ -2,17 +2,18 @@
 -- both. The bytes past the used part never matter.
 use Prim.Native.Nat.{ℕ, _+_, _-_, _*_, _%_, _≤_, max}
 use mathlib.Core.Path.{_≡_, refl, sym, ap, _∙_}
-use mathlib.Core.Bool.{true, _&&_, and-eq-true-iff}
+use mathlib.Core.Bool.{true}
 use mathlib.Core.List.{List, [], _∷_, _++_, append-assoc}
 use native.Mathlib.Omega.{arith}
 use lib.ListN.{length, take, drop, replicate, length-append, length-drop, length-replicate}
 use lib.Seq.{take-at, take-take, length-take-le, getD-append-seam}
-use lib.Dec.{eqb, leb}
-use borrow.Author.Tests.{le-leb, eq-eqb, leb-true, eqb-true}
+use lib.Dec.{leb}
+use borrow.Author.Tests.{le-leb, eq-eqb}
 use Rattle.words.specs.Words.{words, bytes, Below, over}
-use Rattle.words.proofs.Laws.{words-bytes, words-append, words-take, words-same, length-words, length-bytes}
+use Rattle.words.proofs.Laws.{words-bytes, bytes-words, words-append, words-take, length-bytes}
 use Rattle.limits.specs.Limits.{sizeOk, usedOk}
 use Rattle.edits.specs.Calls.{usedWords, endsInMarker, stored, pushed}
+use Rattle.edits.proofs.Tested.{used-parts, used-twice}
 use Rattle.edits.proofs.Bounds.{below-append, below-take, below-drop, below-zeros, bytes-below}
 
 -- a buffer of `size` bytes whose n used bytes hold the words ws
@@ -26,13 +27,8 @@ pub record Holds (size : ℕ) (s : List ℕ) (n : ℕ) (ws : List ℕ) : Type 0 
 -- a buffer with a good used length holds its used words
 pub used-holds : (s : List ℕ) (n : ℕ) → Below 256 s → usedOk (length s) n ≡ true → Holds (length s) s n (usedWords s n)
 used-holds s n b e =
-    let p = and-eq-true-iff (sizeOk (length s)) (eqb (n % 2) 0 && leb n (length s)) .0 e in
-    let q = and-eq-true-iff (eqb (n % 2) 0) (leb n (length s)) .0 (p .1) in
-    let even = eqb-true (n % 2) 0 (q .0) in
-    let within = leb-true n (length s) (q .1) in
-    let l = length-words (take n s) in
-    let t = length-take-le n s within in
-    record { whole = refl; bytes = b; used = omega arith; within = within; words = refl }
+    let u = used-parts (length s) n e in
+    record { whole = refl; bytes = b; used = used-twice s n u; within = u .within; words = refl }
 
 module _ {size : ℕ} {s : List ℕ} {n : ℕ} {ws : List ℕ} (H : Holds size s n ws) where
   -- its used length is good wherever its own length is
@@ -101,15 +97,17 @@ holds-front size s n ws x H =
           ∙ ap (take (length ws)) all ∙ take-at ws x (length ws) refl;
     }
 
+-- a buffer's used bytes are those of the words that it holds
+pub holds-bytes : (size : ℕ) (s : List ℕ) (n : ℕ) (ws : List ℕ) → Holds size s n ws → take n s ≡ bytes ws
+holds-bytes size s n ws H =
+    let a = H .whole in
+    let w = H .within in
+    sym (bytes-words (take n s) (length ws) (length-take-le n s (omega arith) ∙ H .used) (below-take 256 n s (omega arith) (H .bytes)))
+    ∙ ap bytes (H .words)
+
 -- two buffers that hold the same words have the same used bytes
 pub holds-same : (size size′ : ℕ) (s t : List ℕ) (n m : ℕ) (ws : List ℕ) → Holds size s n ws → Holds size′ t m ws → take n s ≡ take m t
-holds-same size size′ s t n m ws H K =
-    let a = H .whole in
-    let b = K .whole in
-    let w = H .within in
-    let v = K .within in
-    words-same (take n s) (take m t) (length ws) (length-take-le n s (omega arith) ∙ H .used) (length-take-le m t (omega arith) ∙ K .used)
-    (below-take 256 n s (omega arith) (H .bytes)) (below-take 256 m t (omega arith) (K .bytes)) (H .words ∙ sym (K .words))
+holds-same size size′ s t n m ws H K = holds-bytes size s n ws H ∙ sym (holds-bytes size′ t m ws K)
 
 -- words with the marker behind them end in it
 pub marker-ends : (f : List ℕ) → endsInMarker (f ++ (65535 ∷ [])) ≡ true

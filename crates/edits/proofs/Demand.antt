@@ -9,24 +9,25 @@ use lib.ListN.{length, take}
 use lib.Seq.{length-take-le}
 use lib.Dec.{eqb, leb}
 use borrow.Author.Tests.{le-leb, leb-true, eq-eqb, eqb-true}
-use Rattle.words.specs.Words.{Below}
+use Rattle.words.specs.Words.{bytes, Below}
 use Rattle.words.proofs.Laws.{words-below}
-use Rattle.limits.specs.Limits.{dimOk, sizeOk, usedOk, callOk}
+use Rattle.limits.specs.Limits.{callOk}
 use Rattle.files.specs.Judge.{topOf, judgeOf}
 use Rattle.files.specs.declared.Verdict.{Verdict}
 use Rattle.files.specs.declared.Verdict.the-variants.{Good, Fault}
 use Rattle.edits.specs.Edits.{Edit}
 use Rattle.edits.specs.Allowed.{fine, unless}
-use Rattle.edits.specs.Calls.{Session, Call, usedWords, endsInMarker, sessionOk, fileFault, sessionFault}
+use Rattle.edits.specs.Calls.{Session, Call, usedWords, wordsOf, endsInMarker, sessionOk, fileFault, sessionFault}
 use Rattle.edits.specs.Book.{Run, ran, applied, undos}
 use Rattle.edits.specs.Demand.{OpenedEmpty, PiecesBytes, runOf, usedBytes, AcceptedFile, Demand3, EveryRun}
 use Rattle.edits.proofs.Accepted.{Accepted}
 use Rattle.edits.proofs.Bounds.{below-take}
-use Rattle.edits.proofs.Buffers.{Holds, used-holds, holds-same}
+use Rattle.edits.proofs.Buffers.{Holds, used-holds, holds-bytes, holds-same}
 use Rattle.edits.proofs.Replay.{no-edit, replay-applied, replay-empty}
 use Rattle.edits.proofs.Hypotheses.{Hypotheses}
 use Rattle.edits.proofs.Faults.{orElse-fine, unless-fine}
-use Rattle.edits.proofs.Steps.{Begun, Kept, KeptRun, original, limit, accepted-at, kept-ready}
+use Rattle.edits.proofs.Tested.{used-parts, ready-tested}
+use Rattle.edits.proofs.Steps.{Begun, Kept, KeptRun, limit, accepted-at, kept-ready}
 use Rattle.edits.proofs.Undos.{kept-run, undos-bytes, undo-refused, undo-nothing, undos-clear}
 
 ---- a run's start
@@ -46,26 +47,24 @@ file-tree dim hyp ws b ends = go (topOf dim ws) refl
     go (Fault n p) q f = let z : _≡_ {A = ℕ} 0 1 = cc in absurd (omega arith)
 
 begin : (dim : ℕ) → Hypotheses dim → (s : Session) → OpenedEmpty dim s → Begun dim s
-unfolding sessionFault sessionOk
+unfolding sessionFault
 begin dim hyp s O =
-    let u = usedWords (s .file) (s .used) in
+    let u = wordsOf s in
     let two = orElse-fine (unless (sessionOk dim s) 1) (fileFault (topOf dim u) (length u - 1)) (O .ready) in
-    let p = and-eq-true-iff (dimOk dim) _ .0 (unless-fine (sessionOk dim s) 1 (two .0)) in
-    let q = and-eq-true-iff (usedOk (length (s .file)) (s .used)) _ .0 (p .1) in
-    let r = and-eq-true-iff (usedOk (length (s .journal)) (s .jused)) (endsInMarker u) .0 (q .1) in
+    let t = ready-tested dim s (O .ready) in
     let none = O .journal-empty in
     record {
-      dimension = p .0;
-      file-ok = and-eq-true-iff (sizeOk (length (s .file))) _ .0 (q .0) .0;
-      journal-ok = and-eq-true-iff (sizeOk (length (s .journal))) _ .0 (r .0) .0;
-      file = used-holds (s .file) (s .used) (O .file-bytes) (q .0);
+      dimension = t .dimension;
+      file-ok = used-parts (length (s .file)) (s .used) (t .file) .size-ok;
+      journal-ok = used-parts (length (s .journal)) (s .jused) (t .journal) .size-ok;
+      file = used-holds (s .file) (s .used) (O .file-bytes) (t .file);
       journal = record { whole = refl; bytes = O .journal-bytes; used = none; within = omega arith; words = ap (usedWords (s .journal)) none };
-      tree = file-tree dim hyp u (words-below (take (s .used) (s .file)) (below-take 256 (s .used) (s .file) (omega arith) (O .file-bytes))) (r .1) (two .1);
+      tree = file-tree dim hyp u (words-below (take (s .used) (s .file)) (below-take 256 (s .used) (s .file) (omega arith) (O .file-bytes))) (t .ends) (two .1);
     }
 
 module _ (dim : ℕ) (hyp : Hypotheses dim) (s₀ : Session) (B : Begun dim s₀) where
   first : KeptRun dim s₀ (record { session = s₀; book = [] })
-  first = record { ws = original s₀; js = []; replay = no-edit; file = B .file; journal = B .journal }
+  first = record { ws = wordsOf s₀; js = []; replay = no-edit; file = B .file; journal = B .journal }
 
   ---- what a run keeps, read off
 
@@ -94,14 +93,14 @@ module _ (dim : ℕ) (hyp : Hypotheses dim) (s₀ : Session) (B : Begun dim s₀
   -- with an empty list the used bytes are the original's
   kept-back : (s : Session) (es : List Edit) → es ≡ [] → Kept dim s₀ s es → Back s
   kept-back s es e K =
-      let same : K .ws ≡ original s₀ =
-      replay-applied dim (original s₀) (length (s₀ .file)) es (K .ws) (K .js) (K .replay) ∙ ap (applied dim (original s₀)) e in
-      let empty : K .js ≡ [] = replay-empty dim (original s₀) (length (s₀ .file)) es (K .ws) (K .js) (K .replay) e in
-      let H : Holds (length (s₀ .file)) (s .file) (s .used) (original s₀) = subst (Holds (length (s₀ .file)) (s .file) (s .used)) same (K .file) in
+      let same : K .ws ≡ wordsOf s₀ =
+      replay-applied dim (wordsOf s₀) (length (s₀ .file)) es (K .ws) (K .js) (K .replay) ∙ ap (applied dim (wordsOf s₀)) e in
+      let empty : K .js ≡ [] = replay-empty dim (wordsOf s₀) (length (s₀ .file)) es (K .ws) (K .js) (K .replay) e in
+      let H : Holds (length (s₀ .file)) (s .file) (s .used) (wordsOf s₀) = subst (Holds (length (s₀ .file)) (s .file) (s .used)) same (K .file) in
       record {
         journal = K .journal .used ∙ ap (λ l. 2 * length l) empty;
         used = H .used ∙ sym (B .file .used);
-        bytes = holds-same (length (s₀ .file)) (length (s₀ .file)) (s .file) (s₀ .file) (s .used) (s₀ .used) (original s₀) H (B .file);
+        bytes = holds-same (length (s₀ .file)) (length (s₀ .file)) (s .file) (s₀ .file) (s .used) (s₀ .used) (wordsOf s₀) H (B .file);
       }
 
   after-run : (r : Run) → KeptRun dim s₀ r → Demand3 dim s₀ r
@@ -111,12 +110,14 @@ module _ (dim : ℕ) (hyp : Hypotheses dim) (s₀ : Session) (B : Begun dim s₀
       let clear = undos-clear dim hyp s₀ B (length es) s es refl K in
       let z = ran dim r (undos es) in
       let back = kept-back (z .session) (z .book) (clear .1) (kept-run dim hyp s₀ B (undos es) r (undos-bytes es) K) in
+      let same = replay-applied dim (wordsOf s₀) (length (s₀ .file)) es (K .ws) (K .js) (K .replay) in
       record {
         accepted = kept-judged s es K;
         ready = kept-ready dim hyp s₀ B s es K;
         file-length = K .file .whole;
         journal-length = K .journal .whole;
-        equals = K .file .words ∙ replay-applied dim (original s₀) (length (s₀ .file)) es (K .ws) (K .js) (K .replay);
+        equals = K .file .words ∙ same;
+        equals-bytes = holds-bytes (length (s₀ .file)) (s .file) (s .used) (K .ws) (K .file) ∙ ap bytes same;
         undo-refused = undo-refused dim hyp s₀ B s es K;
         undo-nothing = undo-nothing dim hyp s₀ B s es K;
         undos-made = clear .0;

@@ -17,7 +17,7 @@ use Rattle.headers.specs.Header.{typeAt, pointsAt}
 use Rattle.kinds.specs.Kinds.{isHeader, isCounted, isPointed, isLinked, isCell, nameWord, fixedPart}
 use Rattle.headers.proofs.Laws.{own-first, own-second}
 use Rattle.elements.specs.Rules.{storedNameOk, countOk}
-use Rattle.grammar.specs.Grammar.{Own, Extent}
+use Rattle.grammar.proofs.Tests.{OwnTests, Extent}
 use Rattle.kinds.proofs.Types.{linked-long, each-named, name-late}
 use Rattle.grammar.proofs.Types.{cell-long}
 use Rattle.edits.specs.Edits.{flagged}
@@ -88,7 +88,7 @@ marked-back d own h l e =
 pub type-marked : (d : Bool) (own : List ℕ) → 2 ≤ length own → typeAt (marked d own) 0 ≡ typeAt own 0
 type-marked d own h = ap typeOf (marked-first d own h) ∙ type-flagged d (wordAt own 0)
 
-pub own-marked : {dim depth under inside k : ℕ} {own : List ℕ} (d : Bool) → Own dim depth under own inside k → Own dim depth under (marked d own) inside k
+pub own-marked : {dim depth under inside k : ℕ} {own : List ℕ} (d : Bool) → OwnTests dim depth under own inside k → OwnTests dim depth under (marked d own) inside k
 unfolding storedNameOk countOk
 own-marked {dim} {inside = inside} {k} {own} d o =
     own-alike alike inside k o (extent-alike inside k alike (marked-other d own 18 (omega arith)) (o .extent)) (named (o .name)) (counted (o .count))
@@ -148,7 +148,7 @@ named-back a b own =
 cell-types : (own : List ℕ) → isCell (typeAt own 0) ≡ true → (typeAt own 0 ≡ 1) ⊎ (typeAt own 0 ≡ 2)
 cell-types own e = each-named (λ k. (k ≡ 1) ⊎ (k ≡ 2)) (1 ∷ 2 ∷ []) (typeAt own 0) (inl refl, (inr refl, tt)) e
 
-module _ {dim depth under inside k : ℕ} {own : List ℕ} (o : Own dim depth under own inside k) where
+module _ {dim depth under inside k : ℕ} {own : List ℕ} (o : OwnTests dim depth under own inside k) where
   pub cell-words : isCell (typeAt own 0) ≡ true → 21 ≤ length own
   cell-words e = let l = cell-long dim (typeAt own 0) (pointsAt own 0) e in let f = own-fixed o in omega arith
 
@@ -176,14 +176,14 @@ module _ {dim depth under inside k : ℕ} {own : List ℕ} (o : Own dim depth un
 
   -- the store at the place of the type's name
   own-two-named : (i a b : ℕ) → Alike dim own (set2 own i a b) → wordAt (set2 own i a b) 18 ≡ wordAt own 18 → isCounted (typeAt own 0) ≡ false →
-      storedNameOk (set2 own i a b) 0 ≡ true → Own dim depth under (set2 own i a b) inside k
+      storedNameOk (set2 own i a b) 0 ≡ true → OwnTests dim depth under (set2 own i a b) inside k
   unfolding countOk
   own-two-named i a b l t c n = own-alike l inside k o (extent-alike inside k l t (o .extent)) n counted
     where
       counted : countOk (set2 own i a b) 0 k ≡ true
       counted = rw (l .type, c) refl
 
-  named-one : (a b : ℕ) → typeAt own 0 ≡ 1 → nameOk a b ≡ true → Own dim depth under (set2 own 16 a b) inside k
+  named-one : (a b : ℕ) → typeAt own 0 ≡ 1 → nameOk a b ≡ true → OwnTests dim depth under (set2 own 16 a b) inside k
   unfolding storedNameOk
   named-one a b t n =
       let l : Alike dim own (set2 own 16 a b) = alike-two 16 a b (omega arith) (rw t refl) (λ e. absurd (false≢true (rw t at e))) in
@@ -197,7 +197,7 @@ module _ {dim depth under inside k : ℕ} {own : List ℕ} (o : Own dim depth un
           let x = long in
           rw (l .type, t, set2-first own 16 a b (omega arith), set2-second own 16 a b (omega arith), n) refl
 
-  named-two : (a b : ℕ) → typeAt own 0 ≡ 2 → nameOk a b ≡ true → Own dim depth under (set2 own 19 a b) inside k
+  named-two : (a b : ℕ) → typeAt own 0 ≡ 2 → nameOk a b ≡ true → OwnTests dim depth under (set2 own 19 a b) inside k
   unfolding storedNameOk
   named-two a b t n =
       let l : Alike dim own (set2 own 19 a b) = alike-two 19 a b (omega arith) (rw t refl) (λ _. (omega arith, far)) in
@@ -212,10 +212,10 @@ module _ {dim depth under inside k : ℕ} {own : List ℕ} (o : Own dim depth un
           let x = far in
           rw (l .type, t, set2-first own 19 a b (omega arith), set2-second own 19 a b (omega arith), n) refl
 
-  pub own-named : (a b : ℕ) → isCell (typeAt own 0) ≡ true → nameOk a b ≡ true → Own dim depth under (named a b own) inside k
+  pub own-named : (a b : ℕ) → isCell (typeAt own 0) ≡ true → nameOk a b ≡ true → OwnTests dim depth under (named a b own) inside k
   own-named a b e n = go (cell-types own e)
     where
-      go : (typeAt own 0 ≡ 1) ⊎ (typeAt own 0 ≡ 2) → Own dim depth under (named a b own) inside k
+      go : (typeAt own 0 ≡ 1) ⊎ (typeAt own 0 ≡ 2) → OwnTests dim depth under (named a b own) inside k
       go (inl t) = let i : nameIn own ≡ 16 = rw t refl in rw i (named-one a b t n)
       go (inr t) = let i : nameIn own ≡ 19 = rw t refl in rw i (named-two a b t n)
 

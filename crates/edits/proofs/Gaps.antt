@@ -17,7 +17,7 @@ use Rattle.files.specs.Spots.{Spot, spotIn}
 use Rattle.grammar.proofs.Forest.{Forest, nil, node, flat, weight, Wf, spots, own-stands}
 use Rattle.grammar.proofs.Stands.{Stands, stands-first, stands-append}
 use Rattle.edits.specs.Edits.{around, downTo}
-use Rattle.edits.specs.Allowed.{isSome, startsAt, sameHeader, under?, endsAt, gapOk, depthUnder, typeUnder}
+use Rattle.edits.specs.Allowed.{isSome, startsAt, sameHeader, isUnder, endsAt, gapOk, depthUnder, typeUnder}
 use Rattle.edits.proofs.Tests.{both-and, or-either, or-left, or-right}
 use Rattle.grammar.proofs.Rules.{own-two}
 use Rattle.edits.proofs.Ways.{Way, into, plug, direct, front, heads, headerOf, typeOver, depthOf, Heads, flat-plug, elem-of, heads-of}
@@ -42,7 +42,7 @@ pub starts : (s : Option Spot) → isSome s ≡ true → (x : Spot) × (s ≡ so
 starts none e = absurd (false≢true e)
 starts (some x) e = (x, refl)
 
-pub under-starts : (s : Option Spot) (h : Option ℕ) → under? s h ≡ true → (x : Spot) × (s ≡ some x) × (x .header ≡ h)
+pub under-starts : (s : Option Spot) (h : Option ℕ) → isUnder s h ≡ true → (x : Spot) × (s ≡ some x) × (x .header ≡ h)
 under-starts none h e = absurd (false≢true e)
 under-starts (some x) h e = (x, refl, same-header (x .header) h e)
 
@@ -75,7 +75,7 @@ pub record Gap (f : Forest) (h : Option ℕ) (p : ℕ) : Type 0 where
 
 module _ (dim : ℕ) (f : Forest) (x : Wf dim 0 0 f) (ws : List ℕ) (ew : ws ≡ flat f ++ (65535 ∷ [])) where
   -- before an element
-  gap-before : (h : Option ℕ) (p : ℕ) → under? (spotIn (spots 0 none 0 f) p) h ≡ true → Gap f h p
+  gap-before : (h : Option ℕ) (p : ℕ) → isUnder (spotIn (spots 0 none 0 f) p) h ≡ true → Gap f h p
   gap-before h p e =
       let u = under-starts (spotIn (spots 0 none 0 f) p) h e in
       let g = found-in 0 none 0 f p (u .0) (u .1) in
@@ -138,18 +138,18 @@ module _ (dim : ℕ) (f : Forest) (x : Wf dim 0 0 f) (ws : List ℕ) (ew : ws �
 
   pub gap-found : (h : Option ℕ) (p : ℕ) → gapOk (spots 0 none 0 f) ws h p ≡ true → Gap f h p
   unfolding gapOk
-  gap-found none p e = go (or-either (under? (spotIn (spots 0 none 0 f) p) none) (eqb p (length ws - 1)) e)
+  gap-found none p e = go (or-either (isUnder (spotIn (spots 0 none 0 f) p) none) (eqb p (length ws - 1)) e)
     where
-      go : (under? (spotIn (spots 0 none 0 f) p) none ≡ true) ⊎ (eqb p (length ws - 1) ≡ true) → Gap f none p
+      go : (isUnder (spotIn (spots 0 none 0 f) p) none ≡ true) ⊎ (eqb p (length ws - 1) ≡ true) → Gap f none p
       go (inl u) = gap-before none p u
       go (inr u) = gap-marker p (eqb-true p (length ws - 1) u)
   gap-found (some h) p e =
       let xs = spots 0 none 0 f in
-      let a = and-eq-true-iff (startsAt xs h) (isHeader (typeAt ws h) && (under? (spotIn xs p) (some h) || endsAt (spotIn xs h) p)) .0 e in
-      let b = and-eq-true-iff (isHeader (typeAt ws h)) (under? (spotIn xs p) (some h) || endsAt (spotIn xs h) p) .0 (a .1) in
-      go (b .0) (or-either (under? (spotIn xs p) (some h)) (endsAt (spotIn xs h) p) (b .1))
+      let a = and-eq-true-iff (startsAt xs h) (isHeader (typeAt ws h) && (isUnder (spotIn xs p) (some h) || endsAt (spotIn xs h) p)) .0 e in
+      let b = and-eq-true-iff (isHeader (typeAt ws h)) (isUnder (spotIn xs p) (some h) || endsAt (spotIn xs h) p) .0 (a .1) in
+      go (b .0) (or-either (isUnder (spotIn xs p) (some h)) (endsAt (spotIn xs h) p) (b .1))
     where
-      go : isHeader (typeAt ws h) ≡ true → (under? (spotIn (spots 0 none 0 f) p) (some h) ≡ true) ⊎ (endsAt (spotIn (spots 0 none 0 f) h) p ≡ true) → Gap f (some h) p
+      go : isHeader (typeAt ws h) ≡ true → (isUnder (spotIn (spots 0 none 0 f) p) (some h) ≡ true) ⊎ (endsAt (spotIn (spots 0 none 0 f) h) p ≡ true) → Gap f (some h) p
       go i (inl u) = gap-before (some h) p u
       go i (inr u) = gap-end h p i u
 
@@ -164,7 +164,7 @@ pub record Above (w : Way) (f : Forest) (ws : List ℕ) : Type 0 where
 
 -- before an element, its own header is the one named
 gap-first : (dim : ℕ) (w : Way) (own : List ℕ) (k r : Forest) → Wf dim 0 0 (plug w (node own k r)) →
-    under? (spotIn (spots 0 none 0 (plug w (node own k r))) (length (front w))) (headerOf none 0 w) ≡ true
+    isUnder (spotIn (spots 0 none 0 (plug w (node own k r))) (length (front w))) (headerOf none 0 w) ≡ true
 gap-first dim w own k r x = rw (spot-way dim own k r 0 0 none w x 0 (length (front w)) (omega arith)) (header-same (headerOf none 0 w))
 
 -- within the top list
@@ -180,14 +180,14 @@ above-top dim w f ws x ew d =
     }
   where
     go : (f : Forest) → Wf dim 0 0 (plug w f) → ws ≡ flat (plug w f) ++ (65535 ∷ []) →
-        (under? (spotIn (spots 0 none 0 (plug w f)) (length (front w))) none || eqb (length (front w)) (length ws - 1)) ≡ true
+        (isUnder (spotIn (spots 0 none 0 (plug w f)) (length (front w))) none || eqb (length (front w)) (length ws - 1)) ≡ true
     go nil x ew =
         let l = file-long (plug w nil) ws ew in
         let n : length (flat (plug w nil)) ≡ length (front w) = ap length (flat-plug w nil ∙ ap (λ e. front w ++ e) (direct-rear w d) ∙ append-nil (front w)) in
-        or-right (under? (spotIn (spots 0 none 0 (plug w nil)) (length (front w))) none) (eq-eqb (length (front w)) (length ws - 1) (omega arith))
+        or-right (isUnder (spotIn (spots 0 none 0 (plug w nil)) (length (front w))) none) (eq-eqb (length (front w)) (length ws - 1) (omega arith))
     go (node own k r) x ew =
         or-left (eqb (length (front w)) (length ws - 1))
-        (subst (λ h. under? (spotIn (spots 0 none 0 (plug w (node own k r))) (length (front w))) h ≡ true) (direct-header none 0 w d) (gap-first dim w own k r x))
+        (subst (λ h. isUnder (spotIn (spots 0 none 0 (plug w (node own k r))) (length (front w))) h ≡ true) (direct-header none 0 w d) (gap-first dim w own k r x))
 
 -- under the last header that the way goes into
 module _ (dim : ℕ) (o : Way) (own : List ℕ) (r : Forest) (u : Way) (d : direct u ≡ true) (f : Forest) (ws : List ℕ)
@@ -226,16 +226,16 @@ module _ (dim : ℕ) (o : Way) (own : List ℕ) (r : Forest) (u : Way) (d : dire
     where
       go : (f : Forest) → Wf dim 0 0 (plug (then o (into own r u)) f) →
           spotIn (spots 0 none 0 (plug (then o (into own r u)) f)) (length (front o)) ≡ some (spotOf (length (front o)) (weight own (plug u f)) (depthOf 0 o) (headerOf none 0 o)) →
-          (under? (spotIn (spots 0 none 0 (plug (then o (into own r u)) f)) (length (front (then o (into own r u))))) (some (length (front o)))
+          (isUnder (spotIn (spots 0 none 0 (plug (then o (into own r u)) f)) (length (front (then o (into own r u))))) (some (length (front o)))
           || endsAt (spotIn (spots 0 none 0 (plug (then o (into own r u)) f)) (length (front o))) (length (front (then o (into own r u))))) ≡ true
       go nil x s =
           let n : length (flat (plug u nil)) ≡ length (front u) = ap length (flat-plug u nil ∙ ap (λ e. front u ++ e) (direct-rear u d) ∙ append-nil (front u)) in
           let l : length (front (then o (into own r u))) ≡ length (front o) + (length own + length (front u)) = ap length (front-then o (into own r u)) ∙ simp length-append refl in
-          or-right (under? (spotIn (spots 0 none 0 (plug (then o (into own r u)) nil)) (length (front (then o (into own r u))))) (some (length (front o))))
+          or-right (isUnder (spotIn (spots 0 none 0 (plug (then o (into own r u)) nil)) (length (front (then o (into own r u))))) (some (length (front o))))
           (rw s (eq-eqb (length (front o) + weight own (plug u nil)) (length (front (then o (into own r u)))) (omega arith)))
       go (node own₁ k₁ r₁) x s =
           or-left (endsAt (spotIn (spots 0 none 0 (plug (then o (into own r u)) (node own₁ k₁ r₁))) (length (front o))) (length (front (then o (into own r u)))))
-          (subst (λ h. under? (spotIn (spots 0 none 0 (plug (then o (into own r u)) (node own₁ k₁ r₁))) (length (front (then o (into own r u))))) h ≡ true) last-header
+          (subst (λ h. isUnder (spotIn (spots 0 none 0 (plug (then o (into own r u)) (node own₁ k₁ r₁))) (length (front (then o (into own r u))))) h ≡ true) last-header
           (gap-first dim (then o (into own r u)) own₁ k₁ r₁ x))
 
   above-last : Above (then o (into own r u)) f ws

@@ -17,7 +17,7 @@ use Rattle.headers.specs.Header.{typeAt, pointsAt, countAt}
 use Rattle.kinds.specs.Kinds.{isHeader, isCounted, isCell, nameWord}
 use Rattle.headers.proofs.Laws.{own-first, own-second}
 use Rattle.elements.specs.Rules.{storedNameOk, countOk}
-use Rattle.grammar.specs.Grammar.{Own, Extent}
+use Rattle.grammar.proofs.Tests.{OwnTests, Extent}
 use Rattle.kinds.proofs.Types.{header-long, header-pointless, each-named}
 use Rattle.edits.specs.Edits.{moved, countMoved, corrected}
 use Rattle.edits.proofs.Tests.{both-and, rule-of, of-rule}
@@ -126,11 +126,11 @@ cell-uncounted : (direct : Bool) (t : ℕ) → t ≡ 2 → (direct && isCounted 
 cell-uncounted true t e = rw e refl
 cell-uncounted false t e = refl
 
-pub header-twenty : {dim depth under inside k : ℕ} {own : List ℕ} → Own dim depth under own inside k → isHeader (typeAt own 0) ≡ true → 20 ≤ length own
+pub header-twenty : {dim depth under inside k : ℕ} {own : List ℕ} → OwnTests dim depth under own inside k → isHeader (typeAt own 0) ≡ true → 20 ≤ length own
 header-twenty {dim} {own = own} o h = let a = own-fixed o in let b = header-long dim (typeAt own 0) (pointsAt own 0) h in omega arith
 
 -- a header's extent
-pub header-extent : {dim depth under inside k : ℕ} {own : List ℕ} → Own dim depth under own inside k → isHeader (typeAt own 0) ≡ true → Extent true own inside k
+pub header-extent : {dim depth under inside k : ℕ} {own : List ℕ} → OwnTests dim depth under own inside k → isHeader (typeAt own 0) ≡ true → Extent true own inside k
 header-extent {inside = inside} {k} {own} o h = subst (λ b. Extent b own inside k) h (o .extent)
 
 ---- the header's own words again
@@ -153,7 +153,7 @@ name-grown up n direct own e = rw (own-first (grown up n direct own), own-second
         let k = kept (typeAt own 0) refl c in
         rw (k .0, k .1) (rule-of (isCell (typeAt own 0)) (nameOk (wordAt own (nameWord (typeAt own 0))) (wordAt own (nameWord (typeAt own 0) + 1))) (rw (own-first own, own-second own) at e) c)
 
-module _ {dim depth under inside k : ℕ} {own : List ℕ} (o : Own dim depth under own inside k) (h : isHeader (typeAt own 0) ≡ true) where
+module _ {dim depth under inside k : ℕ} {own : List ℕ} (o : OwnTests dim depth under own inside k) (h : isHeader (typeAt own 0) ≡ true) where
   alike-grown : (up : Bool) (n : ℕ) (direct : Bool) → Alike dim own (grown up n direct own)
   alike-grown up n direct =
       let first = grown-other up n direct own 0 (omega arith) (omega arith) in
@@ -175,7 +175,7 @@ module _ {dim depth under inside k : ℕ} {own : List ℕ} (o : Own dim depth un
   header-count e = eqb-true (wordAt own 19) k (rule-of (isCounted (typeAt own 0)) (eqb (countAt own 0) k) (o .count) e)
 
   own-grown : (up : Bool) (n : ℕ) (direct : Bool) (inside′ k′ : ℕ) → 19 + moved up n (wordAt own 18) ≡ length own + inside′ → length own + inside′ ≤ 65535 →
-      (direct ≡ true → isCounted (typeAt own 0) ≡ true → k′ ≡ moved up 1 k) → (direct ≡ false → k′ ≡ k) → Own dim depth under (grown up n direct own) inside′ k′
+      (direct ≡ true → isCounted (typeAt own 0) ≡ true → k′ ≡ moved up 1 k) → (direct ≡ false → k′ ≡ k) → OwnTests dim depth under (grown up n direct own) inside′ k′
   unfolding countOk
   own-grown up n direct inside′ k′ x y c d =
       own-alike (alike-grown up n direct) inside′ k′ o
@@ -190,7 +190,7 @@ module _ {dim depth under inside k : ℕ} {own : List ℕ} (o : Own dim depth un
           is true e u = count-grown up n direct own (header-twenty o h) (both-and e u) ∙ ap (moved up 1) (header-count u) ∙ sym (c e u)
           is false e u = count-kept up n direct own (rw e refl) ∙ header-count u ∙ sym (d e)
 
-  pub own-up : (n : ℕ) (direct : Bool) → length own + inside + n ≤ 65535 → Own dim depth under (grown true n direct own) (inside + n) (k + one direct)
+  pub own-up : (n : ℕ) (direct : Bool) → length own + inside + n ≤ 65535 → OwnTests dim depth under (grown true n direct own) (inside + n) (k + one direct)
   own-up n direct b =
       let x = header-extent o h .0 in
       own-grown true n direct (inside + n) (k + one direct) (omega arith) (omega arith) (λ e _. rw e refl) (λ e. rw e (omega arith))
@@ -198,8 +198,8 @@ module _ {dim depth under inside k : ℕ} {own : List ℕ} (o : Own dim depth un
   pub up-back : (n : ℕ) (direct : Bool) → grown false n direct (grown true n direct own) ≡ own
   up-back n direct = grown-back true n direct own (header-twenty o h) (omega arith) (λ _. omega arith)
 
-module _ {dim depth under : ℕ} {own : List ℕ} (inside k n : ℕ) (direct : Bool) (o : Own dim depth under own (inside + n) (k + one direct)) (h : isHeader (typeAt own 0) ≡ true) where
-  pub own-down : Own dim depth under (grown false n direct own) inside k
+module _ {dim depth under : ℕ} {own : List ℕ} (inside k n : ℕ) (direct : Bool) (o : OwnTests dim depth under own (inside + n) (k + one direct)) (h : isHeader (typeAt own 0) ≡ true) where
+  pub own-down : OwnTests dim depth under (grown false n direct own) inside k
   own-down =
       let x = header-extent o h in
       let s = x .0 in
@@ -220,7 +220,7 @@ module _ {dim depth under : ℕ} {own : List ℕ} (inside k n : ℕ) (direct : B
 ---- its words fit
 
 pub below-grown : {dim depth under inside k : ℕ} (up : Bool) (n : ℕ) (direct : Bool) (own : List ℕ) → Below 65536 own → isHeader (typeAt own 0) ≡ true →
-    20 ≤ length own → Own dim depth under (grown up n direct own) inside k → k ≤ 65535 → Below 65536 (grown up n direct own)
+    20 ≤ length own → OwnTests dim depth under (grown up n direct own) inside k → k ≤ 65535 → Below 65536 (grown up n direct own)
 below-grown {dim} {depth} {under} {inside} {k} up n direct own b h long o m i = at (eqb i 18) (eqb i 19) (isCounted (typeAt own 0)) refl refl refl
   where
     h′ : isHeader (typeAt (grown up n direct own) 0) ≡ true

@@ -10,7 +10,7 @@ use Rattle.words.specs.Words.{Below}
 use Rattle.files.specs.Spots.{spotsOf, spotIn}
 use Rattle.grammar.proofs.Forest.{Forest, node, flat, weight, Wf, spots}
 use Rattle.edits.specs.Edits.{insert, remove, around, downTo, spotWords, extentIn, raise, splice, cut, apply}
-use Rattle.edits.specs.Allowed.{fine, orElse, unless, under?, gapOk, pieceFault, roomFault, insertFault, removeFault, editFault}
+use Rattle.edits.specs.Allowed.{fine, orElse, unless, isUnder, gapOk, pieceFault, roomFault, insertFault, removeFault, editFault}
 use Rattle.edits.specs.Records.{inserted, recordOf, reversal}
 use Rattle.edits.proofs.Accepted.{Accepted, SmallHeader, Sound}
 use Rattle.edits.proofs.Bounds.{below-append}
@@ -81,7 +81,7 @@ module _ (dim : ℕ) (w : Way) (f : Forest) (own : List ℕ) (k : Forest) (h : O
       let ws′ = flat (plug (lift true (weight own k) w) (node own k f)) ++ marker in
       let ep′ : p ≡ length (front w′) = ep ∙ sym (front-lift true (weight own k) w) in
       let eh′ : headerOf none 0 w′ ≡ h = header-lift true (weight own k) none 0 w ∙ eh in
-      let under : under? (spotIn (spotsOf dim ws′) p) h ≡ true = rw (spot-there dim w′ own k f ws′ refl insert-wf p ep′, eh′) (header-same h) in
+      let under : isUnder (spotIn (spotsOf dim ws′) p) h ≡ true = rw (spot-there dim w′ own k f ws′ refl insert-wf p ep′, eh′) (header-same h) in
       let n = file-long (plug w f) ws ew in
       let q : length (flat (plug w f)) ≡ length (front w) + (length (flat f) + length (rear w)) = rw (flat-plug w f) (simp length-append refl) in
       sound-of dim ws (insert h p (own ++ flat k)) ws′ (inserted h p) (remove p)

@@ -7,18 +7,17 @@ use mathlib.Core.Option.{Option, none, some}
 use native.Mathlib.Omega.{arith}
 use lib.ListN.{length, take, drop, length-append}
 use lib.Seq.{take-at, drop-at, getD-append-add, getD-append-seam}
-use lib.Dec.{eqb}
 use borrow.Author.Tests.{le-leb, ne-eqb}
 use Rattle.words.specs.Words.{Below}
-use Rattle.edits.specs.Records.{Rec, flag, renamed, inserted, removed, long, six, recordWords, placeOf, build, lastRecord}
+use Rattle.edits.specs.Records.{Rec, flag, renamed, inserted, removed, long, six, recordWords, keep, placeOf, kindOf, formed, build, lastRecord}
 use Rattle.edits.proofs.Accepted.{Small, SmallHeader}
 use Rattle.edits.proofs.Bounds.{below-nil, below-cons, below-append}
 
 -- the last six words of a journal, and the payload before them
 six-read : (pre : List ℕ) (k a b c d n : ℕ) → n ≤ length pre
     → lastRecord (pre ++ (k ∷ a ∷ b ∷ c ∷ d ∷ n ∷ []))
-    ≡ build (eqb k 1) (eqb k 2) (eqb k 3) (eqb k 4) (placeOf (65536 * a + b)) (65536 * c + d)
-    (take n (drop (length pre - n) (pre ++ (k ∷ a ∷ b ∷ c ∷ d ∷ n ∷ [])))) (take (length pre - n) (pre ++ (k ∷ a ∷ b ∷ c ∷ d ∷ n ∷ [])))
+    ≡ keep (formed (kindOf k) (placeOf (65536 * a + b)) n) (build (kindOf k) (placeOf (65536 * a + b)) (65536 * c + d)
+    (take n (drop (length pre - n) (pre ++ (k ∷ a ∷ b ∷ c ∷ d ∷ n ∷ [])))) (take (length pre - n) (pre ++ (k ∷ a ∷ b ∷ c ∷ d ∷ n ∷ []))))
 unfolding lastRecord
 six-read pre k a b c d n h =
     let t = k ∷ a ∷ b ∷ c ∷ d ∷ n ∷ [] in
@@ -43,7 +42,7 @@ six-read pre k a b c d n h =
 -- a payload of n words and the six words behind it, after any journal words
 record-read : (js x : List ℕ) (k a b c d n : ℕ) → n ≡ length x
     → lastRecord (js ++ (x ++ (k ∷ a ∷ b ∷ c ∷ d ∷ n ∷ [])))
-    ≡ build (eqb k 1) (eqb k 2) (eqb k 3) (eqb k 4) (placeOf (65536 * a + b)) (65536 * c + d) x js
+    ≡ keep (formed (kindOf k) (placeOf (65536 * a + b)) n) (build (kindOf k) (placeOf (65536 * a + b)) (65536 * c + d) x js)
 record-read js x k a b c d n e =
     let t = k ∷ a ∷ b ∷ c ∷ d ∷ n ∷ [] in
     let l : length (js ++ x) ≡ length js + length x = length-append js x in

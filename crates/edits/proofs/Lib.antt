@@ -2,6 +2,7 @@ pub mod Accepted
 pub mod Tests
 pub mod Bounds
 pub mod Faults
+pub mod Tested
 pub mod OwnLaws
 pub mod Parts
 pub mod Grown
@@ -22,6 +23,9 @@ pub mod Sound
 pub mod Hypotheses
 pub mod Journal
 pub mod Buffers
+pub mod Allowed
+pub mod Causes
+pub mod PlainEdits
 pub mod Refusals
 pub mod Numbers
 pub mod Replay
@@ -29,3 +33,4 @@ pub mod Steps
 pub mod Undos
 pub mod Demand
 pub mod Every
+pub mod Start

@@ -9,7 +9,7 @@ use lib.Dec.{eqb}
 use Rattle.words.specs.Words.{Below, wordAt}
 use Rattle.kinds.specs.FirstWord.{deletedOf}
 use Rattle.files.specs.Spots.{spotsOf}
-use Rattle.grammar.specs.Grammar.{Own}
+use Rattle.grammar.proofs.Tests.{OwnTests}
 use Rattle.grammar.proofs.Forest.{Forest, node, flat, num, Wf}
 use Rattle.edits.specs.Edits.{mark, flagged, apply}
 use Rattle.edits.specs.Allowed.{fine, unless, startsAt, flagDiffers, markFault, editFault}
@@ -38,7 +38,7 @@ module _ (dim : ℕ) (d : Bool) (w : Way) (own : List ℕ) (k r : Forest) (ws : 
   own-below : Below 65536 own
   own-below = below-left own (behind w k r) (below-right (front w) (own ++ behind w k r) (rw (ew ∙ own-words w own k r) at b))
 
-  own-after : Own dim (depthOf 0 w) (typeOver 0 w) (marked d own) (length (flat k)) (num k)
+  own-after : OwnTests dim (depthOf 0 w) (typeOver 0 w) (marked d own) (length (flat k)) (num k)
   own-after = own-marked d (elem-of dim own k r 0 0 w x .0)
 
   mark-wf : Wf dim 0 0 (plug w (node (marked d own) k r))

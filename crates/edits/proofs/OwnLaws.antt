@@ -17,7 +17,7 @@ use Rattle.kinds.specs.Kinds.{isHeader, isPointed, isLinked, fixedPart}
 use Rattle.elements.specs.Attributes.{hasAttributes, attributesOk, linkagesOk}
 use Rattle.headers.specs.Flags.{reservedOk, placeOk}
 use Rattle.elements.specs.Rules.{pointsOk, fixedOk, storedNameOk, countOk}
-use Rattle.grammar.specs.Grammar.{Own, Extent}
+use Rattle.grammar.proofs.Tests.{OwnTests, Extent}
 use Rattle.kinds.proofs.Types.{fixed-any}
 use Rattle.elements.proofs.Laws.{fixed-least}
 use Rattle.edits.proofs.Tests.{both-and, rule-of, of-rule}
@@ -41,7 +41,7 @@ fixed-parts : (dim : ℕ) (own : List ℕ) → fixedOk dim own 0 ≡ true →
 unfolding fixedOk
 fixed-parts dim own e = and-eq-true-iff (not (isPointed (typeAt own 0)) || pointsOk own 0) (leb (fixedPart dim (typeAt own 0) (pointsAt own 0)) (sizeAt own 0)) .0 e
 
-pub own-fixed : {dim depth under inside n : ℕ} {own : List ℕ} → Own dim depth under own inside n → fixedPart dim (typeAt own 0) (pointsAt own 0) ≤ length own
+pub own-fixed : {dim depth under inside n : ℕ} {own : List ℕ} → OwnTests dim depth under own inside n → fixedPart dim (typeAt own 0) (pointsAt own 0) ≤ length own
 own-fixed {dim} {own = own} o =
     let l = fixed-least dim own 0 (o .fixed) in
     let s = o .size in
@@ -120,8 +120,8 @@ module _ {dim : ℕ} {own own′ : List ℕ} (a : Alike dim own own′) where
           let w : attributesAt own 0 ≡ true = rw (a .properties t) at (p .1) in
           fill-alike t (rule-of (hasAttributes own 0) (attributesOk dim own 0) e (both-and t w))
 
-  pub own-alike : {depth under inside n : ℕ} (inside′ n′ : ℕ) → Own dim depth under own inside n →
-      Extent (isHeader (typeAt own′ 0)) own′ inside′ n′ → storedNameOk own′ 0 ≡ true → countOk own′ 0 n′ ≡ true → Own dim depth under own′ inside′ n′
+  pub own-alike : {depth under inside n : ℕ} (inside′ n′ : ℕ) → OwnTests dim depth under own inside n →
+      Extent (isHeader (typeAt own′ 0)) own′ inside′ n′ → storedNameOk own′ 0 ≡ true → countOk own′ 0 n′ ≡ true → OwnTests dim depth under own′ inside′ n′
   own-alike {depth} inside′ n′ o x m k = record {
     size = size-same ∙ o .size ∙ sym (a .long);
     reserved = reserved-alike (o .reserved);

@@ -11,7 +11,7 @@ use borrow.Author.Tests.{leb-true, le-leb}
 use Rattle.words.specs.Words.{Below}
 use Rattle.headers.specs.Header.{typeAt, extentAt}
 use Rattle.kinds.specs.Kinds.{isHeader}
-use Rattle.grammar.specs.Grammar.{Own}
+use Rattle.grammar.proofs.Tests.{OwnTests}
 use Rattle.grammar.proofs.Forest.{Forest, nil, node, flat, num, weight, Wf, own-stands, components-stand, rest-stand}
 use Rattle.grammar.proofs.Stands.{Stands, stands-word, stands-left, stands-right}
 use Rattle.edits.specs.Edits.{corrected, isLast, raise, splice, cut}
@@ -119,7 +119,7 @@ below-lift dim up n depth under (into own r w) f g x h b c =
 
 ---- the room above a place, by the words and by the tree
 
-extent-there : {dim depth under : ℕ} (own : List ℕ) (k r : Forest) (at : ℕ) (ws : List ℕ) → Own dim depth under own (length (flat k)) (num k) → isHeader (typeAt own 0) ≡ true →
+extent-there : {dim depth under : ℕ} (own : List ℕ) (k r : Forest) (at : ℕ) (ws : List ℕ) → OwnTests dim depth under own (length (flat k)) (num k) → isHeader (typeAt own 0) ≡ true →
     Stands (flat (node own k r)) at ws → extentAt ws at ≡ length own + length (flat k)
 extent-there own k r at ws o h s =
     let l = header-twenty o h in

@@ -13,8 +13,8 @@ use Rattle.edits.specs.Edits.{Edit, mark, insert, remove, apply}
 use Rattle.edits.specs.Allowed.{Fault?, fine, fault, orElse, unless, startsAt, renameFault, editFault}
 use Rattle.headers.specs.Header.{typeAt}
 use Rattle.kinds.specs.Kinds.{isCell}
-use Rattle.edits.specs.Records.{Newest, recordOf, recordWords, lastRecord, reversal}
-use Rattle.edits.specs.Calls.{Session, Call, mark-call, rename-call, insert-call, remove-call, undo-call, usedWords, openFault, Result, resultBy, editMade, editWithin, edited, undoMade, reversalFault, undoBy, undone, nameOfText, textOk, callOn, step}
+use Rattle.edits.specs.Records.{Newest, lastRecord, reversal}
+use Rattle.edits.specs.Calls.{Session, Call, mark-call, rename-call, insert-call, remove-call, undo-call, journalOf, wordsOf, openFault, Result, resultBy, editMade, editWithin, edited, undoMade, reversalFault, undoBy, undone, nameOfText, textOk, callOn, step, wordsBy, recordBy}
 use Rattle.edits.specs.Book.{wasRefused}
 use Rattle.edits.proofs.Faults.{orElse-fine, unless-fine}
 
@@ -34,13 +34,6 @@ unchanged-undo dim s ws (some l) =
     unchanged-by (reversalFault dim ws (length (s .file)) (l .0)) s
     (undoMade s (apply dim ws (reversal ws (l .0))) (2 * length (l .1))) (λ q. absurd (false≢true q))
 
--- the words after an edit, and its record's
-abbrev wordsBy : ℕ → Session → Edit → List ℕ
-wordsBy dim s e = apply dim (usedWords (s .file) (s .used)) e
-
-abbrev recordBy : ℕ → Session → Edit → List ℕ
-recordBy dim s e = recordWords (recordOf dim (usedWords (s .file) (s .used)) e)
-
 unchanged-edit : (dim : ℕ) (s : Session) (e : Edit) (own : Fault?) → Unchanged s (edited dim s e own)
 unfolding edited editMade
 unchanged-edit dim s e own =
@@ -55,14 +48,14 @@ unchanged-call dim s ws (rename-call p text) =
 unchanged-call dim s ws (insert-call h p piece) = unchanged-edit dim s (insert h p (words piece)) (editFault dim ws (insert h p (words piece)))
 unchanged-call dim s ws (remove-call p) = unchanged-edit dim s (remove p) (editFault dim ws (remove p))
 unchanged-call dim s ws undo-call =
-    let u = usedWords (s .file) (s .used) in
-    let l = lastRecord (usedWords (s .journal) (s .jused)) in
+    let u = wordsOf s in
+    let l = lastRecord (journalOf s) in
     unchanged-by (unless (not (eqb (s .jused) 0)) 17) s (undoBy dim s u l) (unchanged-undo dim s u l)
 
 pub refusal-keeps : (dim : ℕ) (s : Session) (c : Call) → wasRefused (step dim s c .answer) ≡ true → step dim s c .after ≡ s
 unfolding step
 refusal-keeps dim s c =
-    let u = usedWords (s .file) (s .used) in
+    let u = wordsOf s in
     unchanged-by (openFault dim s c) s (callOn dim s u c) (unchanged-call dim s u c)
 
 -- a rename's text that is none is refused

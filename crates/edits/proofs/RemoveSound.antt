@@ -11,7 +11,7 @@ use Rattle.words.specs.Words.{Below}
 use Rattle.headers.specs.Header.{typeAt}
 use Rattle.kinds.specs.Kinds.{isHeader}
 use Rattle.files.specs.Spots.{spotsOf}
-use Rattle.grammar.specs.Grammar.{Own, Extent}
+use Rattle.grammar.proofs.Tests.{OwnTests, Extent}
 use Rattle.grammar.proofs.Forest.{Forest, node, flat, num, weight, Wf, spots}
 use Rattle.edits.specs.Edits.{insert, remove, downTo, spotWords, extentIn}
 use Rattle.edits.specs.Allowed.{fine, startsAt, gapOk, roomFault, depthUnder, typeUnder, insertFault, removeFault, editFault}
@@ -29,7 +29,7 @@ use Rattle.edits.proofs.Reversed.{sound-of, marker, below-marker, spot-
 use Rattle.edits.proofs.InsertSound.{insert-way, remove-way}
 
 -- an extent has at most 65,535 words
-extent-small : {dim depth under : ℕ} {own : List ℕ} (k : Forest) → Own dim depth under own (length (flat k)) (num k) → weight own k < 65536
+extent-small : {dim depth under : ℕ} {own : List ℕ} (k : Forest) → OwnTests dim depth under own (length (flat k)) (num k) → weight own k < 65536
 extent-small {own = own} k o = go (isHeader (typeAt own 0)) (o .extent)
   where
     go : (b : Bool) → Extent b own (length (flat k)) (num k) → weight own k < 65536

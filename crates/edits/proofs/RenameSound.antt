@@ -10,7 +10,7 @@ use Rattle.names.specs.Names.{nameOk}
 use Rattle.kinds.specs.FirstWord.{typeOf}
 use Rattle.headers.specs.Header.{typeAt, namePlace}
 use Rattle.files.specs.Spots.{spotsOf}
-use Rattle.grammar.specs.Grammar.{Own}
+use Rattle.grammar.proofs.Tests.{OwnTests}
 use Rattle.grammar.proofs.Forest.{Forest, node, flat, num, Wf}
 use Rattle.edits.specs.Edits.{rename, apply}
 use Rattle.edits.specs.Allowed.{fine, orElse, unless, startsAt, renameFault, editFault}
@@ -50,7 +50,7 @@ module _ (dim a b : ℕ) (w : Way) (own : List ℕ) (k r : Forest) (ws : List �
   length-named : length (named a b own) ≡ length own
   length-named = length-set2 own (nameIn own) a b
 
-  own-after : Own dim (depthOf 0 w) (typeOver 0 w) (named a b own) (length (flat k)) (num k)
+  own-after : OwnTests dim (depthOf 0 w) (typeOver 0 w) (named a b own) (length (flat k)) (num k)
   own-after = own-named (elem-of dim own k r 0 0 w x .0) a b cell ok
 
   rename-wf : Wf dim 0 0 (plug w (node (named a b own) k r))

@@ -10,11 +10,11 @@ use lib.ListN.{length, length-append}
 use Rattle.words.specs.Words.{Below, wordAt}
 use Rattle.headers.specs.Header.{typeAt}
 use Rattle.files.specs.Spots.{spotsOf, spotIn}
-use Rattle.grammar.specs.Grammar.{Own}
+use Rattle.grammar.proofs.Tests.{OwnTests}
 use Rattle.grammar.proofs.Forest.{Forest, node, flat, num, weight, Wf, spots}
 use Rattle.edits.specs.Edits.{Edit, apply}
 use Rattle.edits.specs.Allowed.{fine, editFault, startsAt}
-use Rattle.edits.specs.Records.{Rec, recordOf, reversal, placed, reversible}
+use Rattle.edits.specs.Records.{Rec, recordOf, reversal, underItsHeader, reversible}
 use Rattle.edits.proofs.Accepted.{Accepted, Small, SmallHeader, Sound}
 use Rattle.edits.proofs.Tests.{both-and}
 use Rattle.edits.proofs.Bounds.{below-append}
@@ -27,7 +27,7 @@ use Rattle.edits.proofs.Gaps.{starts, file-long}
 use Rattle.edits.proofs.Judging.{tree-spots}
 
 pub sound-of : (dim : ℕ) (ws : List ℕ) (e : Edit) (ws′ : List ℕ) (r : Rec) (e′ : Edit) → apply dim ws e ≡ ws′ → recordOf dim ws e ≡ r → reversal ws′ r ≡ e′ →
-    Accepted dim ws′ → placed (spotsOf dim ws′) r ≡ true → editFault dim ws′ e′ ≡ fine → apply dim ws′ e′ ≡ ws → Small r → Sound dim ws e
+    Accepted dim ws′ → underItsHeader (spotsOf dim ws′) r ≡ true → editFault dim ws′ e′ ≡ fine → apply dim ws′ e′ ≡ ws → Small r → Sound dim ws e
 unfolding reversible
 sound-of dim ws e ws′ r e′ a q v k p f s m = record { kept = rw a k; back = rw (a, q, v, f) (both-and p refl); same = rw (a, q, v) s; small = rw q m }
 
@@ -81,7 +81,7 @@ header-small header at (into own r w) l s =
 ---- other own words in an element's place
 
 module _ (dim : ℕ) (w : Way) (own own′ : List ℕ) (k r : Forest) (x : Wf dim 0 0 (plug w (node own k r))) (l : length own′ ≡ length own) (t : typeAt own′ 0 ≡ typeAt own 0)
-    (o : Own dim (depthOf 0 w) (typeOver 0 w) own′ (length (flat k)) (num k)) where
+    (o : OwnTests dim (depthOf 0 w) (typeOver 0 w) own′ (length (flat k)) (num k)) where
   pub swapped-wf : Wf dim 0 0 (plug w (node own′ k r))
   swapped-wf = wf-swap dim own k own′ k r (ap (λ n. n + length (flat k)) l) 0 0 w x (o, rw t (elem-of dim own k r 0 0 w x .1))
 

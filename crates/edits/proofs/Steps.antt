@@ -19,7 +19,7 @@ use Rattle.grammar.proofs.Forest.{flat}
 use Rattle.edits.specs.Edits.{Edit, mark, insert, remove, apply}
 use Rattle.edits.specs.Allowed.{Fault?, fine, fault, orElse, renameFault, editFault}
 use Rattle.edits.specs.Records.{recordOf, recordWords}
-use Rattle.edits.specs.Calls.{Session, Call, mark-call, rename-call, insert-call, remove-call, undo-call, usedWords, endsInMarker, sessionOk, sessionFault, Result, resultBy, editMade, editWithin, edited, undone, nameOfText, textOk, callOn}
+use Rattle.edits.specs.Calls.{Session, Call, mark-call, rename-call, insert-call, remove-call, undo-call, wordsOf, endsInMarker, sessionOk, sessionFault, Result, resultBy, editMade, editWithin, edited, undone, nameOfText, textOk, callOn}
 use Rattle.edits.specs.Book.{Run, noted, noting}
 use Rattle.edits.specs.Demand.{PieceBytes}
 use Rattle.edits.proofs.Accepted.{Accepted, Carried, Sound}
@@ -28,24 +28,21 @@ use Rattle.edits.proofs.Buffers.{Holds, holds-ok, holds-stored, holds-p
 use Rattle.edits.proofs.Replay.{Replay, one-more, replay-accepted, replay-sound}
 use Rattle.edits.proofs.Hypotheses.{Hypotheses}
 use Rattle.edits.proofs.Faults.{orElse-fine, unless-fine}
+use Rattle.edits.proofs.Tested.{session-ok}
 use Rattle.edits.proofs.Refusals.{not-named}
-
--- a session's used words; of a run's start, the original's
-abbrev pub original : Session → List ℕ
-original s = usedWords (s .file) (s .used)
 
 -- the listed edits made one after another from the original's used words, within the file's buffer
 abbrev pub Replayed : ℕ → Session → List Edit → List ℕ → List ℕ → Type 0
-Replayed dim s = Replay dim (original s) (length (s .file))
+Replayed dim s = Replay dim (wordsOf s) (length (s .file))
 
 -- a session at a run's start
 pub record Begun (dim : ℕ) (s : Session) : Type 0 where
   pub dimension : dimOk dim ≡ true
   pub file-ok : sizeOk (length (s .file)) ≡ true
   pub journal-ok : sizeOk (length (s .journal)) ≡ true
-  pub file : Holds (length (s .file)) (s .file) (s .used) (original s)
+  pub file : Holds (length (s .file)) (s .file) (s .used) (wordsOf s)
   pub journal : Holds (length (s .journal)) (s .journal) (s .jused) []
-  pub tree : Accepted dim (original s)
+  pub tree : Accepted dim (wordsOf s)
 
 -- a session and its book's list after some calls of a run that started with s₀
 pub record Kept (dim : ℕ) (s₀ s : Session) (es : List Edit) : Type 0 where
@@ -60,17 +57,17 @@ KeptRun dim s₀ r = Kept dim s₀ (r .session) (r .book)
 
 module _ (dim : ℕ) (hyp : Hypotheses dim) (s₀ : Session) (B : Begun dim s₀) where
   -- the law of one edit, at each file of a run
-  pub room : 2 * length (original s₀) ≤ length (s₀ .file)
+  pub room : 2 * length (wordsOf s₀) ≤ length (s₀ .file)
   room = let u = B .file .used in let w = B .file .within in omega arith
 
   pub limit : length (s₀ .file) ≤ 1048576
   limit = leb-true (length (s₀ .file)) 1048576 (and-eq-true-iff (eqb (length (s₀ .file) % 2) 0) (leb (length (s₀ .file)) 1048576) .0 (B .file-ok) .1)
 
   pub sound-at : (es : List Edit) (ws js : List ℕ) (e : Edit) → Replayed dim s₀ es ws js → editFault dim ws e ≡ fine → Carried e → Sound dim ws e
-  sound-at = replay-sound dim (original s₀) (length (s₀ .file)) (hyp .sound) (B .tree) room limit
+  sound-at = replay-sound dim (wordsOf s₀) (length (s₀ .file)) (hyp .sound) (B .tree) room limit
 
   pub accepted-at : (es : List Edit) (ws js : List ℕ) → Replayed dim s₀ es ws js → Accepted dim ws
-  accepted-at = replay-accepted dim (original s₀) (length (s₀ .file)) (hyp .sound) (B .tree) room limit
+  accepted-at = replay-accepted dim (wordsOf s₀) (length (s₀ .file)) (hyp .sound) (B .tree) room limit
 
   -- what a refusal leaves is kept, so what is made has to be shown
   pub after-by : (s : Session) (es : List Edit) (c : Call) (f : Fault?) (r : Result) → Kept dim s₀ s es
@@ -80,7 +77,7 @@ module _ (dim : ℕ) (hyp : Hypotheses dim) (s₀ : Session) (B : Begun dim s₀
 
   ---- the edits
 
-  edited-at : (s : Session) (e : Edit) (own : Fault?) (ws : List ℕ) → usedWords (s .file) (s .used) ≡ ws
+  edited-at : (s : Session) (e : Edit) (own : Fault?) (ws : List ℕ) → wordsOf s ≡ ws
       → edited dim s e own
       ≡ resultBy (orElse own (editWithin s (apply dim ws e) (recordWords (recordOf dim ws e)))) s (editMade s (apply dim ws e) (recordWords (recordOf dim ws e)))
   unfolding edited
@@ -135,33 +132,35 @@ module _ (dim : ℕ) (hyp : Hypotheses dim) (s₀ : Session) (B : Begun dim s₀
   kept-text p text ws (name.Refused n place) e f = absurd (not-named (spotsOf dim ws) ws p f)
 
   pub kept-call : (s : Session) (es : List Edit) (c : Call) → PieceBytes c → (K : Kept dim s₀ s es) → KeptRun dim s₀ (noting es undo-call (undone dim s))
-      → KeptRun dim s₀ (noting es c (callOn dim s (usedWords (s .file) (s .used)) c))
+      → KeptRun dim s₀ (noting es c (callOn dim s (wordsOf s) c))
   kept-call s es (mark-call p deleted) b K u =
-      kept-edit s es (mark-call p deleted) (mark p deleted) (editFault dim (original s) (mark p deleted)) K
+      kept-edit s es (mark-call p deleted) (mark p deleted) (editFault dim (wordsOf s) (mark p deleted)) K
       (λ f. (ap (λ l. editFault dim l (mark p deleted)) (sym (K .file .words)) ∙ f, tt)) refl
   kept-call s es (rename-call p text) b K u =
       let q = packed text in
-      kept-edit s es (rename-call p text) (nameOfText q p) (renameFault (spotsOf dim (original s)) (original s) p (textOk q)) K
+      kept-edit s es (rename-call p text) (nameOfText q p) (renameFault (spotsOf dim (wordsOf s)) (wordsOf s) p (textOk q)) K
       (λ f. kept-text p text (K .ws) q refl (ap (λ l. renameFault (spotsOf dim l) l p (textOk q)) (sym (K .file .words)) ∙ f)) refl
   kept-call s es (insert-call h p piece) b K u =
       let x = words piece in
-      kept-edit s es (insert-call h p piece) (insert h p x) (editFault dim (original s) (insert h p x)) K
+      kept-edit s es (insert-call h p piece) (insert h p x) (editFault dim (wordsOf s) (insert h p x)) K
       (λ f. (ap (λ l. editFault dim l (insert h p x)) (sym (K .file .words)) ∙ f, words-below piece b)) refl
   kept-call s es (remove-call p) b K u =
-      kept-edit s es (remove-call p) (remove p) (editFault dim (original s) (remove p)) K
+      kept-edit s es (remove-call p) (remove p) (editFault dim (wordsOf s) (remove p)) K
       (λ f. (ap (λ l. editFault dim l (remove p)) (sym (K .file .words)) ∙ f, tt)) refl
   kept-call s es undo-call b K u = u
 
   ---- the dimension, the buffers, the used lengths and the file stay good
 
   kept-session : (s : Session) (es : List Edit) → Kept dim s₀ s es → sessionOk dim s ≡ true
-  unfolding sessionOk
   kept-session s es K =
       let A = accepted-at es (K .ws) (K .js) (K .replay) in
-      let ends : endsInMarker (usedWords (s .file) (s .used)) ≡ true = ap endsInMarker (K .file .words ∙ A .words) ∙ marker-ends (flat (A .tree)) in
-      let f = holds-ok (K .file) (s₀ .file) refl (B .file-ok) in
-      let j = holds-ok (K .journal) (s₀ .journal) refl (B .journal-ok) in
-      and-eq-true-iff _ _ .1 (B .dimension, and-eq-true-iff _ _ .1 (f, and-eq-true-iff _ _ .1 (j, ends)))
+      let ends : endsInMarker (wordsOf s) ≡ true = ap endsInMarker (K .file .words ∙ A .words) ∙ marker-ends (flat (A .tree)) in
+      session-ok (record {
+        dimension = B .dimension;
+        file = holds-ok (K .file) (s₀ .file) refl (B .file-ok);
+        journal = holds-ok (K .journal) (s₀ .journal) refl (B .journal-ok);
+        ends = ends;
+      })
 
   pub kept-ready : (s : Session) (es : List Edit) → Kept dim s₀ s es → sessionFault dim s ≡ fine
   unfolding sessionFault

@@ -12,7 +12,7 @@ use Rattle.edits.specs.declared.Edited.the-variants.{Refused}
 use Rattle.edits.specs.Edits.{Edit, apply}
 use Rattle.edits.specs.Allowed.{fine}
 use Rattle.edits.specs.Records.{recordOf, recordWords}
-use Rattle.edits.specs.Calls.{Session, Call, undo-call, sessionFault, openFault, usedWords, Result, refused, undoMade, undone, callOn, step}
+use Rattle.edits.specs.Calls.{Session, Call, undo-call, sessionFault, openFault, journalOf, wordsOf, Result, refused, undoMade, undone, callOn, step}
 use Rattle.edits.specs.Book.{Run, ran, struck, noted, noting, wasRefused, undos}
 use Rattle.edits.specs.Demand.{PieceBytes, PiecesBytes, noneRefused}
 use Rattle.edits.proofs.Accepted.{Sound}
@@ -20,7 +20,7 @@ use Rattle.edits.proofs.Journal.{reads, record-long}
 use Rattle.edits.proofs.Buffers.{Holds, holds-stored, holds-front}
 use Rattle.edits.proofs.Replay.{no-edit, one-more, replay-room, struck-more, undos-more, more-not-nil}
 use Rattle.edits.proofs.Hypotheses.{Hypotheses}
-use Rattle.edits.proofs.Steps.{Replayed, Begun, Kept, KeptRun, original, room, limit, sound-at, accepted-at, after-by, kept-call, kept-ready}
+use Rattle.edits.proofs.Steps.{Replayed, Begun, Kept, KeptRun, room, limit, sound-at, accepted-at, after-by, kept-call, kept-ready}
 
 ---- an undo, by the journal
 
@@ -35,8 +35,8 @@ unfolding undone
 undone-nothing dim s e = rw e refl
 
 -- the last record taken off, and its edit turned back
-undone-last : (dim : ℕ) (s : Session) (ws js : List ℕ) (e : Edit) → usedWords (s .file) (s .used) ≡ apply dim ws e
-    → usedWords (s .journal) (s .jused) ≡ js ++ recordWords (recordOf dim ws e) → Sound dim ws e
+undone-last : (dim : ℕ) (s : Session) (ws js : List ℕ) (e : Edit) → wordsOf s ≡ apply dim ws e
+    → journalOf s ≡ js ++ recordWords (recordOf dim ws e) → Sound dim ws e
     → (s .jused ≡ 0 → ⊥) → 2 * length ws ≤ length (s .file) → undone dim s ≡ undoMade s ws (2 * length js)
 unfolding undone
 undone-last dim s ws js e w j S some-used l =
@@ -68,7 +68,7 @@ module _ (dim : ℕ) (hyp : Hypotheses dim) (s₀ : Session) (B : Begun dim s₀
       let rec = recordWords (recordOf dim ws₀ e) in
       let S = sound-at dim hyp s₀ B es₀ ws₀ js₀ e r f c in
       let A = accepted-at dim hyp s₀ B es₀ ws₀ js₀ r in
-      let fits = replay-room dim (original s₀) (length (s₀ .file)) (hyp .sound) (B .tree) (room dim hyp s₀ B) (limit dim hyp s₀ B) es₀ ws₀ js₀ r in
+      let fits = replay-room dim (wordsOf s₀) (length (s₀ .file)) (hyp .sound) (B .tree) (room dim hyp s₀ B) (limit dim hyp s₀ B) es₀ ws₀ js₀ r in
       let whole = F .whole in
       let long = J .used in
       let more = length-append js₀ (recordWords (recordOf dim ws₀ e)) in
@@ -101,7 +101,7 @@ module _ (dim : ℕ) (hyp : Hypotheses dim) (s₀ : Session) (B : Begun dim s₀
   kept-step s es c b K =
       let ready = kept-ready dim hyp s₀ B s es K in
       let u = subst (λ r. KeptRun dim s₀ (noting es undo-call r)) (step-undo dim s ready) (kept-undo s es K) in
-      after-by dim hyp s₀ B s es c (openFault dim s c) (callOn dim s (usedWords (s .file) (s .used)) c) K (λ f. kept-call dim hyp s₀ B s es c b K u)
+      after-by dim hyp s₀ B s es c (openFault dim s c) (callOn dim s (wordsOf s) c) K (λ f. kept-call dim hyp s₀ B s es c b K u)
 
   pub kept-run : (cs : List Call) (r : Run) → PiecesBytes cs → KeptRun dim s₀ r → KeptRun dim s₀ (ran dim r cs)
   kept-run [] r b K = K

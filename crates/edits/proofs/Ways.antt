@@ -9,7 +9,7 @@ use mathlib.Core.Option.{Option, some}
 use lib.ListN.{length, length-append}
 use Rattle.headers.specs.Header.{typeAt}
 use Rattle.kinds.specs.Kinds.{isHeader}
-use Rattle.grammar.specs.Grammar.{Own, Extent}
+use Rattle.grammar.proofs.Tests.{OwnTests, Extent}
 use Rattle.grammar.proofs.Forest.{Forest, node, flat, num, weight, Wf}
 use Rattle.edits.proofs.Grown.{grown, one, length-grown, type-grown, header-extent, own-up, up-back, own-down, down-back}
 
@@ -83,7 +83,7 @@ Room n f (into own r w) = (length own + length (flat (plug w f)) + n ≤ 65535) 
 
 -- one element
 abbrev pub Elem : ℕ → ℕ → ℕ → List ℕ → Forest → Type 0
-Elem dim depth under own k = Own dim depth under own (length (flat k)) (num k) × Wf dim (suc depth) (typeAt own 0) k
+Elem dim depth under own k = OwnTests dim depth under own (length (flat k)) (num k) × Wf dim (suc depth) (typeAt own 0) k
 
 ---- the words of a tree, around a place
 
@@ -130,7 +130,7 @@ Heads-lift up n (past own k w) h = Heads-lift up n w h
 Heads-lift up n (into own r w) h = (rw (type-grown up n (direct w) own) (h .0), Heads-lift up n w (h .1))
 
 -- an element with components is a header
-parent-header : {dim depth under inside k : ℕ} {own : List ℕ} → Own dim depth under own inside (suc k) → isHeader (typeAt own 0) ≡ true
+parent-header : {dim depth under inside k : ℕ} {own : List ℕ} → OwnTests dim depth under own inside (suc k) → isHeader (typeAt own 0) ≡ true
 parent-header {inside = inside} {k} {own} o = go (isHeader (typeAt own 0)) (o .extent)
   where
     go : (b : Bool) → Extent b own inside (suc k) → b ≡ true
@@ -192,7 +192,7 @@ module _ (dim : ℕ) (own₀ : List ℕ) (k₀ f : Forest) where
   wf-down depth under (past own k w) x h = (x .0, x .1, wf-down depth under w (x .2) h)
   wf-down depth under (into own r w) x h =
       let n = weight own₀ k₀ in
-      let o : Own dim depth under own (length (flat (plug (lift false n w) f)) + n) (num (plug (lift false n w) f) + one (direct w)) = rw (len-out n w, num-out n w) at (x .0) in (
+      let o : OwnTests dim depth under own (length (flat (plug (lift false n w) f)) + n) (num (plug (lift false n w) f) + one (direct w)) = rw (len-out n w, num-out n w) at (x .0) in (
         own-down _ _ n (direct w) o (h .0),
         rw (type-grown false n (direct w) own) (wf-down (suc depth) (typeAt own 0) w (x .1) (h .1)),
         x .2,
@@ -211,7 +211,7 @@ module _ (dim : ℕ) (own₀ : List ℕ) (k₀ f : Forest) where
   down-up depth under (past own k w) x h = ap (past own k) (down-up depth under w (x .2) h)
   down-up depth under (into own r w) x h =
       let n = weight own₀ k₀ in
-      let o : Own dim depth under own (length (flat (plug (lift false n w) f)) + n) (num (plug (lift false n w) f) + one (direct w)) = rw (len-out n w, num-out n w) at (x .0) in
+      let o : OwnTests dim depth under own (length (flat (plug (lift false n w) f)) + n) (num (plug (lift false n w) f) + one (direct w)) = rw (len-out n w, num-out n w) at (x .0) in
       rw (direct-lift false n w, down-back _ _ n (direct w) o (h .0), down-up (suc depth) (typeAt own 0) w (x .1) (h .1)) refl
 
   -- what goes out had room

@@ -1,4 +1,4 @@
--- When an edit is refused, by the file's words alone (document 01, "Editing": 13, 18, 14, 12, the piece's own, 8).
+-- When an edit is refused, by the file's words alone (RULES.md, "Order of checks": 13, 18, 14, 12, the piece's own, 8).
 use Prim.Native.Nat.{ℕ, _+_, _-_}
 use mathlib.Core.List.{List, [], _∷_}
 use mathlib.Core.Bool.{Bool, true, false, cond, _&&_, _||_}
@@ -59,9 +59,9 @@ sameHeader (some a) none = false
 sameHeader (some a) (some b) = eqb a b
 
 -- an element that starts at the place stands directly under the header (none: at the top)
-abbrev pub under? : Option Spot → Option ℕ → Bool
-under? none h = false
-under? (some x) h = sameHeader (x .header) h
+abbrev pub isUnder : Option Spot → Option ℕ → Bool
+isUnder none h = false
+isUnder (some x) h = sameHeader (x .header) h
 
 abbrev pub endsAt : Option Spot → ℕ → Bool
 endsAt none p = false
@@ -70,9 +70,9 @@ endsAt (some x) p = eqb (x .end) p
 -- 13 of an insert unless the named header is one, and at the place a direct component of it starts or its list ends; at
 -- the top the list ends at the marker
 unfoldable pub gapOk : List Spot → List ℕ → Option ℕ → ℕ → Bool
-gapOk xs ws none p = under? (spotIn xs p) none || eqb p (length ws - 1)
+gapOk xs ws none p = isUnder (spotIn xs p) none || eqb p (length ws - 1)
 gapOk xs ws (some h) p =
-    startsAt xs h && (isHeader (typeAt ws h) && (under? (spotIn xs p) (some h) || endsAt (spotIn xs h) p))
+    startsAt xs h && (isHeader (typeAt ws h) && (isUnder (spotIn xs p) (some h) || endsAt (spotIn xs h) p))
 
 -- the depth and the type above that a piece under this header has
 abbrev pub depthBy : Option Spot → ℕ

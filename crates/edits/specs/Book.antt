@@ -1,4 +1,4 @@
--- The book of demand 3 (document 01, "Editing"): it is fed the calls, and whether each was refused, and nothing else.
+-- The book of demand 3 (RULES.md, "The book"): it is fed the calls, and whether each was refused, and nothing else.
 use Prim.Native.Nat.{ℕ}
 use mathlib.Core.List.{List, [], _∷_, _++_}
 use mathlib.Core.Bool.{Bool, true, false}

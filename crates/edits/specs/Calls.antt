@@ -1,4 +1,4 @@
--- The calls of a session on its two lent buffers, with their refusals in document 01's order and what every byte and
+-- The calls of a session on its two lent buffers, with their refusals in order (RULES.md, "Order of checks") and what every byte and
 -- length then is.
 use Prim.Native.Nat.{ℕ, _+_, _-_, _*_, max}
 use mathlib.Core.List.{List, [], _∷_, _++_}
@@ -40,6 +40,13 @@ pub data Call : Type 0 where
 abbrev pub usedWords : List ℕ → ℕ → List ℕ
 usedWords s n = words (take n s)
 
+-- those of a session's file, and of its journal
+abbrev pub wordsOf : Session → List ℕ
+wordsOf s = usedWords (s .file) (s .used)
+
+abbrev pub journalOf : Session → List ℕ
+journalOf s = usedWords (s .journal) (s .jused)
+
 -- a used file ends in the word 65535
 abbrev pub endsInMarker : List ℕ → Bool
 endsInMarker ws = leb 1 (length ws) && eqb (wordAt ws (length ws - 1)) 65535
@@ -48,7 +55,7 @@ endsInMarker ws = leb 1 (length ws) && eqb (wordAt ws (length ws - 1)) 65535
 unfoldable pub sessionOk : ℕ → Session → Bool
 sessionOk dim s =
     dimOk dim
-    && (usedOk (length (s .file)) (s .used) && (usedOk (length (s .journal)) (s .jused) && endsInMarker (usedWords (s .file) (s .used))))
+    && (usedOk (length (s .file)) (s .used) && (usedOk (length (s .journal)) (s .jused) && endsInMarker (wordsOf s)))
 
 -- 1 unless the piece of an insert may be lent
 abbrev pub pieceOk : Call → Bool
@@ -67,7 +74,7 @@ fileFault (Fault n p) last = fault n p
 unfoldable pub sessionFault : ℕ → Session → Fault?
 sessionFault dim s =
     orElse (unless (sessionOk dim s) 1)
-    (fileFault (topOf dim (usedWords (s .file) (s .used))) (length (usedWords (s .file) (s .used)) - 1))
+    (fileFault (topOf dim (wordsOf s)) (length (wordsOf s) - 1))
 
 -- the refusal of a call before its other arguments count: 1 for a piece that may not be lent, then the session's
 unfoldable pub openFault : ℕ → Session → Call → Fault?
@@ -105,13 +112,17 @@ abbrev pub resultBy : Fault? → Session → Result → Result
 resultBy fine s r = r
 resultBy (fault n p) s r = refused s n p
 
+-- the used words after an edit, and its record's words
+abbrev pub wordsBy : ℕ → Session → Edit → List ℕ
+wordsBy dim s e = apply dim (wordsOf s) e
+
+abbrev pub recordBy : ℕ → Session → Edit → List ℕ
+recordBy dim s e = recordWords (recordOf dim (wordsOf s) e)
+
 -- an edit on the used words: its own refusals, 15, 16, or it is made
 unfoldable pub edited : ℕ → Session → Edit → Fault? → Result
 edited dim s e own =
-    resultBy
-    (orElse own (editWithin s (apply dim (usedWords (s .file) (s .used)) e) (recordWords (recordOf dim (usedWords (s .file) (s .used)) e))))
-    s
-    (editMade s (apply dim (usedWords (s .file) (s .used)) e) (recordWords (recordOf dim (usedWords (s .file) (s .used)) e)))
+    resultBy (orElse own (editWithin s (wordsBy dim s e) (recordBy dim s e))) s (editMade s (wordsBy dim s e) (recordBy dim s e))
 
 -- an undo made: the words ws used, the journal's bytes as they were and its used length back before the record
 unfoldable pub undoMade : Session → List ℕ → ℕ → Result
@@ -120,23 +131,26 @@ undoMade s ws jused = record {
   after = record { file = stored (s .file) (s .used) ws; used = 2 * length ws; journal = s .journal; jused = jused };
 }
 
+-- the words after a record's reversal
+abbrev pub wordsBack : ℕ → List ℕ → Rec → List ℕ
+wordsBack dim ws rec = apply dim ws (reversal ws rec)
+
 -- 19 and 15 of a record's reversal on the words ws, in a file's buffer of so many bytes
 abbrev pub reversalFault : ℕ → List ℕ → ℕ → Rec → Fault?
 reversalFault dim ws size rec =
-    orElse (unless (reversible dim ws rec) 19) (unless (leb (2 * length (apply dim ws (reversal ws rec))) size) 15)
+    orElse (unless (reversible dim ws rec) 19) (unless (leb (2 * length (wordsBack dim ws rec)) size) 15)
 
 -- an undo by the last record: 19 where it is ill-formed or may not be reversed, 15, or it is made
 abbrev pub undoBy : ℕ → Session → List ℕ → Newest → Result
 undoBy dim s ws none = refused s 19 0
 undoBy dim s ws (some l) =
-    resultBy (reversalFault dim ws (length (s .file)) (l .0)) s
-    (undoMade s (apply dim ws (reversal ws (l .0))) (2 * length (l .1)))
+    resultBy (reversalFault dim ws (length (s .file)) (l .0)) s (undoMade s (wordsBack dim ws (l .0)) (2 * length (l .1)))
 
 -- an undo: 17 where the journal is empty, then these
 unfoldable pub undone : ℕ → Session → Result
 undone dim s =
     resultBy (unless (not (eqb (s .jused) 0)) 17) s
-    (undoBy dim s (usedWords (s .file) (s .used)) (lastRecord (usedWords (s .journal) (s .jused))))
+    (undoBy dim s (wordsOf s) (lastRecord (journalOf s)))
 
 -- the rename that a text asks for (of a bad text any, since it is refused), and whether the text is good
 abbrev pub nameOfText : Packed → ℕ → Edit
@@ -158,7 +172,7 @@ callOn dim s ws undo-call = undone dim s
 
 -- one call
 unfoldable pub step : ℕ → Session → Call → Result
-step dim s c = resultBy (openFault dim s c) s (callOn dim s (usedWords (s .file) (s .used)) c)
+step dim s c = resultBy (openFault dim s c) s (callOn dim s (wordsOf s) c)
 
 -- the numbers of each answer: 0 and the used lengths, or the refusal's number and place
 abbrev pub editedNumbers : Edited → List ℕ

@@ -1,16 +1,16 @@
--- Demand 3 (document 01, "Editing"): one claim over every list of calls of a session, refused ones among them.
+-- Demand 3 (RULES.md, "Three demands"): one claim over every list of calls of a session, refused ones among them.
 use Prim.Native.Nat.{ℕ, _-_, _/_}
 use mathlib.Core.Path.{_≡_}
 use mathlib.Core.Logic.{_↔_}
 use mathlib.Core.List.{List, [], _∷_}
 use mathlib.Core.Bool.{Bool, true, not, _&&_}
 use lib.ListN.{length, take}
-use Rattle.words.specs.Words.{Below}
+use Rattle.words.specs.Words.{bytes, Below}
 use Rattle.files.specs.Judge.{judgeOf}
 use Rattle.files.specs.declared.Judged.the-variants.{Accepted}
 use Rattle.edits.specs.declared.Edited.the-variants.{Refused}
 use Rattle.edits.specs.Allowed.{fine}
-use Rattle.edits.specs.Calls.{Session, Call, mark-call, rename-call, insert-call, remove-call, undo-call, usedWords, sessionFault, step}
+use Rattle.edits.specs.Calls.{Session, Call, mark-call, rename-call, insert-call, remove-call, undo-call, wordsOf, sessionFault, step}
 use Rattle.edits.specs.Book.{Run, ran, noting, wasRefused, applied, undos}
 
 -- what a run starts with
@@ -67,7 +67,9 @@ pub record Demand3 (dim : ℕ) (s : Session) (r : Run) : Type 0 where
   -- the journal's buffer keeps its length
   pub journal-length : length (r .session .journal) ≡ length (s .journal)
   -- the listed edits, applied to the original's used words first to last, give the file's used words
-  pub equals : usedWords (r .session .file) (r .session .used) ≡ applied dim (usedWords (s .file) (s .used)) (r .book)
+  pub equals : wordsOf (r .session) ≡ applied dim (wordsOf s) (r .book)
+  -- and its used bytes are those of these words
+  pub equals-bytes : usedBytes (r .session) ≡ bytes (applied dim (wordsOf s) (r .book))
   -- an undo is refused exactly when the list is empty
   pub undo-refused : wasRefused (step dim (r .session) undo-call .answer) ≡ true ↔ r .book ≡ []
   -- and then it answers 17 at 0

@@ -1,4 +1,4 @@
--- The edits on a file's used words, as document 01's last paragraphs of "Editing" define them.
+-- The edits on a file's used words, as RULES.md, "Edits", defines them.
 use Prim.Native.Nat.{ℕ, _+_, _-_, _%_}
 use mathlib.Core.List.{List, [], _∷_, _++_}
 use mathlib.Core.Bool.{Bool, true, false, _&&_}

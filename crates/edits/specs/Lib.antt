@@ -4,3 +4,7 @@ pub mod Records
 pub mod Calls
 pub mod Book
 pub mod Demand
+pub mod Start
+pub mod Refusals
+pub mod Made
+pub mod Causes

@@ -1,4 +1,4 @@
--- Journal records (document 01, "Editing"): a payload, then six words: kind, header place as a long, place as a long,
+-- Journal records (RULES.md, "Journal records"): a payload, then six words: kind, header place as a long, place as a long,
 -- payload words.
 use Prim.Native.Nat.{ℕ, _+_, _-_, _/_, _%_}
 use mathlib.Core.List.{List, [], _∷_, _++_}
@@ -11,7 +11,7 @@ use Rattle.kinds.specs.FirstWord.{deletedOf}
 use Rattle.files.specs.Spots.{Spot, spotsOf, spotIn}
 use Rattle.edits.specs.Edits.{Edit, mark, rename, insert, remove, extentIn}
 use Rattle.headers.specs.Header.{nameFirst, nameSecond}
-use Rattle.edits.specs.Allowed.{Fault?, fine, fault, under?, editFault}
+use Rattle.edits.specs.Allowed.{Fault?, fine, fault, isUnder, editFault}
 
 -- kind 1 flag; 2 rename, with the two old words; 3 insert; 4 remove, with the words removed
 pub data Rec : Type 0 where
@@ -62,20 +62,35 @@ abbrev pub atTop : Option ℕ → Bool
 atTop none = true
 atTop (some h) = false
 
--- by kind: the payload and the header place are the kind's
-abbrev pub build : Bool → Bool → Bool → Bool → Option ℕ → ℕ → List ℕ → List ℕ → Newest
-build true k₂ k₃ k₄ h p x before = keep (atTop h && eqb (length x) 0) (some (flag p, before))
-build false true k₃ k₄ h p x before = keep (atTop h && eqb (length x) 2) (some (renamed p (wordAt x 0) (wordAt x 1), before))
-build false false true k₄ h p x before = keep (eqb (length x) 0) (some (inserted h p, before))
-build false false false true h p x before = some (removed h p x, before)
-build false false false false h p x before = none
+-- the kinds of a record, 1 to 4, and no kind
+pub data Kind : Type 0 where
+  flags renames inserts removes no-kind : Kind
 
--- t: where the six words begin, n: the payload's words
+abbrev pub kindOf : ℕ → Kind
+kindOf n = cond (eqb n 1) flags (cond (eqb n 2) renames (cond (eqb n 3) inserts (cond (eqb n 4) removes no-kind)))
+
+-- the header place and the number of payload words are the kind's
+abbrev pub formed : Kind → Option ℕ → ℕ → Bool
+formed flags h n = atTop h && eqb n 0
+formed renames h n = atTop h && eqb n 2
+formed inserts h n = eqb n 0
+formed removes h n = true
+formed no-kind h n = false
+
+-- the record of a kind, with the words before it
+abbrev pub build : Kind → Option ℕ → ℕ → List ℕ → List ℕ → Newest
+build flags h p x before = some (flag p, before)
+build renames h p x before = some (renamed p (wordAt x 0) (wordAt x 1), before)
+build inserts h p x before = some (inserted h p, before)
+build removes h p x before = some (removed h p x, before)
+build no-kind h p x before = none
+
+-- the record of this kind and these places whose six words begin at t, behind n payload words
+abbrev pub readBy : List ℕ → ℕ → ℕ → Kind → Option ℕ → ℕ → Newest
+readBy js t n k h p = keep (leb n t && formed k h n) (build k h p (take n (drop (t - n) js)) (take (t - n) js))
+
 abbrev pub readAt : List ℕ → ℕ → ℕ → Newest
-readAt js t n =
-    keep (leb n t)
-    (build (eqb (wordAt js t) 1) (eqb (wordAt js t) 2) (eqb (wordAt js t) 3) (eqb (wordAt js t) 4)
-    (placeOf (longAt js (t + 1))) (longAt js (t + 3)) (take n (drop (t - n) js)) (take (t - n) js))
+readAt js t n = readBy js t n (kindOf (wordAt js t)) (placeOf (longAt js (t + 1))) (longAt js (t + 3))
 
 unfoldable pub lastRecord : List ℕ → Newest
 lastRecord js = keep (leb 6 (length js)) (readAt js (length js - 6) (wordAt js (length js - 6 + 5)))
@@ -88,16 +103,16 @@ reversal ws (inserted h p) = remove p
 reversal ws (removed h p x) = insert h p x
 
 -- the element that a kind 3 record places is directly under its header place
-abbrev pub placed : List Spot → Rec → Bool
-placed xs (flag p) = true
-placed xs (renamed p a b) = true
-placed xs (inserted h p) = under? (spotIn xs p) h
-placed xs (removed h p x) = true
+abbrev pub underItsHeader : List Spot → Rec → Bool
+underItsHeader xs (flag p) = true
+underItsHeader xs (renamed p a b) = true
+underItsHeader xs (inserted h p) = isUnder (spotIn xs p) h
+underItsHeader xs (removed h p x) = true
 
 abbrev pub isFine : Fault? → Bool
 isFine fine = true
 isFine (fault n p) = false
 
--- the reversal is allowed: the edit would not be refused for another cause than 1, 15 or 16, and the element is placed
+-- the reversal is allowed: the edit would not be refused for another cause than 1, 15 or 16, and the element is there
 unfoldable pub reversible : ℕ → List ℕ → Rec → Bool
-reversible dim ws r = placed (spotsOf dim ws) r && isFine (editFault dim ws (reversal ws r))
+reversible dim ws r = underItsHeader (spotsOf dim ws) r && isFine (editFault dim ws (reversal ws r))

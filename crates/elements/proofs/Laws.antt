@@ -131,7 +131,9 @@ module _ (dim : ℕ) (ws : List ℕ) (at t size : ℕ) (q : t ≡ typeAt ws at) 
   header-part fixed e k = e ∙ fixed-any dim t 0 (pointsAt ws at) (header-pointless t k) ∙ ap (λ (u : ℕ). fixedPart dim u (pointsAt ws at)) q
 
 -- the checks that a raw type leaves
-pub raw-same : (dim under : ℕ) (ws : List ℕ) (at t size : ℕ) → t ≡ typeAt ws at → isHeader t ≡ false → isLinked t ≡ false → firstFault (check (not (eqb under 7)) 6 ∷ check (not (isUnread t)) 6 ∷ check (leb size 65535) 8 ∷ []) ≡ firstFault (check (mayStand dim under t) 6 ∷ check (fixedOk dim ws at) 7 ∷ check (leb size 65535) 8 ∷ check (linkagesOk dim ws at) 11 ∷ [])
+pub raw-same : (dim under : ℕ) (ws : List ℕ) (at t size : ℕ) → t ≡ typeAt ws at → isHeader t ≡ false → isLinked t ≡ false →
+    firstFault (check (not (eqb under 7)) 6 ∷ check (not (isUnread t)) 6 ∷ check (leb size 65535) 8 ∷ [])
+    ≡ firstFault (check (mayStand dim under t) 6 ∷ check (fixedOk dim ws at) 7 ∷ check (leb size 65535) 8 ∷ check (linkagesOk dim ws at) 11 ∷ [])
 raw-same dim under ws at t size q h k =
     rw (stands-raw dim under t h k, fixed-raw dim ws at (rw q at h) (rw q at k), linkages-none dim ws at (rw q at k)) (go (eqb under 7) (isUnread t) (leb size 65535))
   where
@@ -143,7 +145,9 @@ raw-same dim under ws at t size q h k =
     go false false false = refl
 
 -- the checks that a type that is no header leaves
-pub simple-same : (ws : List ℕ) (at room : ℕ) (m f l : Bool) → isHeader (typeAt ws at) ≡ false → firstFault (check m 6 ∷ check f 7 ∷ check (leb (sizeAt ws at) 65535) 8 ∷ check l 11 ∷ []) ≡ firstFault (check m 6 ∷ check f 7 ∷ check (extentOk ws at room) 8 ∷ check l 11 ∷ check (storedNameOk ws at) 12 ∷ [])
+pub simple-same : (ws : List ℕ) (at room : ℕ) (m f l : Bool) → isHeader (typeAt ws at) ≡ false →
+    firstFault (check m 6 ∷ check f 7 ∷ check (leb (sizeAt ws at) 65535) 8 ∷ check l 11 ∷ [])
+    ≡ firstFault (check m 6 ∷ check f 7 ∷ check (extentOk ws at room) 8 ∷ check l 11 ∷ check (storedNameOk ws at) 12 ∷ [])
 simple-same ws at room m f l h =
     go m f (leb (sizeAt ws at) 65535) l
     ∙ ap (λ (b : Bool). firstFault (check m 6 ∷ check f 7 ∷ check b 8 ∷ check l 11 ∷ check true 12 ∷ [])) (sym (extent-simple ws at room h))

@@ -1,4 +1,4 @@
--- The attribute part of an element (document 01, "Linkages and names").
+-- The attribute part of an element (RULES.md, "Attribute linkages").
 use Prim.Native.Nat.{ℕ, _+_}
 use mathlib.Core.List.{List}
 use mathlib.Core.Bool.{Bool, not, _&&_, _||_}

@@ -1,4 +1,4 @@
--- The rules of one element, in document 01's order of checks (3, 4, 5, 10, 6, 7, 8, 11, 12), apart from its components.
+-- The rules of one element, in their order (RULES.md, "Order of checks": 3, 4, 5, 10, 6, 7, 8, 11, 12), apart from its components.
 -- An element starts at the place `at`, its bound is the place `bound`, `under` is the type of its direct header (0 at
 -- the top) and `depth` how many headers stand above it.
 use Prim.Native.Nat.{ℕ, _+_, _-_, _≤_}

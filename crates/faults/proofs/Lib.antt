@@ -1,1 +1,5 @@
-pub mod Exact
+pub mod ExactMarks
+pub mod Depths
+pub mod Inserting
+pub mod ExactInserts
+pub mod ExactReversals

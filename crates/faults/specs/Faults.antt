@@ -1,5 +1,5 @@
 -- When a mark or a rename is refused, by what was found at its place, not by the list of all elements, and whether what
--- was found stands under a header. On an accepted file these are edits' specs/Allowed (proofs/Exact). ws are the used
+-- was found stands under a header. On an accepted file these are edits' specs/Allowed (proofs/ExactMarks). ws are the used
 -- words, found is what starts at the place p.
 use Prim.Native.Nat.{ℕ}
 use mathlib.Core.List.{List, [], _∷_}

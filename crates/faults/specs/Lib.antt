@@ -1,1 +1,3 @@
 pub mod Faults
+pub mod Inserting
+pub mod Reversing

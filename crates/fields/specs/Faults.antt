@@ -1,4 +1,4 @@
--- The checks of what is handed to the writer (document 01, "Writing"), in their order.
+-- The checks of what is handed to the writer (RULES.md, "Writing"), in their order.
 use Prim.Native.Nat.{ℕ, _*_, _%_}
 use mathlib.Core.Bool.{Bool, true, cond, not, _&&_, _||_}
 use mathlib.Core.List.{List, [], _∷_}

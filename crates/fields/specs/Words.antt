@@ -1,4 +1,4 @@
--- The words of an element of type 3, 4, 6 or 11 (document 01, "The element header" and "Writing"), by its header fields,
+-- The words of an element of type 3, 4, 6 or 11 (RULES.md, "Element header" and "Writing"), by its header fields,
 -- its points (a list of coordinates) and the bytes of its tail, in a file of 2 or 3 dimensions.
 use Prim.Native.Nat.{ℕ, _+_, _-_, _*_, _/_, _%_}
 use mathlib.Core.Bool.{cond}

@@ -1,5 +1,5 @@
-// The header fields of an element of type 3, 4, 6 or 11, and the checks of what is handed to the writer, in document
-// 01's order. The definitions are in specs/: Words (an element's words), Faults (the checks).
+// The header fields of an element of type 3, 4, 6 or 11, and the checks of what is handed to the writer, in their
+// order. The definitions are in specs/: Words (an element's words), Faults (the checks).
 ghost use mathlib.Core.Path.{_≡_};
 ghost use mathlib.Core.Bool.{true};
 ghost use lib.ListN.{length};

@@ -1,5 +1,5 @@
 -- Each way on and out of judge_element and judge_list keeps its contract, by the laws of judging.
-use Prim.Native.Nat.{ℕ, zero, suc, _+_, _-_, _≤_, _<_, max}
+use Prim.Native.Nat.{ℕ, suc, _+_, _-_, _≤_, _<_, max}
 use mathlib.Core.Path.{_≡_, refl, sym, _∙_, subst}
 use mathlib.Core.Bool.{Bool, true, false, cond, _&&_, _||_, false≢true}
 use mathlib.Core.List.{List}
@@ -14,13 +14,13 @@ use Rattle.elements.specs.Rules.{countOk, HeadRead}
 use Rattle.elements.specs.declared.Head.{Head}
 use Rattle.elements.specs.declared.Head.the-variants.{Bad, Plain, Complex}
 use Rattle.elements.proofs.Laws.{Checked, head-means}
-use Rattle.ends.specs.declared.Stop.the-variants.{More}
+use Rattle.files.specs.declared.Stop.the-variants.{More}
 use Rattle.files.specs.declared.Verdict.{Verdict}
 use Rattle.files.specs.declared.Verdict.the-variants.{Good, Fault}
 use Rattle.files.specs.declared.Progress.the-variants.{Stopped, Halted, Broken}
-use Rattle.ends.specs.Ends.{stopOf}
+use Rattle.files.specs.Ends.{stopOf}
 use Rattle.files.specs.Reach.{stopsAfter}
-use Rattle.files.specs.Progress.{IsElement, ElementJudged, ListJudged, GoodAt, Steps, depthOf, Gone, Progressed}
+use Rattle.files.specs.Progress.{IsElement, ElementJudged, listIn, tally, stopIn, ElementIs, ListJudged, GoodAt, Run, stopsIn, GoodIn, Steps, depthOf, Gone, Progressed}
 use Rattle.files.proofs.Laws.{passed-none, passed-more, element-plain, element-complex, element-counted, element-miscounted}
 
 ---- what stands at an element's head
@@ -57,25 +57,29 @@ module _ {dim depth under : ℕ} {s : List ℕ} {at bound : ℕ} {h : Head} (hea
   pub more-complex : {inner end : ℕ} → h ≡ Complex inner end → stopOf depth (words s) at bound ≡ More
   more-complex e = stop-head _ _ _ _ _ _ (head-means dim depth under (words s) at bound _ (sym (head .is) ∙ e) .0)
 
-  module _ {inner end type : ℕ} {v : Verdict} (e : h ≡ Complex inner end) (t : type ≡ typeAt (words s) at) (l : ListJudged dim (depth + 1) type s inner end v) where
+  module _ {inner end type : ℕ} {v : Verdict} (e : h ≡ Complex inner end) (t : type ≡ typeAt (words s) at) (l : ListJudged (listIn dim (depth + 1) type s inner end) v) where
     pub fault-beneath : {n p : ℕ} → v ≡ Fault n p → IsElement dim depth under (words s) at bound (Fault n p)
     fault-beneath f =
         let w = rw e at (head .within) in
         element-complex _ _ _ _ _ _ _ _ _ (sym (head .is) ∙ e) (omega arith) (rw (f, t) at (l .is))
 
     module _ {next elements deepest direct : ℕ} {b : Bool} (g : v ≡ Good next elements deepest direct) (o : b ≡ countOk (words s) at direct) where
-      pub good-complex : {m : ℕ} → b ≡ true → m ≡ max depth deepest → ElementJudged dim depth under s at bound (Good end (1 + elements) m 1)
+      pub good-complex : {m : ℕ} → b ≡ true → m ≡ max depth deepest → ElementJudged (listIn dim depth under s at bound) (Good end (1 + elements) m 1)
       good-complex y q =
           let w = rw e at (head .within) in
-          let u = rw g at (l .within) in (
-            rw q (record {
+          let u = rw g at (l .within) in
+          record {
+            good = rw q (record {
               more = more-complex e;
               good = element-counted _ _ _ _ _ _ _ _ _ _ _ _ (sym (head .is) ∙ e) (omega arith) (rw (g, t) at (l .is)) (sym o ∙ y);
               on = omega arith;
               by = omega arith;
-            }),
-            (refl, (omega arith, (omega arith, omega arith))),
-          )
+            });
+            one = refl;
+            itself = omega arith;
+            deep = omega arith;
+            words-each = omega arith;
+          }
 
       pub fault-count : b ≡ false → IsElement dim depth under (words s) at bound (Fault 9 at)
       fault-count y =
@@ -110,19 +114,14 @@ module _ (ws : List ℕ) (until : ℕ) (each : Bool) (at next : ℕ) where
 pub as-bound : {bound last n : ℕ} → last ≡ cond (leb bound n) bound n → bound ≤ n → last ≡ bound
 as-bound {bound} {last} {n} e h = rw (le-leb bound n h) at e
 
-steps-on : (dim depth under : ℕ) (ws : List ℕ) (bound until : ℕ) (each : Bool) (k at here next e d : ℕ) → Steps dim depth under ws bound until each k at here →
-    GoodAt dim depth under ws bound here next e d → stopsAfter ws until each here next ≡ false → Steps dim depth under ws bound until each (suc k) at next
-steps-on dim depth under ws bound until each zero at here next e d s g n = (next, e, d, (subst (λ (a : ℕ). GoodAt dim depth under ws bound a next e d) (sym s) g, (subst (λ (a : ℕ). stopsAfter ws until each a next ≡ false) (sym s) n, refl)))
-steps-on dim depth under ws bound until each (suc k) at here next e d (a, e', d', (g', (n', s))) g n = (a, e', d', (g', (n', steps-on dim depth under ws bound until each k a here next e d s g n)))
-
 -- the invariant: `below` elements and the greatest depth `deepest` are those beneath the `direct` ones
-pub record Going (dim depth under : ℕ) (s : List ℕ) (at bound until : ℕ) (each : Bool) (here below deepest direct : ℕ) : Type 0 where
-  pub gone : Gone dim depth under s at bound until each here (direct + below) (depthOf direct depth deepest) direct
+pub record Going (run : Run) (here below deepest direct : ℕ) : Type 0 where
+  pub gone : Gone run here (tally (direct + below) (depthOf direct (run .list .depth) deepest) direct)
   pub fresh : direct ≡ 0 → deepest ≡ 0
 
-pub going-none : {dim depth under : ℕ} {s : List ℕ} {at bound until : ℕ} {each : Bool} → Going dim depth under s at bound until each at 0 0 0
-going-none = record {
-  gone = record { inside = omega arith; words-each = omega arith; direct = omega arith; none = λ e. (refl, refl); passed = passed-none _ _ _ _ _ _; steps = refl };
+pub going-none : {run : Run} → Going run (run .list .at) 0 0 0
+going-none {run} = record {
+  gone = record { inside = omega arith; words-each = omega arith; direct = omega arith; none = λ e. (refl, refl); passed = passed-none (run .list); steps = refl };
   fresh = λ e. refl;
 }
 
@@ -137,50 +136,37 @@ depth-more k depth deepest d f = go (eqb k 0) refl
     go true e = let z = f (eqb-true k 0 e) in omega arith
     go false e = omega arith
 
-module _ {dim depth under : ℕ} {s : List ℕ} {at bound until : ℕ} {each : Bool} {here below deepest direct : ℕ}
-    (g : Going dim depth under s at bound until each here below deepest direct) where
-  pub going-halted : {d n : ℕ} {h : Head} → HeadRead dim depth under s here bound h → h ≡ Bad n → d ≡ depthOf direct depth deepest →
-      Progressed dim depth under s at bound until each (Halted n here (direct + below) d direct)
-  going-halted head e q = (rw q (g .gone), sym (head .is) ∙ e)
+module _ {run : Run} {here below deepest direct : ℕ} (g : Going run here below deepest direct) where
+  pub going-halted : {d n : ℕ} {h : Head} → HeadRead (run .list .dim) (run .list .depth) (run .list .under) (run .list .file) here (run .list .bound) h → h ≡ Bad n →
+      d ≡ depthOf direct (run .list .depth) deepest → Progressed run (Halted n here (direct + below) d direct)
+  going-halted head e q = record { gone = rw q (g .gone); head = sym (head .is) ∙ e }
 
-  pub going-broken : {n p : ℕ} → stopOf depth (words s) here bound ≡ More → IsElement dim depth under (words s) here bound (Fault n p) →
-      Progressed dim depth under s at bound until each (Broken n p)
-  going-broken m f = record { here = here; elements = _; deepest = _; before = direct; gone = g .gone; more = m; fault = f }
+  pub going-broken : {n p : ℕ} → stopIn (run .list) here ≡ More → ElementIs (run .list) here (Fault n p) →
+      Progressed run (Broken n p)
+  going-broken m f = record { here = here; before = _; gone = g .gone; more = m; fault = f }
 
   -- one more element
-  module _ {next e d : ℕ} (o : GoodAt dim depth under (words s) bound here next e d) where
-    pub going-stopped : {n m : ℕ} → stopsAfter (words s) until each here next ≡ true → n ≡ direct + below + e → m ≡ max (depthOf direct depth deepest) d →
-        Progressed dim depth under s at bound until each (Stopped next here n m (direct + 1))
-    going-stopped h a q = record {
-      elements = _;
-      deepest = _;
-      before = direct;
-      own = _;
-      depth-own = _;
-      gone = g .gone;
-      good = o;
-      stops = h;
-      all = a;
-      deep = q;
-      counted = refl;
-    }
+  module _ {next e d : ℕ} (o : GoodIn (run .list) here next e d) where
+    pub going-stopped : {n m : ℕ} → stopsIn run here next ≡ true → n ≡ direct + below + e → m ≡ max (depthOf direct (run .list .depth) deepest) d →
+        Progressed run (Stopped next here n m (direct + 1))
+    going-stopped h a q = record { before = _; own = _; depth-own = _; gone = g .gone; good = o; stops = h; all = a; deep = q; counted = refl }
 
-    pub going-on : {b m : ℕ} → stopsAfter (words s) until each here next ≡ false → direct + 1 + b ≡ direct + below + e → max depth m ≡ max (depthOf direct depth deepest) d →
-        here + e ≤ next → Going dim depth under s at bound until each next b m (direct + 1)
+    pub going-on : {b m : ℕ} → stopsIn run here next ≡ false → direct + 1 + b ≡ direct + below + e → max (run .list .depth) m ≡ max (depthOf direct (run .list .depth) deepest) d →
+        here + e ≤ next → Going run next b m (direct + 1)
     going-on {b = b} {m = m} h a q w = record {
       gone = record {
         inside = let i = g .gone .inside in let l = o .by in omega arith;
         words-each = let i = g .gone .words-each in omega arith;
         direct = omega arith;
         none = λ z. absurd (omega arith);
-        passed = rw (a, depth-some direct depth m, q) (passed-more _ _ _ _ _ _ _ _ _ _ (g .gone .passed) _ _ _ _ (o .more) (o .good) (o .on));
-        steps = let z : suc direct ≡ direct + 1 = omega arith in subst (λ (m : ℕ). Steps dim depth under (words s) bound until each m at next) z (steps-on _ _ _ _ _ _ _ direct at here next _ _ (g .gone .steps) o h);
+        passed = rw (a, depth-some direct (run .list .depth) m, q) (passed-more (run .list) here _ (g .gone .passed) (o .more) next e d 1 (o .good) (o .on));
+        steps = let z : suc direct ≡ direct + 1 = omega arith in subst (λ (m : ℕ). Steps run m next) z (here, e, d, (g .gone .steps, (o, h)));
       };
       fresh = λ z. absurd (omega arith);
     }
 
-  pub depth-plain : {m : ℕ} → m ≡ max depth deepest → m ≡ max (depthOf direct depth deepest) depth
-  depth-plain q = let w = depth-more direct depth deepest 0 (g .fresh) in omega arith
+  pub depth-plain : {m : ℕ} → m ≡ max (run .list .depth) deepest → m ≡ max (depthOf direct (run .list .depth) deepest) (run .list .depth)
+  depth-plain q = let w = depth-more direct (run .list .depth) deepest 0 (g .fresh) in omega arith
 
-  pub depth-complex : {m : ℕ} (d : ℕ) → depth ≤ d → m ≡ max deepest d → max depth m ≡ max (depthOf direct depth deepest) d
-  depth-complex d l q = let w = depth-more direct depth deepest d (g .fresh) in omega arith
+  pub depth-complex : {m : ℕ} (d : ℕ) → run .list .depth ≤ d → m ≡ max deepest d → max (run .list .depth) m ≡ max (depthOf direct (run .list .depth) deepest) d
+  depth-complex d l q = let w = depth-more direct (run .list .depth) deepest d (g .fresh) in omega arith

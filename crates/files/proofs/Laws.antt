@@ -15,15 +15,15 @@ use Rattle.headers.specs.Header.{typeAt}
 use Rattle.elements.specs.Rules.{headOf, countOk}
 use Rattle.elements.specs.declared.Head.{Head}
 use Rattle.elements.specs.declared.Head.the-variants.{Bad, Plain, Complex}
-use Rattle.ends.specs.declared.Stop.{Stop}
-use Rattle.ends.specs.declared.Stop.the-variants.{More, Done, Lacking}
+use Rattle.files.specs.declared.Stop.{Stop}
+use Rattle.files.specs.declared.Stop.the-variants.{More, Done, Lacking}
 use Rattle.files.specs.declared.Verdict.{Verdict}
 use Rattle.files.specs.declared.Verdict.the-variants.{Good, Fault}
 use Rattle.files.specs.declared.Judged.the-variants.{Refused}
-use Rattle.ends.specs.Ends.{stopOf}
+use Rattle.files.specs.Ends.{stopOf}
 use Rattle.files.specs.Judge.{addTo, andThen, enclose, elementBy, listBy, elementFrom, listFrom, elementOf, topOf, answer, judgeOf}
 use Rattle.limits.specs.Limits.{callOk}
-use Rattle.files.specs.Progress.{IsElement, IsList, ListJudged, Passed}
+use Rattle.files.specs.Progress.{IsElement, IsList, ListIn, listIn, Tally, tally, stopIn, ElementIs, RestIs, ListJudged, Passed}
 
 ---- an element, by its head
 
@@ -129,7 +129,7 @@ add-to-twice e d k e' d' k' (Good next a b c) = simp (add-assoc, max-assoc)
 add-to-twice e d k e' d' k' (Fault n p) = refl
 
 -- a header without components: its list ends where it begins
-pub list-none : (dim depth under : ℕ) (s : List ℕ) {inner end : ℕ} → inner ≡ end → ListJudged dim (depth + 1) under s inner end (Good end 0 0 0)
+pub list-none : (dim depth under : ℕ) (s : List ℕ) {inner end : ℕ} → inner ≡ end → ListJudged (listIn dim (depth + 1) under s inner end) (Good end 0 0 0)
 unfolding stopOf
 list-none dim depth under s {inner} {end} e =
     rw e (record {
@@ -137,28 +137,33 @@ list-none dim depth under s {inner} {end} e =
       within = omega arith;
     })
 
-pub passed-none : (dim depth under : ℕ) (ws : List ℕ) (at bound : ℕ) → Passed dim depth under ws at at bound 0 0 0
-passed-none dim depth under ws at bound r l n lt = add-to-zero r ∙ l n lt
+---- the elements of a list that were passed
 
-module _ (dim depth under : ℕ) (ws : List ℕ) (at here bound e d k : ℕ) (passed : Passed dim depth under ws at here bound e d k) where
-  pub passed-done : stopOf depth ws here bound ≡ Done → IsList dim depth under ws at bound (Good here e d k)
-  passed-done h n lt = add-to-none here e d k ∙ passed (Good here 0 0 0) (list-done dim depth under ws here bound h) n lt
+pub passed-none : (l : ListIn) → Passed l (l .at) (tally 0 0 0)
+passed-none l r i n lt = add-to-zero r ∙ i n lt
 
-  pub passed-lacking : stopOf depth ws here bound ≡ Lacking → IsList dim depth under ws at bound (Fault 2 here)
-  passed-lacking h = passed (Fault 2 here) (list-lacking dim depth under ws here bound h)
+module _ (l : ListIn) (here : ℕ) (t : Tally) (passed : Passed l here t) where
+  pub passed-done : stopIn l here ≡ Done → RestIs l (l .at) (Good here (t .elements) (t .deepest) (t .direct))
+  passed-done h n lt =
+      add-to-none here (t .elements) (t .deepest) (t .direct)
+      ∙ passed (Good here 0 0 0) (list-done (l .dim) (l .depth) (l .under) (words (l .file)) here (l .bound) h) n lt
 
-  pub passed-refused : (n p : ℕ) → stopOf depth ws here bound ≡ More → IsElement dim depth under ws here bound (Fault n p) →
-      IsList dim depth under ws at bound (Fault n p)
-  passed-refused n p h l = passed (Fault n p) (list-refused dim depth under ws here bound n p h l)
+  pub passed-lacking : stopIn l here ≡ Lacking → RestIs l (l .at) (Fault 2 here)
+  passed-lacking h = passed (Fault 2 here) (list-lacking (l .dim) (l .depth) (l .under) (words (l .file)) here (l .bound) h)
 
-  passed-on : (next e' d' k' : ℕ) → stopOf depth ws here bound ≡ More → IsElement dim depth under ws here bound (Good next e' d' k') →
-      here < next → Passed dim depth under ws at next bound (e + e') (max d d') (k + k')
-  passed-on next e' d' k' h l a r rest n lt =
-      add-to-twice e d k e' d' k' r ∙ passed (addTo e' d' k' r) (list-more dim depth under ws here bound next e' d' k' r h l a rest) n lt
+  -- an element stands there
+  module _ (more : stopIn l here ≡ More) where
+    pub passed-refused : (n p : ℕ) → ElementIs l here (Fault n p) → RestIs l (l .at) (Fault n p)
+    passed-refused n p e = passed (Fault n p) (list-refused (l .dim) (l .depth) (l .under) (words (l .file)) here (l .bound) n p more e)
 
-  pub passed-more : (next e' d' k' : ℕ) → stopOf depth ws here bound ≡ More → IsElement dim depth under ws here bound (Good next e' d' k') →
-      here < next → Passed dim depth under ws at next bound (e + e') (max d d') (k + 1)
-  passed-more next e' d' k' h l a = rw (element-direct dim depth under ws here bound next e' d' k' l) at (passed-on next e' d' k' h l a)
+    passed-on : (next e d k : ℕ) → ElementIs l here (Good next e d k) → here < next → Passed l next (tally (t .elements + e) (max (t .deepest) d) (t .direct + k))
+    passed-on next e d k g a r rest n lt =
+        add-to-twice (t .elements) (t .deepest) (t .direct) e d k r
+        ∙ passed (addTo e d k r) (list-more (l .dim) (l .depth) (l .under) (words (l .file)) here (l .bound) next e d k r more g a rest) n lt
+
+    pub passed-more : (next e d k : ℕ) → ElementIs l here (Good next e d k) → here < next → Passed l next (tally (t .elements + e) (max (t .deepest) d) (t .direct + 1))
+    passed-more next e d k g a =
+        rw (element-direct (l .dim) (l .depth) (l .under) (words (l .file)) here (l .bound) next e d k g) at (passed-on next e d k g a)
 
 ---- the element of a place and the answer of a file
 

@@ -1,4 +1,4 @@
--- Judging (document 01, "Complex elements" and the order of checks): an element, then its components in order, then
+-- Judging (RULES.md, "Complex elements", "Order of checks"): an element, then its components in order, then
 -- its count; the first fault decides. `ws` are the words of the file, `under` is the type of the direct header, 0 at
 -- the top.
 use Prim.Native.Nat.{ℕ, zero, suc, _+_, _-_, _*_, max}
@@ -11,9 +11,9 @@ use Rattle.elements.specs.Rules.{headOf, countOk}
 use Rattle.elements.specs.declared.Head.{Head}
 use Rattle.elements.specs.declared.Head.the-variants.{Bad, Plain, Complex}
 use Rattle.limits.specs.Limits.{callOk}
-use Rattle.ends.specs.Ends.{stopOf}
-use Rattle.ends.specs.declared.Stop.{Stop}
-use Rattle.ends.specs.declared.Stop.the-variants.{More, Done, Lacking}
+use Rattle.files.specs.Ends.{stopOf}
+use Rattle.files.specs.declared.Stop.{Stop}
+use Rattle.files.specs.declared.Stop.the-variants.{More, Done, Lacking}
 use Rattle.files.specs.declared.Verdict.{Verdict}
 use Rattle.files.specs.declared.Verdict.the-variants.{Good, Fault}
 use Rattle.files.specs.declared.Judged.{Judged}

@@ -10,9 +10,9 @@ use Rattle.headers.specs.Header.{typeAt}
 use Rattle.elements.specs.Rules.{headOf}
 use Rattle.elements.specs.declared.Head.{Head}
 use Rattle.elements.specs.declared.Head.the-variants.{Bad, Plain, Complex}
-use Rattle.ends.specs.Ends.{stopOf}
-use Rattle.ends.specs.declared.Stop.{Stop}
-use Rattle.ends.specs.declared.Stop.the-variants.{More, Done, Lacking}
+use Rattle.files.specs.Ends.{stopOf}
+use Rattle.files.specs.declared.Stop.{Stop}
+use Rattle.files.specs.declared.Stop.the-variants.{More, Done, Lacking}
 
 -- an element: where it starts, where its extent ends, its depth, and its direct header's place (none at the top)
 pub record Spot : Type 0 where
@@ -28,13 +28,13 @@ deepest (x ∷ xs) = max (x .depth) (deepest xs)
 
 -- an element, the elements under it, then those that follow it in its list
 abbrev pub spotsBy : Stop → Head → ℕ → ℕ → Option ℕ → (ℕ → ℕ → List Spot) → (ℕ → List Spot) → List Spot
-spotsBy Done h at depth header under rest = []
-spotsBy Lacking h at depth header under rest = []
-spotsBy More (Bad n) at depth header under rest = []
-spotsBy More (Plain next) at depth header under rest =
+spotsBy Done h at depth header inside rest = []
+spotsBy Lacking h at depth header inside rest = []
+spotsBy More (Bad n) at depth header inside rest = []
+spotsBy More (Plain next) at depth header inside rest =
     record { place = at; end = next; depth = depth; header = header } ∷ rest next
-spotsBy More (Complex inner end) at depth header under rest =
-    record { place = at; end = end; depth = depth; header = header } ∷ (under inner end ++ rest end)
+spotsBy More (Complex inner end) at depth header inside rest =
+    record { place = at; end = end; depth = depth; header = header } ∷ (inside inner end ++ rest end)
 
 -- the first number bounds how many elements follow or stand under one another; every element has a word
 unfoldable pub spotsFrom : ℕ → ℕ → ℕ → ℕ → Option ℕ → List ℕ → ℕ → ℕ → List Spot

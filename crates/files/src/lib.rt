@@ -1,6 +1,7 @@
 // Judging a whole file: judging an element that is a header and judging a list of components call each other; the elements
 // of one list are a loop, so that the depth of calls is that of nesting. The rules of one element's own words are
-// elements::head_at. Definitions: specs/Judge, specs/Reach; the inner contracts of the two are in specs/Progress.
+// elements::head_at, where a list ends is ends::stop_at. Definitions: specs/Judge, specs/Reach; the inner contracts of
+// the two are in specs/Progress.
 ghost use mathlib.Core.Path.{_≡_};
 ghost use mathlib.Core.Bool.{false, cond, _||_};
 ghost use Prim.Native.Nat.{ℕ, _+_, _/_, _≤_, _<_, _^_, max};
@@ -12,7 +13,16 @@ ghost use Rattle.elements.specs.Rules.{countOk, HeadRead};
 ghost use Rattle.elements.specs.declared.Head.the-variants.{Complex};
 ghost use Rattle.files.specs.Judge.{elementOf, judgeOf};
 ghost use Rattle.files.specs.Reach.{reachedOf};
-ghost use Rattle.files.specs.Progress.{depthOf, ElementJudged, ListJudged, Progressed};
+ghost use Rattle.files.specs.Progress.{depthOf, listIn, ElementJudged, ListJudged, runOf, Progressed};
+
+mod ends;
+
+// What stands where an element of a list would begin.
+pub enum Stop {
+    More,
+    Done,
+    Lacking,
+}
 
 // What an element or a list of elements is judged to be: where it ends, its elements at all depths, the greatest
 // depth and how many of them stand in the list itself; or a number and a place.
@@ -101,7 +111,7 @@ pub enum Reached {
         place: usize,
         before: usize,
     },
-    Fault {
+    Refused {
         number: usize,
         place: usize,
     },
@@ -119,7 +129,7 @@ fn depth_of(direct: usize, depth: usize, below: usize) -> usize
 
 // A whole list, by how far its elements were judged.
 fn closed(s: &[u8], bound: usize, depth: usize, progress: Progress) -> Verdict
-    ensures { λ r. ⌜ ((dim under at : ℕ) → Progressed dim depth under (now (s .entry)) at bound bound false progress → ListJudged dim depth under (now (s .entry)) at bound r) ⌝ }
+    ensures { λ r. ⌜ ((dim under at : ℕ) → Progressed (runOf (listIn dim depth under (now (s .entry)) at bound) bound false) progress → ListJudged (listIn dim depth under (now (s .entry)) at bound) r) ⌝ }
 {
     match progress {
         Progress::Stopped {
@@ -142,14 +152,14 @@ fn closed(s: &[u8], bound: usize, depth: usize, progress: Progress) -> Verdict
             deepest,
             direct,
         } => match ends::stop_at(s, place, bound, depth) {
-            ends::Stop::Done => Verdict::Good {
+            Stop::Done => Verdict::Good {
                 next: place,
                 elements,
                 deepest,
                 direct,
             },
-            ends::Stop::Lacking => Verdict::Fault { number: 2, place },
-            ends::Stop::More => Verdict::Fault { number, place },
+            Stop::Lacking => Verdict::Fault { number: 2, place },
+            Stop::More => Verdict::Fault { number, place },
         },
     }
 }
@@ -169,7 +179,7 @@ fn count_ok(s: &[u8], at: usize, t: usize, direct: usize) -> bool
 // components; one that has none needs no list.
 fn judge_element(s: &[u8], at: usize, inner: usize, end: usize, depth: usize, dim: usize) -> Verdict
     requires { ⌜ (at + 20 ≤ inner) × ((inner ≤ end) × ((depth ≤ 8) × (end ≤ length (now s) / 2))) ⌝ }
-    ensures { λ r. ⌜ ((under bound : ℕ) → HeadRead dim depth under (now (s .entry)) at bound (Complex inner end) → ElementJudged dim depth under (now (s .entry)) at bound r) ⌝ }
+    ensures { λ r. ⌜ ((under bound : ℕ) → HeadRead dim depth under (now (s .entry)) at bound (Complex inner end) → ElementJudged (listIn dim depth under (now (s .entry)) at bound) r) ⌝ }
 {
     let t = headers::type_at(s, at);
     if inner == end {
@@ -226,7 +236,7 @@ fn judge_list(
     each: bool,
 ) -> Progress
     requires { ⌜ bound ≤ length (now s) / 2 ⌝ }
-    ensures { λ r. ⌜ Progressed dim depth under (now (s .entry)) at bound until each r ⌝ }
+    ensures { λ r. ⌜ Progressed (runOf (listIn dim depth under (now (s .entry)) at bound) until each) r ⌝ }
 {
     let last = smaller(bound, s.len() / 2);
     let mut here = at;
@@ -294,7 +304,7 @@ fn judge_list(
 // The elements of one list in order, to its end or to the first fault.
 fn judge_all(s: &[u8], at: usize, bound: usize, depth: usize, under: usize, dim: usize) -> Verdict
     requires { ⌜ bound ≤ length (now s) / 2 ⌝ }
-    ensures { λ r. ⌜ ListJudged dim depth under (now (s .entry)) at bound r ⌝ }
+    ensures { λ r. ⌜ ListJudged (listIn dim depth under (now (s .entry)) at bound) r ⌝ }
 {
     let progress = judge_list(s, at, bound, depth, under, dim, bound, false);
     closed(s, bound, depth, progress)
@@ -318,7 +328,7 @@ pub fn reach(s: &[u8], at: usize, dim: usize, until: usize, each: bool) -> Reach
             end: next,
             before: direct - 1,
         },
-        Progress::Broken { number, place } => Reached::Fault { number, place },
+        Progress::Broken { number, place } => Reached::Refused { number, place },
         Progress::Halted {
             number,
             place,
@@ -326,12 +336,12 @@ pub fn reach(s: &[u8], at: usize, dim: usize, until: usize, each: bool) -> Reach
             deepest: _,
             direct,
         } => match ends::stop_at(s, place, bound, 0) {
-            ends::Stop::Done => Reached::End {
+            Stop::Done => Reached::End {
                 place,
                 before: direct,
             },
-            ends::Stop::Lacking => Reached::Fault { number: 2, place },
-            ends::Stop::More => Reached::Fault { number, place },
+            Stop::Lacking => Reached::Refused { number: 2, place },
+            Stop::More => Reached::Refused { number, place },
         },
     }
 }

@@ -1,3 +1,4 @@
 pub mod Order
 pub mod Named
 pub mod Looks
+pub mod Refusals

@@ -16,17 +16,17 @@ use Rattle.headers.specs.Header.{typeAt, sizeAt}
 use Rattle.kinds.specs.Kinds.{isHeader}
 use Rattle.names.specs.Names.{packed}
 use Rattle.names.specs.declared.Packed.the-variants as text
-use Rattle.ends.specs.Ends.{stopOf}
+use Rattle.files.specs.Ends.{stopOf}
 use Rattle.files.specs.Judge.{elementOf, judgeOf}
 use Rattle.limits.specs.Limits.{callOk}
 use Rattle.files.specs.Reach.{reachedOf, stopsAfter}
 use Rattle.files.specs.declared.Reached.{Reached}
 use Rattle.files.specs.declared.Reached.the-variants as reached
 use Rattle.files.specs.Spots.{Spot, spotsOf}
-use Rattle.ends.specs.declared.Stop.the-variants.{More, Done}
+use Rattle.files.specs.declared.Stop.the-variants.{More, Done}
 use Rattle.files.specs.declared.Verdict.the-variants.{Good}
 use Rattle.files.specs.declared.Judged.the-variants as judged
-use Rattle.grammar.specs.Grammar.{Extent}
+use Rattle.grammar.proofs.Tests.{Extent}
 use Rattle.grammar.proofs.Forest.{nil, node, flat, num, spots}
 use Rattle.grammar.proofs.Stands.{stands-left}
 use Rattle.grammar.proofs.Rules.{own-type, own-size}
@@ -246,7 +246,7 @@ module _ {dim : ℕ} {s : List ℕ} {a b here : ℕ} {r : Found} (l : Searched d
       (omega arith, subst (λ v. Searched dim s a b next v) (passed-twice r k) (searched-plain (q .1) more good (no-header (words s) (length s / 2) at next goes))))
       here v (omega arith, subst (λ v. Searched dim s a b here v) (passed-none r) l) e
 
-  pub arrived-fault : {n p : ℕ} → reached.Fault n p ≡ reachedOf dim (words s) here (length s / 2) (length s / 2) true → found.Refused n p 0 ≡ searchOf dim s a b
+  pub arrived-fault : {n p : ℕ} → reached.Refused n p ≡ reachedOf dim (words s) here (length s / 2) (length s / 2) true → found.Refused n p 0 ≡ searchOf dim s a b
   arrived-fault e = search-refused dim s a b _ _ (searched-arrived _ e)
 
   few : {at : ℕ} {v : Found} → Searched dim s a b at v → callOk dim s ≡ true → (n : ℕ) → v ≡ passedBy r n → MayPass r n

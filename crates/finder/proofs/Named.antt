@@ -26,7 +26,7 @@ use Rattle.files.specs.declared.Judged.{Judged}
 use Rattle.files.specs.declared.Judged.the-variants as judged
 use Rattle.finder.specs.declared.Found.the-variants as found
 use Rattle.finder.specs.Finder.{hasName, hitIf, firstNamed, findBy, findOf}
-use Rattle.finder.specs.Answers.{NoneNamed, FirstAt, Finds, Stored}
+use Rattle.finder.specs.Meaning.{NoneNamed, FirstAt, Finds, Stored}
 
 ---- an element that has the name, by its type
 

@@ -1,4 +1,4 @@
--- The finder (document 01, "Linkages and names"): elements in file order, deleted ones too, up to the first type 1 or
+-- The finder (RULES.md, "Finder"): elements in file order, deleted ones too, up to the first type 1 or
 -- 2 with the name; its place, and how many were looked at, itself counted: its ordinal plus one.
 use Prim.Native.Nat.{ℕ, _+_}
 use mathlib.Core.List.{List, [], _∷_}

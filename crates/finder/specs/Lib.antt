@@ -1,3 +1,3 @@
 pub mod Finder
 pub mod Look
-pub mod Answers
+pub mod Meaning

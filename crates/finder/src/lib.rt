@@ -127,7 +127,7 @@ fn search(file: &[u8], dim: usize, first: usize, second: usize) -> Found
     let mut answer = refused(13, 0);
     loop {
         match files::reach(file, here, dim, bound, true) {
-            files::Reached::Fault { number, place } => return refused(number, place),
+            files::Reached::Refused { number, place } => return refused(number, place),
             files::Reached::End { place: _, before } => return past(answer, before),
             files::Reached::Element {
                 start: header,

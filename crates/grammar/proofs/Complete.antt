@@ -13,12 +13,12 @@ use Rattle.headers.specs.Header.{typeAt}
 use Rattle.kinds.specs.Kinds.{isHeader}
 use Rattle.elements.specs.Rules.{headOf}
 use Rattle.elements.specs.declared.Head.the-variants.{Plain, Complex}
-use Rattle.ends.specs.Ends.{stopOf}
+use Rattle.files.specs.Ends.{stopOf}
 use Rattle.files.specs.Judge.{elementFrom, listFrom}
 use Rattle.files.specs.Spots.{deepest, spotsFrom}
-use Rattle.ends.specs.declared.Stop.the-variants.{More, Done}
+use Rattle.files.specs.declared.Stop.the-variants.{More, Done}
 use Rattle.files.specs.declared.Verdict.the-variants.{Good}
-use Rattle.grammar.specs.Grammar.{Own, Extent}
+use Rattle.grammar.proofs.Tests.{OwnTests, Extent}
 use Rattle.grammar.proofs.Forest.{Forest, nil, node, flat, num, weight, Wf, spots, length-node, own-stands, components-stand, rest-stand, deepest-append}
 use Rattle.grammar.proofs.Stands.{Stands, stands-left, stands-right}
 use Rattle.elements.proofs.Laws.{fault-none, head-plain, head-complex}
@@ -36,7 +36,7 @@ none-under nil own e = refl
 none-under (node o k r) own e = absurd (omega arith)
 
 module _ (dim : ℕ) (ws : List ℕ) where
-  module _ {depth under : ℕ} {own : List ℕ} {inside n at : ℕ} (o : Own dim depth under own inside n) (s : Stands own at ws) (bound : ℕ) (l : at + (length own + inside) ≤ bound) where
+  module _ {depth under : ℕ} {own : List ℕ} {inside n at : ℕ} (o : OwnTests dim depth under own inside n) (s : Stands own at ws) (bound : ℕ) (l : at + (length own + inside) ≤ bound) where
     pub own-plain : isHeader (typeAt own 0) ≡ false → headOf dim depth under ws at bound ≡ Plain (at + length own)
     own-plain h =
         (head-plain dim depth under ws at bound (fault-none dim depth under ws at bound (own-checked o s bound l)) (ap isHeader (own-type o s) ∙ h))
@@ -49,7 +49,7 @@ module _ (dim : ℕ) (ws : List ℕ) where
 
   -- an element and those under it stand at a place, and end by the bound
   record Placed (depth under at bound : ℕ) (own : List ℕ) (k : Forest) : Type 0 where
-    rules : Own dim depth under own (length (flat k)) (num k)
+    rules : OwnTests dim depth under own (length (flat k)) (num k)
     first : Stands own at ws
     room : at + weight own k ≤ bound
 
@@ -129,7 +129,7 @@ module _ (dim : ℕ) (ws : List ℕ) where
       (list-complete depth under header (at + weight own k) bound r (w .2) (rest-stand own k r s) (subst (λ m. Ends depth ws m bound) (omega arith) x))
 
   -- one element with those under it
-  pub element-complete : (depth under at bound : ℕ) (own : List ℕ) (k : Forest) → Own dim depth under own (length (flat k)) (num k) →
+  pub element-complete : (depth under at bound : ℕ) (own : List ℕ) (k : Forest) → OwnTests dim depth under own (length (flat k)) (num k) →
       Wf dim (suc depth) (typeAt own 0) k → Stands (own ++ flat k) at ws → at + weight own k ≤ bound → (n : ℕ) → 2 * (bound - at) < n →
       elementFrom n dim depth under ws at bound
       ≡ Good (at + weight own k) (suc (length (spots (suc depth) (some at) (at + length own) k))) (max depth (deepest (spots (suc depth) (some at) (at + length own) k))) 1

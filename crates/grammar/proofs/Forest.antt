@@ -9,8 +9,11 @@ use native.Mathlib.Omega.{arith}
 use lib.ListN.{length, length-append}
 use Rattle.headers.specs.Header.{typeAt}
 use Rattle.files.specs.Spots.{Spot, deepest}
-use Rattle.grammar.specs.Grammar.{Own, Element, element, Components, no-more, more}
+use Rattle.grammar.specs.Own.{Own}
+use Rattle.grammar.specs.Grammar.{Element, element, Components, no-more, more}
 use Rattle.grammar.proofs.Stands.{Stands, stands-left, stands-right}
+use Rattle.grammar.proofs.Tests.{OwnTests}
+use Rattle.grammar.proofs.Meaning.{own-tests, tests-own}
 
 pub data Forest : Type 0 where
   nil : Forest
@@ -34,7 +37,7 @@ weight own k = length own + length (flat k)
 abbrev pub Wf : ℕ → ℕ → ℕ → Forest → Type 0
 Wf dim depth under nil = Unit {0}
 Wf dim depth under (node own k r) =
-    Own dim depth under own (length (flat k)) (num k) × Wf dim (suc depth) (typeAt own 0) k × Wf dim depth under r
+    OwnTests dim depth under own (length (flat k)) (num k) × Wf dim (suc depth) (typeAt own 0) k × Wf dim depth under r
 
 -- all elements in file order, the list starting at the place at
 abbrev pub spots : ℕ → Option ℕ → ℕ → Forest → List Spot
@@ -78,7 +81,7 @@ pub record Tree (dim depth under : ℕ) (header : Option ℕ) (at n : ℕ) (xs :
 pub record One (dim depth under : ℕ) (header : Option ℕ) (at : ℕ) (xs : List Spot) (ws : List ℕ) : Type 0 where
   pub own : List ℕ
   pub components : Forest
-  pub rules : Own dim depth under own (length (flat components)) (num components)
+  pub rules : OwnTests dim depth under own (length (flat components)) (num components)
   pub wf : Wf dim (suc depth) (typeAt own 0) components
   pub words : own ++ flat components ≡ ws
   pub read : record { place = at; end = at + length ws; depth = depth; header = header } ∷ spots (suc depth) (some at) (at + length own) components ≡ xs
@@ -90,7 +93,7 @@ one-of : {dim depth under : ℕ} {header : Option ℕ} {at n : ℕ} {xs ys : Lis
 one-of own inside e q o t = record {
   own = own;
   components = t .tree;
-  rules = rw (t .words, t .count) o;
+  rules = rw (t .words, t .count) (own-tests o);
   wf = t .wf;
   words = ap (λ l. own ++ l) (t .words) ∙ sym e;
   read = rw (t .read) (sym q);
@@ -125,5 +128,5 @@ tree-components dim depth under header at (node own k r) w =
     let n = at + length own in
     rw (← length-append own (flat k))
     (more (own ++ flat k) (flat r) _ _ (sym (append-assoc own (flat k) (flat r))) refl
-    (element (num k) own (flat k) _ refl refl (w .0) (tree-components dim (suc depth) (typeAt own 0) (some at) n k (w .1)))
+    (element (num k) own (flat k) _ refl refl (tests-own (w .0)) (tree-components dim (suc depth) (typeAt own 0) (some at) n k (w .1)))
     (tree-components dim depth under header (at + length (own ++ flat k)) r (w .2)))

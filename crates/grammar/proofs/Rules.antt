@@ -1,4 +1,4 @@
--- The rules of one element at a place are the grammar's `Own` of its own words: no fault is that every test passes, and
+-- The rules of one element at a place are the tests of its own words: no fault is that every test passes, and
 -- each test at the place is that of the words.
 use Prim.Native.Nat.{ℕ, _+_, _-_, _≤_}
 use mathlib.Core.Path.{_≡_, refl, sym, ap, _∙_, subst}
@@ -13,7 +13,7 @@ use Rattle.kinds.specs.Kinds.{isHeader}
 use Rattle.elements.specs.Rules.{fixedOk, extentOk, faultOf, headOf, countOk}
 use Rattle.elements.specs.declared.Head.{Head}
 use Rattle.elements.specs.declared.Head.the-variants.{Bad, Plain, Complex}
-use Rattle.grammar.specs.Grammar.{Own, Extent}
+use Rattle.grammar.proofs.Tests.{OwnTests, Extent}
 use Rattle.grammar.proofs.Stands.{Stands, stands-word}
 use Rattle.elements.proofs.Laws.{Checked, no-fault}
 use Rattle.grammar.proofs.Types.{plain-uncounted}
@@ -84,10 +84,10 @@ count-free ws at n h = rw (plain-uncounted (typeAt ws at) h) refl
 ---- from the grammar to the place
 
 -- an element has its first two words
-pub own-two : {dim depth under inside n : ℕ} {own : List ℕ} → Own dim depth under own inside n → 2 ≤ length own
+pub own-two : {dim depth under inside n : ℕ} {own : List ℕ} → OwnTests dim depth under own inside n → 2 ≤ length own
 own-two o = let z = o .size in omega arith
 
-module _ {dim depth under inside n : ℕ} {own ws : List ℕ} {at : ℕ} (o : Own dim depth under own inside n) (s : Stands own at ws) where
+module _ {dim depth under inside n : ℕ} {own ws : List ℕ} {at : ℕ} (o : OwnTests dim depth under own inside n) (s : Stands own at ws) where
   pub own-type : typeAt ws at ≡ typeAt own 0
   own-type = type-local own ws at s (o .size)
 
@@ -145,7 +145,7 @@ module _ {dim depth under : ℕ} {ws : List ℕ} {at bound : ℕ} (c : Checked d
   checked-fixed : fixedOk dim own 0 ≡ true
   checked-fixed = sym (fixed-local own ws at s own-sized dim) ∙ c .fixed
 
-  pub checked-own : (inside n : ℕ) → Extent (isHeader (typeAt own 0)) own inside n → countOk ws at n ≡ true → Own dim depth under own inside n
+  pub checked-own : (inside n : ℕ) → Extent (isHeader (typeAt own 0)) own inside n → countOk ws at n ≡ true → OwnTests dim depth under own inside n
   checked-own inside n x k =
       let w = first-local own ws at s own-sized in
       let z = extent-is ws at (bound - at) (c .extent) .0 in
@@ -164,12 +164,12 @@ module _ {dim depth under : ℕ} {ws : List ℕ} {at bound : ℕ} (c : Checked d
       }
 
   -- an element that is no header has nothing under it
-  pub plain-own : isHeader (typeAt ws at) ≡ false → Own dim depth under own 0 0
+  pub plain-own : isHeader (typeAt ws at) ≡ false → OwnTests dim depth under own 0 0
   plain-own h =
       checked-own 0 0 (subst (λ b. Extent b own 0 0) (sym h ∙ ap isHeader checked-type) (refl, refl)) (count-free ws at 0 h)
 
   -- a header's own words, where its extent has them and those inside
-  pub header-own : isHeader (typeAt ws at) ≡ true → (inside n : ℕ) → extentAt ws at ≡ length own + inside → countOk ws at n ≡ true → Own dim depth under own inside n
+  pub header-own : isHeader (typeAt ws at) ≡ true → (inside n : ℕ) → extentAt ws at ≡ length own + inside → countOk ws at n ≡ true → OwnTests dim depth under own inside n
   header-own h inside n e k =
       let x = checked-extent c h in
       let y = ap isHeader (sym checked-type) ∙ h in

@@ -14,15 +14,15 @@ use Rattle.headers.specs.Header.{typeAt, sizeAt}
 use Rattle.elements.specs.Rules.{headOf, countOk}
 use Rattle.elements.specs.declared.Head.{Head}
 use Rattle.elements.specs.declared.Head.the-variants.{Bad, Plain, Complex}
-use Rattle.ends.specs.Ends.{stopOf}
+use Rattle.files.specs.Ends.{stopOf}
 use Rattle.files.specs.Judge.{addTo, andThen, enclose, elementBy, listBy, elementFrom, listFrom}
 use Rattle.files.specs.Spots.{deepest}
-use Rattle.ends.specs.declared.Stop.{Stop}
-use Rattle.ends.specs.declared.Stop.the-variants.{More, Done, Lacking}
+use Rattle.files.specs.declared.Stop.{Stop}
+use Rattle.files.specs.declared.Stop.the-variants.{More, Done, Lacking}
 use Rattle.files.specs.declared.Verdict.{Verdict}
 use Rattle.files.specs.declared.Verdict.the-variants.{Good, Fault}
 use Rattle.files.proofs.Laws.{stop-more}
-use Rattle.grammar.specs.Grammar.{Own}
+use Rattle.grammar.proofs.Tests.{OwnTests}
 use Rattle.grammar.proofs.Forest.{Forest, nil, node, flat, num, weight, Wf, spots, length-node, deepest-append}
 use Rattle.grammar.proofs.Stands.{Stands, stands-nil, stands-part, stands-join}
 use Rattle.elements.proofs.Laws.{Checked}
@@ -97,7 +97,7 @@ module _ (dim : ℕ) (ws : List ℕ) where
   pub record ElementRead (depth under at bound next e d k : ℕ) : Type 0 where
     pub own : List ℕ
     pub components : Forest
-    pub rules : Own dim depth under own (length (flat components)) (num components)
+    pub rules : OwnTests dim depth under own (length (flat components)) (num components)
     pub wf : Wf dim (suc depth) (typeAt own 0) components
     pub stands : Stands (own ++ flat components) at ws
     pub last : at + weight own components ≡ next

@@ -12,15 +12,15 @@ use Rattle.headers.specs.Header.{typeAt}
 use Rattle.elements.specs.Rules.{headOf}
 use Rattle.elements.specs.declared.Head.{Head}
 use Rattle.elements.specs.declared.Head.the-variants.{Bad, Plain, Complex}
-use Rattle.ends.specs.Ends.{stopOf}
+use Rattle.files.specs.Ends.{stopOf}
 use Rattle.files.specs.Judge.{addTo, andThen, enclose, elementBy, listBy, elementFrom, listFrom, elementOf, judgeOf}
 use Rattle.limits.specs.Limits.{callOk}
-use Rattle.files.specs.Progress.{IsElement, Passed}
+use Rattle.files.specs.Progress.{IsElement, ListIn, listIn, tally, Passed}
 use Rattle.files.specs.Reach.{reachedIf, reachedBy, reachedFrom, reachedOf, stopsAfter}
 use Rattle.files.specs.declared.Reached.{Reached}
 use Rattle.files.specs.declared.Reached.the-variants as reached
-use Rattle.ends.specs.declared.Stop.{Stop}
-use Rattle.ends.specs.declared.Stop.the-variants.{More, Done, Lacking}
+use Rattle.files.specs.declared.Stop.{Stop}
+use Rattle.files.specs.declared.Stop.the-variants.{More, Done, Lacking}
 use Rattle.files.specs.declared.Verdict.{Verdict}
 use Rattle.files.specs.declared.Verdict.the-variants.{Good, Fault}
 use Rattle.files.specs.declared.Judged.the-variants.{Accepted, Refused}
@@ -96,25 +96,29 @@ module _ (dim : ℕ) (ws : List ℕ) where
 
 ---- the elements at the top up to a place
 
--- from the start to `here` stand e elements that are good, the deepest at depth d
+-- the list of a file's elements at the top
+abbrev pub topList : ℕ → List ℕ → ListIn
+topList dim s = listIn dim 0 0 s 0 (length s / 2)
+
+-- from the start to `here` stand good elements, which come to this tally
 pub record Judged (dim : ℕ) (s : List ℕ) (here : ℕ) : Type 0 where
   pub inside : here ≤ length s / 2
   pub elements : ℕ
   pub deepest : ℕ
   pub direct : ℕ
-  pub passed : Passed dim 0 0 (words s) 0 here (length s / 2) elements deepest direct
+  pub passed : Passed (topList dim s) here (tally elements deepest direct)
 
 pub judged-none : {dim : ℕ} {s : List ℕ} → Judged dim s 0
-judged-none = record { inside = omega arith; elements = 0; deepest = 0; direct = 0; passed = passed-none _ _ _ _ _ _ }
+judged-none {dim} {s} = record { inside = omega arith; elements = 0; deepest = 0; direct = 0; passed = passed-none (topList dim s) }
 
 module _ {dim : ℕ} {s : List ℕ} {here : ℕ} (j : Judged dim s here) where
   -- the marker, or the end of the file, stands there
   module _ (call : callOk dim s ≡ true) where
     pub judged-done : stopOf 0 (words s) here (length s / 2) ≡ Done → judgeOf dim s ≡ Accepted (j .elements) (j .deepest) here
-    judged-done h = sym (judge-top dim s (Good here (j .elements) (j .deepest) (j .direct)) call (passed-done _ _ _ _ _ _ _ _ _ _ (j .passed) h))
+    judged-done h = sym (judge-top dim s (Good here (j .elements) (j .deepest) (j .direct)) call (passed-done (topList dim s) here _ (j .passed) h))
 
     pub judged-lacking : stopOf 0 (words s) here (length s / 2) ≡ Lacking → judgeOf dim s ≡ Refused 2 here
-    judged-lacking h = sym (judge-top dim s (Fault 2 here) call (passed-lacking _ _ _ _ _ _ _ _ _ _ (j .passed) h))
+    judged-lacking h = sym (judge-top dim s (Fault 2 here) call (passed-lacking (topList dim s) here _ (j .passed) h))
 
   -- an element stands there
   module _ (more : stopOf 0 (words s) here (length s / 2) ≡ More) where
@@ -124,7 +128,7 @@ module _ {dim : ℕ} {s : List ℕ} {here : ℕ} (j : Judged dim s here) where
     pub judged-fault : (n p : ℕ) → callOk dim s ≡ true → Fault n p ≡ elementOf dim 0 0 (words s) here (length s / 2) → judgeOf dim s ≡ Refused n p
     judged-fault n p call q =
         sym (judge-top dim s (Fault n p) call
-        (passed-refused _ _ _ _ _ _ _ _ _ _ (j .passed) n p more (element-is dim (words s) 0 0 here (length s / 2) (Fault n p) bound-in q)))
+        (passed-refused (topList dim s) here _ (j .passed) more n p (element-is dim (words s) 0 0 here (length s / 2) (Fault n p) bound-in q)))
 
     module _ {next e d k : ℕ} (good : Good next e d k ≡ elementOf dim 0 0 (words s) here (length s / 2)) where
       pub judged-read : ElementRead dim (words s) 0 0 here (length s / 2) next e d k
@@ -140,7 +144,7 @@ module _ {dim : ℕ} {s : List ℕ} {here : ℕ} (j : Judged dim s here) where
         deepest = _;
         direct = _;
         passed =
-            passed-more _ _ _ _ _ _ _ _ _ _ (j .passed) next e d k more (element-is dim (words s) 0 0 here (length s / 2) (Good next e d k) bound-in good) judged-on;
+            passed-more (topList dim s) here _ (j .passed) more next e d k (element-is dim (words s) 0 0 here (length s / 2) (Good next e d k) bound-in good) judged-on;
       }
 
 ---- what is reached from a place at the top
@@ -151,7 +155,7 @@ module _ (dim : ℕ) (s : List ℕ) (until : ℕ) (each : Bool) (Q : ℕ → ℕ
   Arrived (reached.Element a b k) =
       (e d j : ℕ) × (Q k a × (stopOf 0 (words s) a (length s / 2) ≡ More) × (Good b e d j ≡ elementOf dim 0 0 (words s) a (length s / 2)) × (stopsAfter (words s) until each a b ≡ true))
   Arrived (reached.End a k) = Q k a × (stopOf 0 (words s) a (length s / 2) ≡ Done)
-  Arrived (reached.Fault n p) = judgeOf dim s ≡ Refused n p
+  Arrived (reached.Refused n p) = judgeOf dim s ≡ Refused n p
 
   module _ (call : callOk dim s ≡ true) (judged : (k a : ℕ) → Q k a → Judged dim s a)
       (step : (k a next e d j : ℕ) → Q k a → stopOf 0 (words s) a (length s / 2) ≡ More → Good next e d j ≡ elementOf dim 0 0 (words s) a (length s / 2) →

@@ -1,46 +1,20 @@
--- The element structure of document 01 as two meanings, each naming the other, over exact words joined by ++. It
+-- The element structure (RULES.md, "Complex elements") as two meanings, each naming the other, over exact words joined by ++. It
 -- names no order of checks and no number. `depth` is how many headers stand above, `under` the type of the direct
 -- header (0 at the top).
-use Prim.Native.Nat.{ℕ, suc, _+_, _≤_}
+use Prim.Native.Nat.{ℕ, suc, _+_}
 use mathlib.Core.Path.{_≡_}
-use mathlib.Core.Bool.{Bool, true, false}
 use mathlib.Core.List.{List, [], _∷_, _++_}
 use mathlib.Core.Option.{Option, none, some}
 use lib.ListN.{length}
-use Rattle.words.specs.Words.{wordAt}
-use Rattle.headers.specs.Header.{typeAt, sizeAt, extentAt}
-use Rattle.kinds.specs.Kinds.{isHeader, mayStand}
-use Rattle.elements.specs.Attributes.{linkagesOk}
-use Rattle.headers.specs.Flags.{reservedOk, placeOk}
-use Rattle.elements.specs.Rules.{fixedOk, storedNameOk, countOk}
 use Rattle.files.specs.Spots.{Spot}
-
--- a header's total counts its own words after word 18 and all words under it, and its extent has at most 65,535
--- words; under any other element stands nothing
-abbrev pub Extent : Bool → List ℕ → ℕ → ℕ → Type 0
-Extent true own inside n = (extentAt own 0 ≡ length own + inside) × (length own + inside ≤ 65535)
-Extent false own inside n = (inside ≡ 0) × (n ≡ 0)
-
--- the own words of one element, with so many words and so many direct components under it
-pub record Own (dim depth under : ℕ) (own : List ℕ) (inside n : ℕ) : Type 0 where
-  pub size : sizeAt own 0 ≡ length own
-  pub reserved : reservedOk (wordAt own 0) ≡ true
-  pub place : placeOk depth (wordAt own 0) ≡ true
-  pub deep : depth ≤ 8
-  pub kind : mayStand dim under (typeAt own 0) ≡ true
-  pub fixed : fixedOk dim own 0 ≡ true
-  pub small : length own ≤ 65535
-  pub extent : Extent (isHeader (typeAt own 0)) own inside n
-  pub linkages : linkagesOk dim own 0 ≡ true
-  pub name : storedNameOk own 0 ≡ true
-  pub count : countOk own 0 n ≡ true
+use Rattle.grammar.specs.Own.{typeIn, Own}
 
 -- an element is its own words and then its components; the list is of all elements, itself first, in file order
 mutual
   pub data Element (dim : ℕ) : ℕ → ℕ → Option ℕ → ℕ → List Spot → List ℕ → Type 0 where
     element : {depth under : ℕ} {header : Option ℕ} {at : ℕ} {xs : List Spot} {ws : List ℕ} (n : ℕ) (own inside : List ℕ) (ys : List Spot) →
         ws ≡ own ++ inside → xs ≡ record { place = at; end = at + length ws; depth = depth; header = header } ∷ ys →
-        Own dim depth under own (length inside) n → Components dim (suc depth) (typeAt own 0) (some at) (at + length own) n ys inside →
+        Own dim depth under own (length inside) n → Components dim (suc depth) (typeIn own) (some at) (at + length own) n ys inside →
         Element dim depth under header at xs ws
 
   -- n elements, one after another, from the place at on

@@ -32,10 +32,20 @@ first _ (pass e p) = rw e (first _ p)
 first _ (stop e) = rw e
 first _ (tail cs e) = e
 
+-- each number passes a test
+abbrev pub allIn : (ℕ → Bool) → List Check → Bool
+allIn test [] = true
+allIn test (check b n ∷ cs) = test n && allIn test cs
+
+-- then so does that of the first fault
+pub first-in : (test : ℕ → Bool) (cs : List Check) → allIn test cs ≡ true → (firstFault cs ≡ 0 → ⊥) → test (firstFault cs) ≡ true
+first-in test [] k h = absurd (h refl)
+first-in test (check true n ∷ cs) k h = first-in test cs (both-true (test n) (allIn test cs) k .1) h
+first-in test (check false n ∷ cs) k h = both-true (test n) (allIn test cs) k .0
+
 -- each number is above 0
 abbrev pub numbered : List Check → Bool
-numbered [] = true
-numbered (check b n ∷ cs) = leb 1 n && numbered cs
+numbered = allIn (leb 1)
 
 -- the first fault of two lists, one after the other: that of the first list where it has one, else that of the second
 pub fault-here : (cs ds : List Check) (n : ℕ) → n ≡ firstFault cs → (n ≡ 0 → ⊥) → n ≡ firstFault (cs ++ ds)

@@ -1,4 +1,4 @@
--- Checks in an order, as document 01 has them for an element and for the writer.
+-- Checks in an order, as RULES.md, "Order of checks", has them for an element and for the writer.
 use Prim.Native.Nat.{ℕ}
 use mathlib.Core.List.{List, [], _∷_}
 use mathlib.Core.Bool.{Bool, true, false}

@@ -1,4 +1,4 @@
--- The checks of bits 6 and 7 of an element's word 0 and of its depth (document 01, the order of checks: 4, 5, 10). `depth`
+-- The checks of bits 6 and 7 of an element's word 0 and of its depth (RULES.md, "Order of checks": 4, 5, 10). `depth`
 -- is how many headers stand above the element.
 use Prim.Native.Nat.{ℕ}
 use mathlib.Core.List.{List, [], _∷_}

@@ -1,4 +1,4 @@
--- The element header (document 01, "The element header"): the type and the fields after word 0 of an element that starts at
+-- The element header (RULES.md, "Element header"): the type and the fields after word 0 of an element that starts at
 -- the place `at` of the words `ws`. Of an element's own words alone, `at` is 0.
 use Prim.Native.Nat.{ℕ, _+_, _/_, _%_}
 use mathlib.Core.List.{List}

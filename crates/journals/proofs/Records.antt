@@ -1,11 +1,11 @@
--- A record read: where it is well-formed, its six words and its payload give the record by its kind (`build-good`);
--- where it is not, there is none (`build-bad`). Then one law for each way out of `record_at` and `last_record`,
+-- A record read: where it is well-formed, its six words and its payload give the record by its kind (`read-good`);
+-- where it is not, there is none (`read-bad`). Then one law for each way out of `record_at` and `last_record`,
 -- and the used length before the record.
 use Prim.Native.Nat.{ℕ, _+_, _-_, _*_, _/_, _≤_, _<_}
 use mathlib.Core.Path.{_≡_, refl, sym, ap, _∙_}
 use mathlib.Core.List.{List}
-use mathlib.Core.Bool.{Bool, true, false, and-eq-true-iff}
-use mathlib.Core.Option.{Option, none, some}
+use mathlib.Core.Bool.{Bool, true, false, cond, and-eq-true-iff}
+use mathlib.Core.Option.{Option}
 use native.Mathlib.Omega.{arith}
 use lib.ListN.{length, take, drop, length-take, length-drop}
 use lib.Seq.{getD-take, getD-drop, length-take-le}
@@ -13,33 +13,15 @@ use lib.Dec.{eqb}
 use borrow.Author.Tests.{le-leb, lt-leb, eq-eqb, ne-eqb, eqb-true}
 use Rattle.words.specs.Words.{words, wordAt, WordRead, LongRead}
 use Rattle.words.proofs.Laws.{length-words}
-use Rattle.edits.specs.Records.{Rec, flag, renamed, inserted, removed, placeOf, atTop, build, readAt, lastRecord}
-use Rattle.journals.specs.Journals.{formedBy, wellFormed, RecordWithin, RecordRead, LastRead}
+use Rattle.edits.specs.Records.{keep, placeOf, atTop, removes, no-kind, kindOf, formed, build, readAt, lastRecord}
+use Rattle.journals.specs.Journals.{wellFormed, RecordWithin, RecordRead, LastRead}
 use Rattle.journals.specs.declared.Last.{Last}
 use Rattle.journals.specs.declared.Last.the-variants.{Bad, Flag, Renamed, Inserted, Removed}
 
--- a well-formed record by its kind
-abbrev recordBy : Bool → Bool → Bool → Option ℕ → ℕ → List ℕ → Rec
-recordBy true k₂ k₃ h p x = flag p
-recordBy false true k₃ h p x = renamed p (wordAt x 0) (wordAt x 1)
-recordBy false false true h p x = inserted h p
-recordBy false false false h p x = removed h p x
-
-build-good : (k₁ k₂ k₃ k₄ : Bool) (h : Option ℕ) (p : ℕ) (x before : List ℕ) → formedBy k₁ k₂ k₃ k₄ h (length x) ≡ true
-    → build k₁ k₂ k₃ k₄ h p x before ≡ some (recordBy k₁ k₂ k₃ h p x, before)
-build-good true k₂ k₃ k₄ h p x before e = rw e refl
-build-good false true k₃ k₄ h p x before e = rw e refl
-build-good false false true k₄ h p x before e = rw e refl
-build-good false false false true h p x before e = refl
-build-good false false false false h p x before e = let z : _≡_ {A = ℕ} 0 1 = cc in absurd (omega arith)
-
-build-bad : (k₁ k₂ k₃ k₄ : Bool) (h : Option ℕ) (p : ℕ) (x before : List ℕ) → formedBy k₁ k₂ k₃ k₄ h (length x) ≡ false
-    → build k₁ k₂ k₃ k₄ h p x before ≡ none
-build-bad true k₂ k₃ k₄ h p x before e = rw e refl
-build-bad false true k₃ k₄ h p x before e = rw e refl
-build-bad false false true k₄ h p x before e = rw e refl
-build-bad false false false true h p x before e = let z : _≡_ {A = ℕ} 0 1 = cc in absurd (omega arith)
-build-bad false false false false h p x before e = refl
+-- behind the other kinds, a record is well-formed where it is of the last
+pub last-kind : (b : Bool) (h : Option ℕ) (n : ℕ) → formed (cond b removes no-kind) h n ≡ b
+last-kind true h n = refl
+last-kind false h n = refl
 
 -- the words read of the record whose six words begin at word t, behind n payload words
 pub record Six (j : List ℕ) (t n kind header p : ℕ) : Type 0 where
@@ -54,17 +36,12 @@ module _ (j : List ℕ) (t n kind header p : ℕ) (R : Six j t n kind header p) 
   payload-long = let e = length-words j in let h = R .behind in let l = R .room in simp (length-take, length-drop) (omega arith)
 
   read-by : readAt (words j) t n
-      ≡ build (eqb kind 1) (eqb kind 2) (eqb kind 3) (eqb kind 4) (placeOf header) p (take n (drop (t - n) (words j))) (take (t - n) (words j))
+      ≡ keep (wellFormed kind (placeOf header) n) (build (kindOf kind) (placeOf header) p (take n (drop (t - n) (words j))) (take (t - n) (words j)))
   read-by = rw (le-leb n t (R .behind), R .kind-is, R .header-is .is, R .place-is .is) refl
 
   pub read-bad : wellFormed kind (placeOf header) n ≡ false → RecordRead j t n Bad
   read-bad e =
-      record {
-        is = sym (read-by
-            ∙ build-bad (eqb kind 1) (eqb kind 2) (eqb kind 3) (eqb kind 4) (placeOf header) p (take n (drop (t - n) (words j))) (take (t - n) (words j))
-            (rw payload-long e));
-        within = tt;
-      }
+      record { is = sym (read-by ∙ rw e refl); within = tt }
 
   -- the bytes before the record
   within-of : (k : ℕ) → k ≤ n → RecordWithin (length j) k p (2 * (t - n))
@@ -77,17 +54,10 @@ module _ (j : List ℕ) (t n kind header p : ℕ) (R : Six j t n kind header p) 
 
   module _ (ok : wellFormed kind (placeOf header) n ≡ true) where
     -- the words before it end, and its payload begins, at the word that the used length before it says
-    read-good : readAt (words j) t n
-        ≡ some (
-          recordBy (eqb kind 1) (eqb kind 2) (eqb kind 3) (placeOf header) p (take n (drop (2 * (t - n) / 2) (words j))),
-          take (2 * (t - n) / 2) (words j),
-        )
+    read-good : readAt (words j) t n ≡ build (kindOf kind) (placeOf header) p (take n (drop (2 * (t - n) / 2) (words j))) (take (2 * (t - n) / 2) (words j))
     read-good =
         let half : 2 * (t - n) / 2 ≡ t - n = omega arith in
-        rw half
-        (read-by
-        ∙ build-good (eqb kind 1) (eqb kind 2) (eqb kind 3) (eqb kind 4) (placeOf header) p (take n (drop (t - n) (words j))) (take (t - n) (words j))
-        (rw payload-long ok))
+        rw half (read-by ∙ rw ok refl)
 
     pub read-flag : kind ≡ 1 → RecordRead j t n (Flag p (2 * (t - n)))
     read-flag k = record { is = sym (read-good ∙ rw (eq-eqb kind 1 k) refl); within = within-of 0 (omega arith) }
@@ -123,8 +93,9 @@ module _ (j : List ℕ) (t n kind header p : ℕ) (R : Six j t n kind header p) 
 
     pub read-removed : (kind ≡ 1 → ⊥) → (kind ≡ 2 → ⊥) → (kind ≡ 3 → ⊥) → RecordRead j t n (Removed header p n (2 * (t - n)))
     read-removed k₁ k₂ k₃ =
+        let e = rw (ne-eqb kind 1 k₁, ne-eqb kind 2 k₂, ne-eqb kind 3 k₃) at ok in
         record {
-          is = sym (read-good ∙ rw (ne-eqb kind 1 k₁, ne-eqb kind 2 k₂, ne-eqb kind 3 k₃) refl);
+          is = sym (read-good ∙ rw (ne-eqb kind 1 k₁, ne-eqb kind 2 k₂, ne-eqb kind 3 k₃, sym (last-kind (eqb kind 4) (placeOf header) n) ∙ e) refl);
           within = (R .header-is .small, within-of n (omega arith));
         }
 

@@ -1,13 +1,13 @@
--- A journal's buffer with a record pushed, and its last record read (document 01, "Editing").
+-- A journal's buffer with a record pushed, and its last record read (RULES.md, "Journal records").
 use Prim.Native.Nat.{ℕ, _+_, _*_, _/_, _%_, _≤_, _<_}
 use mathlib.Core.Path.{_≡_}
 use mathlib.Core.List.{List, _++_}
-use mathlib.Core.Bool.{Bool, true, false, cond, _&&_}
+use mathlib.Core.Bool.{Bool, cond, _&&_}
 use mathlib.Core.Option.{Option, none, some}
 use lib.ListN.{length, take, drop}
 use lib.Dec.{eqb, leb}
 use Rattle.words.specs.Words.{words}
-use Rattle.edits.specs.Records.{Rec, flag, renamed, inserted, removed, six, placeOf, atTop, readAt, lastRecord}
+use Rattle.edits.specs.Records.{Rec, flag, renamed, inserted, removed, six, placeOf, kindOf, formed, readAt, lastRecord}
 use Rattle.edits.specs.Calls.{pushed}
 use Rattle.journals.specs.declared.Last.{Last}
 use Rattle.journals.specs.declared.Last.the-variants.{Bad, Flag, Renamed, Inserted, Removed}
@@ -23,16 +23,9 @@ recordPushed s used kind header p payload =
     cond (pushFits s used payload)
     (pushed s used (words payload ++ six kind (placeOf header) p (length (words payload)))) s
 
--- by kind: the header place is the top and there is no payload, or two words; no payload; any payload
-abbrev pub formedBy : Bool → Bool → Bool → Bool → Option ℕ → ℕ → Bool
-formedBy true k₂ k₃ k₄ h n = atTop h && eqb n 0
-formedBy false true k₃ k₄ h n = atTop h && eqb n 2
-formedBy false false true k₄ h n = eqb n 0
-formedBy false false false k₄ h n = k₄
-
 -- the kind is 1 to 4, and the header place and the number of payload words are the kind's
 abbrev pub wellFormed : ℕ → Option ℕ → ℕ → Bool
-wellFormed kind h n = formedBy (eqb kind 1) (eqb kind 2) (eqb kind 3) (eqb kind 4) h n
+wellFormed kind h n = formed (kindOf kind) h n
 
 -- what an answer says of a journal's words: the record, and the words before it
 abbrev pub recordIn : List ℕ → Last → Option (Rec × List ℕ)

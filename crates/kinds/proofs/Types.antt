@@ -226,4 +226,7 @@ header-solid t = each-named (λ (t : ℕ). oneOf (18 ∷ 19 ∷ []) t ≡ ltb 17
 -- the fixed part of a header, by tests that order the types
 pub header-fixed : (dim t : ℕ) → isHeader t ≡ true → cond (ltb t 12) (cond (eqb t 1) 35 (cond (eqb t 2) (cond (eqb dim 2) 46 62) (cond (eqb dim 2) 35 43))) (cond (ltb t 18) 20 21) ≡ fixedPart dim t 0
 unfolding fixedPart
-header-fixed dim t = each-named (λ (t : ℕ). cond (ltb t 12) (cond (eqb t 1) 35 (cond (eqb t 2) (cond (eqb dim 2) 46 62) (cond (eqb dim 2) 35 43))) (cond (ltb t 18) 20 21) ≡ fixedPart dim t 0) (1 ∷ 2 ∷ 7 ∷ 12 ∷ 14 ∷ 18 ∷ 19 ∷ []) t (refl, (refl, (refl, (refl, (refl, (refl, (refl, tt)))))))
+header-fixed dim t =
+    each-named
+    (λ (t : ℕ). cond (ltb t 12) (cond (eqb t 1) 35 (cond (eqb t 2) (cond (eqb dim 2) 46 62) (cond (eqb dim 2) 35 43))) (cond (ltb t 18) 20 21) ≡ fixedPart dim t 0)
+    (1 ∷ 2 ∷ 7 ∷ 12 ∷ 14 ∷ 18 ∷ 19 ∷ []) t (refl, (refl, (refl, (refl, (refl, (refl, (refl, tt)))))))

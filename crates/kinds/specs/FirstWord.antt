@@ -1,4 +1,4 @@
--- Word 0 of an element and its fields (document 01, "The element header"), and a flag as a number.
+-- Word 0 of an element and its fields (RULES.md, "Element header"), and a flag as a number.
 use Prim.Native.Nat.{ℕ, _/_, _%_}
 use mathlib.Core.Bool.{Bool, cond}
 

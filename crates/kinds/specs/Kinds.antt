@@ -1,4 +1,4 @@
--- The types (document 01, the table of fixed parts and "Complex elements").
+-- The types (RULES.md, "Fixed parts", "Complex elements", "What may stand where").
 use Prim.Native.Nat.{ℕ, _+_, _*_}
 use mathlib.Core.List.{List, [], _∷_}
 use mathlib.Core.Bool.{Bool, false, not, _&&_, _||_, cond}

@@ -1,4 +1,4 @@
--- What a call may be handed (document 01, number 1): the dimension, the length of lent bytes and a used length of them.
+-- What a call may be handed (RULES.md, "Limits"): the dimension, the length of lent bytes and a used length of them.
 use Prim.Native.Nat.{ℕ, _%_}
 use mathlib.Core.List.{List}
 use lib.ListN.{length}

@@ -1,4 +1,4 @@
--- The line of the element at a place of a file (document 01, "Worked on both sides"), as bytes.
+-- The line of the element at a place of a file (RULES.md, "Listing"), as bytes.
 use Prim.Native.Nat.{ℕ, _≤_}
 use mathlib.Core.Path.{_≡_}
 use mathlib.Core.List.{List, []}

@@ -1,1 +1,2 @@
 pub mod Linkages
+pub mod Listed

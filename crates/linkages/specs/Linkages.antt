@@ -1,4 +1,4 @@
--- Attribute linkages (document 01, "Linkages and names"), in the words from one place to another.
+-- Attribute linkages (RULES.md, "Attribute linkages"), in the words from one place to another.
 use Prim.Native.Nat.{ℕ, zero, suc, _+_, _-_, _/_, _%_, _≤_}
 use mathlib.Core.Path.{_≡_}
 use mathlib.Core.Logic.{_⊎_}

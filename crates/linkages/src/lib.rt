@@ -18,7 +18,7 @@ pub enum Linkage {
 
 // The words of a linkage by its first word, 0 where that is no linkage's. Both kinds are worked out and one is picked: which
 // one it is alternates.
-pub fn linkage_words(w: usize) -> usize
+fn linkage_words(w: usize) -> usize
     ensures { λ r. ⌜ r ≡ linkageWords w ⌝ }
 {
     let follow = w % 256;

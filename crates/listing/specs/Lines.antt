@@ -1,4 +1,4 @@
--- The lines of the program celllist (document 01, "Worked on both sides"), as bytes.
+-- The lines of the program celllist (RULES.md, "Listing"), as bytes.
 use Prim.Native.Nat.{ℕ, zero, suc, _+_, _/_, _%_, _≤_}
 use mathlib.Core.Path.{_≡_}
 use mathlib.Core.List.{List, [], _∷_, _++_}

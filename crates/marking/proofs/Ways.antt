@@ -19,18 +19,18 @@ use Rattle.edits.specs.Edits.{mark, rename}
 use Rattle.headers.specs.Header.{namePlace}
 use Rattle.edits.specs.Allowed.{fine, fault, renameFault, editFault}
 use Rattle.edits.specs.Records.{flag, recordOf}
-use Rattle.edits.specs.Calls.{Session, mark-call, rename-call, usedWords, sessionFault}
+use Rattle.edits.specs.Calls.{Session, mark-call, rename-call, usedWords, sessionFault, wordsBy, recordBy}
 use Rattle.journals.specs.Journals.{recordPushed}
 use Rattle.opening.specs.Opening.{sessionOf}
 use Rattle.faults.specs.Faults.{markNumber, renameNumber}
-use Rattle.faults.proofs.Exact.{numbered, mark-is, rename-is}
-use Rattle.cell_names.specs.CellNames.{namePut, cellName}
+use Rattle.faults.proofs.ExactMarks.{numbered, mark-is, rename-is}
+use Rattle.changes.specs.CellNames.{namePut, cellName}
 use Rattle.changes.specs.Changes.{flagPut}
 use Rattle.changes.proofs.Made as made
-use Rattle.steps.specs.Steps.{Leaves, Stepped, lastPlace, Open}
-use Rattle.steps.proofs.Steps.{wordsBy, recordBy, edit-step, edit-refused, edit-journal, edit-done}
-use Rattle.steps.proofs.Opened.{used-within, jused-within, open-used, used-below, used-even, jused-even}
-use Rattle.steps.proofs.Pushed.{Laid, flag-laid, renamed-laid, record-long, record-pushed}
+use Rattle.opening.specs.Steps.{Leaves, Stepped, lastPlace, Open}
+use Rattle.opening.proofs.Steps.{edit-step, edit-refused, edit-journal, edit-done}
+use Rattle.opening.proofs.OpenSession.{used-within, jused-within, open-used, used-below, used-even, jused-even}
+use Rattle.opening.proofs.Pushed.{Laid, flag-laid, renamed-laid, record-long, record-pushed}
 use Rattle.marking.specs.Marking.{cellRenamed}
 
 -- a number as a refusal

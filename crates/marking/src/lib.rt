@@ -3,7 +3,7 @@
 // buffers last. Contracts: one step of edits' specs/Calls.
 ghost use Rattle.edits.specs.Calls.{mark-call, rename-call};
 ghost use Rattle.opening.specs.Opening.{sessionOf};
-ghost use Rattle.steps.specs.Steps.{Leaves, Stepped, Open};
+ghost use Rattle.opening.specs.Steps.{Leaves, Stepped, Open};
 ghost use Rattle.marking.specs.Marking.{cellRenamed};
 use edits::Edited;
 use journals::TOP;
@@ -26,10 +26,10 @@ fn mark_opened(
 {
     let number = faults::mark_fault(&file[..used], found, place, deleted);
     if number != 0 {
-        return steps::refused(number);
+        return opening::refused(number);
     }
     if journal.len() - jused < 12 {
-        return steps::refused(16);
+        return opening::refused(16);
     }
     journals::push(journal, jused, 1, TOP, place, &file[..0]);
     changes::mark_element(&mut file[..used], place, deleted);
@@ -83,14 +83,14 @@ fn rename_opened(
 {
     let number = faults::rename_fault(&file[..used], found, place, named);
     if number != 0 {
-        return steps::refused(number);
+        return opening::refused(number);
     }
     if journal.len() - jused < 16 {
-        return steps::refused(16);
+        return opening::refused(16);
     }
-    let old = cell_names::cell_name(&file[..used], place);
+    let old = changes::cell_name(&file[..used], place);
     journals::push(journal, jused, 2, TOP, place, &old);
-    cell_names::rename_cell(&mut file[..used], place, first, second);
+    changes::rename_cell(&mut file[..used], place, first, second);
     Edited::Made {
         used,
         jused: jused + 16,

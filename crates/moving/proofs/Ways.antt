@@ -19,29 +19,29 @@ use Rattle.edits.specs.declared.Edited.the-variants.{Made, Refused}
 use Rattle.edits.specs.Edits.{Edit, insert, remove}
 use Rattle.edits.specs.Allowed.{Fault?, fine, fault, unless, editFault}
 use Rattle.edits.specs.Records.{recordOf}
-use Rattle.edits.specs.Calls.{Session, Call, insert-call, remove-call, usedWords}
+use Rattle.edits.specs.Calls.{Session, Call, insert-call, remove-call, usedWords, wordsBy, recordBy}
 use Rattle.edits.proofs.Accepted.{SmallHeader, Small}
 use Rattle.buffers.proofs.Laws.{part-words}
 use Rattle.journals.specs.Journals.{recordPushed}
 use Rattle.opening.specs.Opening.{sessionOf, headerOf}
 use Rattle.faults.specs.Faults.{isAt}
-use Rattle.faults.proofs.Exact.{remove-is}
-use Rattle.inserting.specs.declared.Fault.the-variants as answer
-use Rattle.inserting.specs.Inserting.{insertRefusal, answerOf}
-use Rattle.inserting.proofs.Exact.{insert-is}
+use Rattle.faults.proofs.ExactMarks.{remove-is}
+use Rattle.faults.specs.declared.Insertion.the-variants as answer
+use Rattle.faults.specs.Inserting.{insertRefusal, answerOf}
+use Rattle.faults.proofs.ExactInserts.{insert-is}
 use Rattle.changes.specs.Changes.{pieceIn, extentOut}
 use Rattle.changes.proofs.Made as made
-use Rattle.steps.specs.Steps.{Stepped, lastPlace, Open, numberOf}
-use Rattle.steps.proofs.Steps.{wordsBy, recordBy, edit-step, edit-refused, edit-room, edit-journal, edit-done}
-use Rattle.steps.proofs.Opened.{used-within, jused-within, open-used, used-below, used-even, jused-even, sound-here}
-use Rattle.steps.proofs.Pushed.{Laid, inserted-laid, removed-laid, record-long, record-pushed}
+use Rattle.opening.specs.Steps.{Stepped, lastPlace, Open, numberOf}
+use Rattle.opening.proofs.Steps.{edit-step, edit-refused, edit-room, edit-journal, edit-done}
+use Rattle.opening.proofs.OpenSession.{used-within, jused-within, open-used, used-below, used-even, jused-even, sound-here}
+use Rattle.opening.proofs.Pushed.{Laid, inserted-laid, removed-laid, record-long, record-pushed}
 
 -- what an insert was answered, as a refusal or none
-pub refusal-of : (f : Fault?) (n q : ℕ) → answerOf f ≡ answer.At n q → f ≡ fault n q
+pub refusal-of : (f : Fault?) (n q : ℕ) → answerOf f ≡ answer.Refused n q → f ≡ fault n q
 refusal-of fine n q e = let z : _≡_ {A = ℕ} 0 1 = cc in absurd (omega arith)
 refusal-of (fault n′ q′) n q e = let z : fault n′ q′ ≡ fault n q = cc in z
 
-pub fine-of : (f : Fault?) → answerOf f ≡ answer.Fine → f ≡ fine
+pub fine-of : (f : Fault?) → answerOf f ≡ answer.Allowed → f ≡ fine
 fine-of fine e = refl
 fine-of (fault n q) e = let z : _≡_ {A = ℕ} 0 1 = cc in absurd (omega arith)
 

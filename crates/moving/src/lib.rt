@@ -7,7 +7,7 @@ ghost use lib.ListN.{length};
 ghost use Rattle.limits.specs.Limits.{sizeOk};
 ghost use Rattle.edits.specs.Calls.{insert-call, remove-call};
 ghost use Rattle.opening.specs.Opening.{sessionOf, headerOf};
-ghost use Rattle.steps.specs.Steps.{Stepped, lastPlace, Open};
+ghost use Rattle.opening.specs.Steps.{Stepped, lastPlace, Open};
 ghost use Rattle.moving.specs.Moving.{Stands};
 use edits::Edited;
 use opening::Opened;
@@ -32,20 +32,20 @@ fn insert_opened(
     requires { ⌜ sizeOk (length (now piece)) ≡ true ⌝ }
     ensures { λ r. ⌜ Stepped dim (sessionOf (now (file .entry)) used (now (journal .entry)) jused) (insert-call (headerOf header) place (now (piece .entry))) r (now (file .exit)) (now (journal .exit)) ⌝ }
 {
-    match inserting::insert_fault(&file[..used], dim, marker, found, header, place, piece) {
-        inserting::Fault::At { number, place: at } => Edited::Refused { number, place: at },
-        inserting::Fault::Fine => {
+    match faults::insert_fault(&file[..used], dim, marker, found, header, place, piece) {
+        faults::Insertion::Refused { number, place: at } => Edited::Refused { number, place: at },
+        faults::Insertion::Allowed => {
             if file.len() - used < piece.len() {
-                return steps::refused(15);
+                return opening::refused(15);
             }
             if journal.len() - jused < 12 {
-                return steps::refused(16);
+                return opening::refused(16);
             }
             journals::push(
                 journal,
                 jused,
                 3,
-                steps::header_number(header),
+                opening::header_number(header),
                 place,
                 &file[..0],
             );
@@ -73,7 +73,7 @@ pub fn insert(
     ensures { λ r. ⌜ Stepped dim (sessionOf (now (file .entry)) used (now (journal .entry)) jused) (insert-call (headerOf header) place (now (piece .entry))) r (now (file .exit)) (now (journal .exit)) ⌝ }
 {
     if !limits::size_ok(piece.len()) {
-        return steps::refused(1);
+        return opening::refused(1);
     }
     match opening::open_at(file, used, journal.len(), jused, dim, place) {
         Opened::Refused {
@@ -116,13 +116,13 @@ fn remove_found(
 {
     let n = 2 * (end - place);
     if journal.len() - jused < n + 12 {
-        return steps::refused(16);
+        return opening::refused(16);
     }
     journals::push(
         journal,
         jused,
         4,
-        steps::header_number(above),
+        opening::header_number(above),
         place,
         &file[2 * place..2 * end],
     );
@@ -150,7 +150,7 @@ fn remove_opened(
         Spotted::Refused {
             number: _,
             place: _,
-        } => steps::refused(13),
+        } => opening::refused(13),
         Spotted::At {
             end,
             depth: _,

@@ -1,4 +1,4 @@
--- Radix-50 names (document 01, "Linkages and names"). A text is a list of bytes; a stored name is two words.
+-- Radix-50 names (RULES.md, "Names"). A text is a list of bytes; a stored name is two words.
 -- That texts and accepted word pairs match one to one is proved in proofs/OneToOne.
 use Prim.Native.Nat.{ℕ, _+_, _*_, _-_, _/_, _%_}
 use mathlib.Core.List.{List, [], _∷_, _++_, map}

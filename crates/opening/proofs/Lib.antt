@@ -1,2 +1,5 @@
 pub mod Opening
 pub mod Accepted
+pub mod Steps
+pub mod OpenSession
+pub mod Pushed

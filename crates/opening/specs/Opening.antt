@@ -1,5 +1,5 @@
--- Opening a session: 1, the file's own refusals, then 1 if the marker is found before the last used word (document 01,
--- "Editing"). With it what a call's arguments stand for: its two buffers for a session, a header place for one or none.
+-- Opening a session: 1, the file's own refusals, then 1 if the marker is found before the last used word (RULES.md,
+-- "Sessions"). With it what a call's arguments stand for: its two buffers for a session, a header place for one or none.
 use Prim.Native.Nat.{ℕ, _-_}
 use mathlib.Core.Path.{_≡_}
 use mathlib.Core.List.{List}

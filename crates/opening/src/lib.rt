@@ -1,6 +1,9 @@
 // Opening a session on a file's buffer and a journal's: the lengths, the marker and the dimension, the file's own
 // refusals, and what starts at a place of the used part. Nothing is changed here. Definitions: specs/Opening;
 // proofs/Accepted: what is found is an element of the accepted file.
+//
+// What the calls of a session share: a refusal, and header places as the journal's numbers. Definitions: specs/Steps; of
+// the ways out of a step the laws are in proofs/.
 ghost use mathlib.Core.Path.{_≡_};
 ghost use mathlib.Core.Bool.{_&&_};
 ghost use Prim.Native.Nat.{_-_, _%_, _≤_};
@@ -10,7 +13,12 @@ ghost use Rattle.limits.specs.Limits.{dimOk, usedOk};
 ghost use Rattle.files.specs.Judge.{topOf};
 ghost use Rattle.edits.specs.Allowed.{orElse, unless};
 ghost use Rattle.edits.specs.Calls.{endsInMarker, usedWords, fileFault};
+ghost use Rattle.edits.specs.declared.Edited.the-variants.{Refused};
 ghost use Rattle.opening.specs.Opening.{openedBy, OpenedAs};
+ghost use Rattle.opening.specs.Steps.{numberOf, aboveAt};
+use edits::Edited;
+use journals::TOP;
+use places::Above;
 use places::Spotted;
 
 // What opening a session answers: the place of the file's marker and what starts at a place of it, or a refusal.
@@ -87,4 +95,31 @@ pub fn open_at(
         number: 1,
         place: 0,
     }
+}
+
+// A refusal at place 0.
+pub fn refused(number: usize) -> Edited
+    ensures { λ r. ⌜ r ≡ Refused number 0 ⌝ }
+{
+    Edited::Refused { number, place: 0 }
+}
+
+// A header place as the number of its long.
+pub fn header_number(header: Above) -> usize
+    ensures { λ r. ⌜ r ≡ numberOf header ⌝ }
+{
+    match header {
+        Above::Top => TOP,
+        Above::Under { place } => place,
+    }
+}
+
+// The header place of a record.
+pub fn header_at(number: usize) -> Above
+    ensures { λ r. ⌜ r ≡ aboveAt number ⌝ }
+{
+    if number == TOP {
+        return Above::Top;
+    }
+    Above::Under { place: number }
 }

@@ -15,7 +15,7 @@ use Rattle.headers.proofs.Laws.{words-header, words-plain, words-two}
 use Rattle.headers.specs.Header.{typeAt, sizeAt, extentWords}
 use Rattle.kinds.specs.Kinds.{isHeader}
 use Rattle.files.specs.Spots.{Spot, spotIn}
-use Rattle.grammar.specs.Grammar.{Own, Extent}
+use Rattle.grammar.proofs.Tests.{OwnTests, Extent}
 use Rattle.grammar.proofs.Stands.{Stands}
 use Rattle.grammar.proofs.Forest.{Forest, nil, node, flat, num, weight, Wf, spots, length-node, own-stands, components-stand, rest-stand}
 use Rattle.grammar.proofs.Rules.{own-type, own-size, own-extent}
@@ -88,7 +88,7 @@ descent-is ws p r i = i (suc p) (omega arith)
 ---- in the words of a tree
 
 -- the extent of an element of the grammar
-pub extent-weight : (dim depth under : ℕ) (ws : List ℕ) (at : ℕ) (own : List ℕ) (inside n : ℕ) → Own dim depth under own inside n → Stands own at ws →
+pub extent-weight : (dim depth under : ℕ) (ws : List ℕ) (at : ℕ) (own : List ℕ) (inside n : ℕ) → OwnTests dim depth under own inside n → Stands own at ws →
     extentWords ws at ≡ length own + inside
 extent-weight dim depth under ws at own inside n o s = go (isHeader (typeAt own 0)) refl (o .extent)
   where

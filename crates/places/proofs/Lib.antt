@@ -1,3 +1,4 @@
 pub mod Descent
 pub mod Places
 pub mod Nearest
+pub mod Refusals

@@ -9,11 +9,11 @@ use lib.ListN.{length}
 use borrow.Author.Tests.{ltb-true, ltb-false}
 use Rattle.words.specs.Words.{words}
 use Rattle.words.proofs.Laws.{length-words}
-use Rattle.ends.specs.Ends.{stopOf}
+use Rattle.files.specs.Ends.{stopOf}
 use Rattle.files.specs.Judge.{elementOf}
 use Rattle.limits.specs.Limits.{callOk}
 use Rattle.files.specs.Reach.{reachedOf, stopsAfter}
-use Rattle.ends.specs.declared.Stop.the-variants.{More}
+use Rattle.files.specs.declared.Stop.the-variants.{More}
 use Rattle.files.specs.declared.Verdict.the-variants.{Good}
 use Rattle.files.specs.declared.Reached.{Reached}
 use Rattle.files.specs.declared.Reached.the-variants as reached
@@ -73,7 +73,7 @@ module _ (dim : ℕ) (s : List ℕ) (p : ℕ) (call : callOk dim s ≡ true) whe
       (λ k a next e d j q more good goes. nearest-more q more good (not-after (words s) p a next goes))
       0 v (record { judged = judged-none; by = omega arith; same = λ r i. i }) e
 
-  pub first-fault : {n q : ℕ} → reached.Fault n q ≡ reachedOf dim (words s) 0 (length s / 2) p false → placed.Refused n q ≡ placedAt dim s p
+  pub first-fault : {n q : ℕ} → reached.Refused n q ≡ reachedOf dim (words s) 0 (length s / 2) p false → placed.Refused n q ≡ placedAt dim s p
   first-fault e = sym (placed-refused dim s p _ _ (first-arrived _ e))
 
   -- the marker is not after the place
@@ -100,7 +100,7 @@ module _ (dim : ℕ) (s : List ℕ) (p : ℕ) (call : callOk dim s ≡ true) whe
         (λ j a next e d i q more good goes. let o = judged-on (q .1) more good in let l = q .0 in (omega arith, judged-more (q .1) more good))
         end v (omega arith, judged-more (x .0 .judged) (x .1) (x .2)) f
 
-    pub rest-fault : {n q : ℕ} → reached.Fault n q ≡ reachedOf dim (words s) end (length s / 2) (length s / 2) false → placed.Refused n q ≡ placedAt dim s p
+    pub rest-fault : {n q : ℕ} → reached.Refused n q ≡ reachedOf dim (words s) end (length s / 2) (length s / 2) false → placed.Refused n q ≡ placedAt dim s p
     rest-fault f = sym (placed-refused dim s p _ _ (rest-arrived _ f))
 
     pub rest-end : {m j : ℕ} (r : Spotted) → reached.End m j ≡ reachedOf dim (words s) end (length s / 2) (length s / 2) false → IsLocated (words s) top 0 Top p r →

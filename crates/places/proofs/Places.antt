@@ -19,6 +19,7 @@ use Rattle.files.specs.declared.Judged.the-variants.{Accepted, Refused}
 use Rattle.grammar.proofs.Stands.{Stands}
 use Rattle.grammar.proofs.Forest.{Forest, flat, Wf, spots}
 use Rattle.grammar.proofs.Places.{spot-after, spot-within}
+use Rattle.grammar.proofs.Ruled.{Ruled, spot-ruled}
 use Rattle.grammar.proofs.Whole.{FileTree, file-tree}
 use Rattle.grammar.proofs.Exact.{accepted-is}
 use Rattle.places.specs.declared.Above.{Above}
@@ -78,6 +79,12 @@ module _ (dim : ℕ) (s : List ℕ) (e d m : ℕ) (accepted : judgeOf dim s ≡ 
       let y = tree .ends .0 in
       let b = w .by in
       (w .long, omega arith, omega arith)
+
+  -- and it passes the tests of one element there
+  pub spot-rules : (p : ℕ) (x : Spot) → spotIn (spotsOf dim (words s)) p ≡ some x → Ruled dim (words s) p
+  spot-rules p x q =
+      let y = tree .ends .0 in
+      spot-ruled dim (words s) 0 0 none 0 (tree .tree) p x (tree .wf) (tree .stands) (omega arith) (ap (λ xs. spotIn xs p) (tree .read) ∙ q)
 
 ---- what a call on a file answers
 

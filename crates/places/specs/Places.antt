@@ -1,5 +1,5 @@
--- Calls on a file: 1 and the file's own refusals first, then the element that starts at a place, else 13 (document
--- 01, "Numbers a call can answer"). All are stated over the one list of the file's elements, files' spotsOf.
+-- Calls on a file: 1 and the file's own refusals first, then the element that starts at a place, else 13 (RULES.md,
+-- "Order of checks"). All are stated over the one list of the file's elements, files' spotsOf.
 use Prim.Native.Nat.{ℕ}
 use mathlib.Core.List.{List}
 use mathlib.Core.Option.{Option, none, some}

@@ -1,5 +1,8 @@
 // Places of an accepted file: the element that starts at a place, where its extent ends, its depth and its direct header.
 // Every call judges once and then goes straight to its place. Definitions: specs/Places, specs/Descent.
+//
+// The extent of the element that starts at a place of an accepted file: where it starts and ends, and its bytes.
+// Definitions: specs/Extents.
 ghost use mathlib.Core.Path.{_≡_};
 ghost use Prim.Native.Nat.{_/_, _<_};
 ghost use lib.ListN.{length};
@@ -7,6 +10,7 @@ ghost use Rattle.words.specs.Words.{words};
 ghost use Rattle.places.specs.declared.Above.the-variants.{Top};
 ghost use Rattle.places.specs.Places.{placedAt, spottedAt};
 ghost use Rattle.places.specs.Descent.{IsLocated, locateOf};
+ghost use Rattle.places.specs.Extents.{extentAnswer, extentBytes};
 
 // The direct header of an element.
 pub enum Above {
@@ -96,7 +100,7 @@ pub fn placed_at(file: &[u8], dim: usize, place: usize) -> Placed
     }
     let bound = file.len() / 2;
     match files::reach(file, 0, dim, place, false) {
-        files::Reached::Fault {
+        files::Reached::Refused {
             number,
             place: fault,
         } => Placed::Refused {
@@ -118,7 +122,7 @@ pub fn placed_at(file: &[u8], dim: usize, place: usize) -> Placed
             end,
             before: _,
         } => match files::reach(file, end, dim, bound, false) {
-            files::Reached::Fault {
+            files::Reached::Refused {
                 number,
                 place: fault,
             } => Placed::Refused {
@@ -158,5 +162,52 @@ pub fn spotted_at(file: &[u8], dim: usize, place: usize) -> Spotted
             place: fault,
         },
         Placed::Accepted { marker: _, found } => found,
+    }
+}
+
+// An extent, from its first word to the word after its last.
+pub enum Extent {
+    At { start: usize, end: usize },
+    Refused { number: usize, place: usize },
+}
+
+// Where the extent of the element at a place starts and ends.
+pub fn extent_answer(file: &[u8], dim: usize, place: usize) -> Extent
+    ensures { λ r. ⌜ r ≡ extentAnswer dim (now (file .entry)) place ⌝ }
+{
+    match spotted_at(file, dim, place) {
+        Spotted::At {
+            end,
+            depth: _,
+            above: _,
+        } => Extent::At { start: place, end },
+        Spotted::Refused {
+            number,
+            place: fault,
+        } => Extent::Refused {
+            number,
+            place: fault,
+        },
+    }
+}
+
+// The extent of the element at a place, as that part of the file; empty where refused.
+pub fn extent_at(file: &[u8], dim: usize, place: usize) -> &[u8]
+    ensures { λ r. ⌜ now r ≡ extentBytes dim (now (file .entry)) place ⌝ }
+{
+    match spotted_at(file, dim, place) {
+        Spotted::At {
+            end,
+            depth: _,
+            above: _,
+        } => {
+            let a = 2 * place;
+            let e = 2 * end;
+            &file[a..e]
+        }
+        Spotted::Refused {
+            number: _,
+            place: _,
+        } => &file[..0],
     }
 }

@@ -14,12 +14,12 @@ use Rattle.edits.specs.declared.Edited.the-variants.{Refused}
 use Rattle.edits.specs.Edits.{Edit, mark, insert, remove, apply}
 use Rattle.edits.specs.Allowed.{Fault?, fine, fault, orElse, unless, renameFault, editFault}
 use Rattle.edits.specs.Records.{Newest, recordOf, recordWords, lastRecord, reversal}
-use Rattle.edits.specs.Calls.{Session, Call, mark-call, rename-call, insert-call, remove-call, undo-call, usedWords, openFault, Result, resultBy, editMade, editWithin, edited, undoMade, reversalFault, undoBy, undone, nameOfText, textOk, callOn, step}
+use Rattle.edits.specs.Calls.{Session, Call, mark-call, rename-call, insert-call, remove-call, undo-call, journalOf, wordsOf, openFault, Result, resultBy, editMade, editWithin, edited, undoMade, reversalFault, undoBy, undone, nameOfText, textOk, callOn, step}
 use Rattle.edits.specs.Book.{Run, noted, noting, ran, wasRefused}
 use Rattle.edits.proofs.Refusals.{refusal-keeps}
 use Rattle.edits.proofs.Every.{demand-three}
 use Rattle.edits.specs.Demand.{PiecesBytes, Demand3}
-use Rattle.steps.specs.Steps.{Stepped}
+use Rattle.opening.specs.Steps.{Stepped}
 use Rattle.sessions.specs.Runs as runs
 use Rattle.sessions.specs.Runs.{leaves, Called, EveryCall}
 
@@ -35,8 +35,8 @@ left-by (fault n p) s q h = refl
 left-edit : (dim : ℕ) (s : Session) (e : Edit) (own : Fault?) → Left s (edited dim s e own)
 unfolding edited editMade
 left-edit dim s e own =
-    let ws = usedWords (s .file) (s .used) in
-    let r = recordWords (recordOf dim (usedWords (s .file) (s .used)) e) in
+    let ws = wordsOf s in
+    let r = recordWords (recordOf dim (wordsOf s) e) in
     left-by (orElse own (editWithin s (apply dim ws e) r)) s (editMade s (apply dim ws e) r) refl
 
 left-undo : (dim : ℕ) (s : Session) (ws : List ℕ) (l : Newest) → Left s (undoBy dim s ws l)
@@ -53,11 +53,11 @@ left-call dim s ws (rename-call p text) = left-edit dim s (nameOfText (packed te
 left-call dim s ws (insert-call h p piece) = left-edit dim s (insert h p (words piece)) (editFault dim ws (insert h p (words piece)))
 left-call dim s ws (remove-call p) = left-edit dim s (remove p) (editFault dim ws (remove p))
 left-call dim s ws undo-call =
-    left-by (unless (not (eqb (s .jused) 0)) 17) s (undoBy dim s (usedWords (s .file) (s .used)) (lastRecord (usedWords (s .journal) (s .jused)))) (left-undo dim s (usedWords (s .file) (s .used)) (lastRecord (usedWords (s .journal) (s .jused))))
+    left-by (unless (not (eqb (s .jused) 0)) 17) s (undoBy dim s (wordsOf s) (lastRecord (journalOf s))) (left-undo dim s (wordsOf s) (lastRecord (journalOf s)))
 
 left-step : (dim : ℕ) (s : Session) (c : Call) → Left s (step dim s c)
 unfolding step
-left-step dim s c = left-by (openFault dim s c) s (callOn dim s (usedWords (s .file) (s .used)) c) (left-call dim s (usedWords (s .file) (s .used)) c)
+left-step dim s c = left-by (openFault dim s c) s (callOn dim s (wordsOf s) c) (left-call dim s (wordsOf s) c)
 
 ---- the calls of a list are its steps
 

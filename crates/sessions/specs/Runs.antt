@@ -7,7 +7,7 @@ use Rattle.edits.specs.declared.Edited.the-variants.{Made, Refused}
 use Rattle.edits.specs.Calls.{Session, Call}
 use Rattle.edits.specs.Book.{Run, noted, wasRefused}
 use Rattle.edits.specs.Demand.{OpenedEmpty, PiecesBytes, Demand3}
-use Rattle.steps.specs.Steps.{Stepped}
+use Rattle.opening.specs.Steps.{Stepped}
 
 -- the session that a call leaves: the two buffers as they then are, and the answer's used lengths; where it is refused, the
 -- used lengths as they were

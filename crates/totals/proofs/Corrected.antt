@@ -12,7 +12,7 @@ use Rattle.words.specs.Words.{words, Below, wordAt, putBy, putWord}
 use Rattle.words.proofs.Laws.{length-put, words-put}
 use Rattle.headers.specs.Header.{typeAt}
 use Rattle.kinds.specs.Kinds.{isHeader, isCounted}
-use Rattle.grammar.specs.Grammar.{Own}
+use Rattle.grammar.proofs.Tests.{OwnTests}
 use Rattle.grammar.proofs.Forest.{Forest, nil, node, flat, num, Wf}
 use Rattle.grammar.proofs.Stands.{Stands, stands-word}
 use Rattle.grammar.proofs.Rules.{own-two, own-type, own-extent}
@@ -84,7 +84,7 @@ num-short dim depth under (node own k r) x =
     let e = num-short dim depth under r (x .2) in
     simp length-append (omega arith)
 
-module _ {dim depth under : ℕ} {own : List ℕ} (k : Forest) (o : Own dim depth under own (length (flat k)) (num k)) (y : Wf dim (suc depth) (typeAt own 0) k) (h : isHeader (typeAt own 0) ≡ true)
+module _ {dim depth under : ℕ} {own : List ℕ} (k : Forest) (o : OwnTests dim depth under own (length (flat k)) (num k)) (y : Wf dim (suc depth) (typeAt own 0) k) (h : isHeader (typeAt own 0) ≡ true)
     (up : Bool) (n : ℕ) (room : up ≡ true → length own + length (flat k) + n ≤ 65535) where
   total-fits : (ws : List ℕ) (q : ℕ) → Stands own q ws → moved up n (wordAt ws (q + 18)) < 65536
   total-fits ws q t = go up room

@@ -14,7 +14,7 @@ use Rattle.grammar.proofs.Forest.{Forest, node, flat, weight, Wf, spots, own-st
 use Rattle.grammar.proofs.Stands.{Stands}
 use Rattle.grammar.proofs.Rules.{own-type}
 use Rattle.edits.specs.Edits.{around, downTo}
-use Rattle.edits.specs.Allowed.{startsAt, under?, endsAt, gapOk}
+use Rattle.edits.specs.Allowed.{startsAt, isUnder, endsAt, gapOk}
 use Rattle.edits.proofs.Accepted.{Accepted}
 use Rattle.edits.proofs.Ways.{Way, plug, front, heads, headerOf, depthOf, elem-of, heads-of}
 use Rattle.grammar.proofs.Places.{spotOf}
@@ -98,8 +98,8 @@ around-header dim ws p x a e =
 pub gap-header : (xs : List Spot) (ws : List ℕ) (h p : ℕ) → gapOk xs ws (some h) p ≡ true → ((y : Spot) × (spotIn xs h ≡ some y)) × (isHeader (typeAt ws h) ≡ true)
 unfolding gapOk
 gap-header xs ws h p e =
-    let a = and-eq-true-iff (startsAt xs h) (isHeader (typeAt ws h) && (under? (spotIn xs p) (some h) || endsAt (spotIn xs h) p)) .0 e in
-    let b = and-eq-true-iff (isHeader (typeAt ws h)) (under? (spotIn xs p) (some h) || endsAt (spotIn xs h) p) .0 (a .1) in
+    let a = and-eq-true-iff (startsAt xs h) (isHeader (typeAt ws h) && (isUnder (spotIn xs p) (some h) || endsAt (spotIn xs h) p)) .0 e in
+    let b = and-eq-true-iff (isHeader (typeAt ws h)) (isUnder (spotIn xs p) (some h) || endsAt (spotIn xs h) p) .0 (a .1) in
     (starts (spotIn xs h) (a .0), b .0)
 
 -- and so is an element's direct header

@@ -6,7 +6,7 @@ use mathlib.Core.Path.{_≡_, ap, _∙_}
 use mathlib.Core.List.{List}
 use lib.ListN.{length, length-append}
 use Rattle.headers.specs.Header.{typeAt}
-use Rattle.grammar.specs.Grammar.{Own}
+use Rattle.grammar.proofs.Tests.{OwnTests}
 use Rattle.grammar.proofs.Forest.{Forest, node, flat, num, weight, Wf, own-stands}
 use Rattle.grammar.proofs.Stands.{Stands}
 use Rattle.grammar.proofs.Rules.{own-two, own-size}
@@ -24,7 +24,7 @@ reach-itself ws at p e = let two = words-two ws at in holder-here ws at p (omega
 
 module _ {dim depth under : ℕ} (ws own : List ℕ) (at p : ℕ) where
   -- the way goes past an element
-  pub reach-past : (k f : Forest) (w : Way) → Own dim depth under own (length (flat k)) (num k) → Stands (flat (plug (past own k w) f)) at ws →
+  pub reach-past : (k f : Forest) (w : Way) → OwnTests dim depth under own (length (flat k)) (num k) → Stands (flat (plug (past own k w) f)) at ws →
       p ≡ at + length (front (past own k w)) → holderOf ws at p ≡ holderOf ws (at + weight own k) p
   reach-past k f w o t e =
       let x = extent-weight _ _ _ _ _ _ _ _ o (own-stands own k (plug w f) t) in

@@ -1,5 +1,5 @@
 -- The totals of the headers on the path from the top down to a named one, on a file's bytes: a descent that finds each
--- enclosing header among its siblings, corrects its total and goes on under it (document 01, "Editing").
+-- enclosing header among its siblings, corrects its total and goes on under it (RULES.md, "Edits").
 -- On an accepted file these are the totals and the room of edits' specs (proofs/Totals).
 use Prim.Native.Nat.{ℕ, zero, suc, _+_, _/_, _%_}
 use mathlib.Core.List.{List}

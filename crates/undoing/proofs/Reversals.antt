@@ -29,13 +29,13 @@ use Rattle.journals.proofs.Records.{before-length}
 use Rattle.opening.specs.Opening.{sessionOf, headerOf}
 use Rattle.opening.proofs.Opening.{AcceptedUsed}
 use Rattle.faults.specs.Faults.{sameAbove, standsUnder}
-use Rattle.reversing.specs.Reversing.{reversesAt}
-use Rattle.reversing.proofs.Exact.{recordBy, reversible-is}
-use Rattle.cell_names.specs.CellNames.{namePut, nameBytes}
+use Rattle.faults.specs.Reversing.{reversesAt}
+use Rattle.faults.proofs.ExactReversals.{recordBy, reversible-is}
+use Rattle.changes.specs.CellNames.{namePut, nameBytes}
 use Rattle.changes.specs.Changes.{flagPut, pieceIn, extentOut}
 use Rattle.changes.proofs.Made as made
-use Rattle.steps.specs.Steps.{Stepped, lastPlace, aboveAt}
-use Rattle.steps.proofs.Pushed.{header-above, name-words}
+use Rattle.opening.specs.Steps.{Stepped, lastPlace, aboveAt}
+use Rattle.opening.proofs.Pushed.{header-above, name-words}
 use Rattle.undoing.specs.Undoing.{OpenFile, Reversed}
 use Rattle.undoing.proofs.Ways.{back-refused, back-room, back-done, undo-bad, undo-reversed, accepted-used}
 

@@ -12,11 +12,11 @@ use Rattle.edits.specs.declared.Edited.the-variants.{Made, Refused}
 use Rattle.edits.specs.Edits.{apply}
 use Rattle.edits.specs.Allowed.{Fault?, fine, fault}
 use Rattle.edits.specs.Records.{Rec, lastRecord, reversal, reversible}
-use Rattle.edits.specs.Calls.{Session, undo-call, usedWords, sessionFault, stored, refused, resultBy, undoMade, reversalFault, undoBy, undone, step}
+use Rattle.edits.specs.Calls.{Session, undo-call, usedWords, journalOf, wordsOf, sessionFault, stored, refused, resultBy, undoMade, reversalFault, undoBy, undone, step}
 use Rattle.opening.proofs.Opening.{AcceptedUsed, open-accepted}
-use Rattle.steps.specs.Steps.{Stepped, lastPlace, Open}
-use Rattle.steps.proofs.Steps.{by-result, left, opened}
-use Rattle.steps.proofs.Opened.{open-by, file-lengths}
+use Rattle.opening.specs.Steps.{Stepped, lastPlace, Open}
+use Rattle.opening.proofs.Steps.{by-result, left, opened}
+use Rattle.opening.proofs.OpenSession.{open-by, file-lengths}
 use Rattle.undoing.specs.Undoing.{Reversed, answerBy, fileBy, OpenFile}
 
 ---- the file of an open session
@@ -65,19 +65,19 @@ module _ (dim : ℕ) (s : Session) (ready : sessionFault dim s ≡ fine) where
   undo-nothing e = left (refused s 17 0) (opened dim s undo-call refl ready ∙ rw e refl)
 
   module _ (some-used : s .jused ≡ 0 → ⊥) where
-    undo-some : step dim s undo-call ≡ undoBy dim s (usedWords (s .file) (s .used)) (lastRecord (usedWords (s .journal) (s .jused)))
+    undo-some : step dim s undo-call ≡ undoBy dim s (wordsOf s) (lastRecord (journalOf s))
     unfolding undone
     undo-some = opened dim s undo-call refl ready ∙ rw (ne-eqb (s .jused) 0 some-used) refl
 
-    pub undo-bad : lastRecord (usedWords (s .journal) (s .jused)) ≡ none → Stepped dim s undo-call (Refused 19 0) (s .file) (s .journal)
+    pub undo-bad : lastRecord (journalOf s) ≡ none → Stepped dim s undo-call (Refused 19 0) (s .file) (s .journal)
     undo-bad e = left (refused s 19 0) (undo-some ∙ rw e refl)
 
     -- the last record's reversal, by what it answers and leaves
-    pub undo-reversed : (rec : Rec) (js : List ℕ) (before : ℕ) (r : Edited) (after : List ℕ) → lastRecord (usedWords (s .journal) (s .jused)) ≡ some (rec, js) →
+    pub undo-reversed : (rec : Rec) (js : List ℕ) (before : ℕ) (r : Edited) (after : List ℕ) → lastRecord (journalOf s) ≡ some (rec, js) →
         2 * length js ≡ before → Reversed dim (s .file) (s .used) rec before r after → Stepped dim s undo-call r after (s .journal)
     unfolding undoMade
     undo-reversed rec js before r after e l v =
-        let ws = usedWords (s .file) (s .used) in
+        let ws = wordsOf s in
         let q = undoMade s (apply dim ws (reversal ws rec)) (2 * length js) in
         let step-is : step dim s undo-call ≡ resultBy (reversalFault dim ws (length (s .file)) rec) s q = undo-some ∙ rw e refl in
         by-result step-is (record {

@@ -15,7 +15,7 @@ use Rattle.edits.specs.Records.{Rec, reversal}
 use Rattle.edits.specs.Calls.{usedWords, stored, reversalFault}
 use Rattle.journals.specs.declared.Last.{Last}
 use Rattle.journals.specs.declared.Last.the-variants as last
-use Rattle.steps.specs.Steps.{lastPlace}
+use Rattle.opening.specs.Steps.{lastPlace}
 
 -- the file of a session that opens, with what starts at the place p of it
 pub record OpenFile (dim : ℕ) (file : List ℕ) (used p : ℕ) (found : Spotted) : Type 0 where

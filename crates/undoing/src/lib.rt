@@ -9,7 +9,7 @@ ghost use Rattle.edits.specs.Records.{flag, renamed, inserted, removed, placeOf
 ghost use Rattle.edits.specs.Calls.{undo-call};
 ghost use Rattle.journals.specs.Journals.{LastRead};
 ghost use Rattle.opening.specs.Opening.{sessionOf};
-ghost use Rattle.steps.specs.Steps.{Stepped, lastPlace, Open};
+ghost use Rattle.opening.specs.Steps.{Stepped, lastPlace, Open};
 ghost use Rattle.undoing.specs.Undoing.{OpenFile, placeIn, Reversed};
 use edits::Edited;
 use journals::Last;
@@ -32,7 +32,7 @@ fn undo_flag(
     ensures { λ r. ⌜ Reversed dim (now (file .entry)) used (flag place) before r (now (file .exit)) ⌝ }
 {
     let none = [0; 2];
-    if !reversing::reversible(
+    if !faults::reversible(
         &file[..used],
         dim,
         marker,
@@ -42,7 +42,7 @@ fn undo_flag(
         place,
         &none,
     ) {
-        return steps::refused(19);
+        return opening::refused(19);
     }
     let deleted = words::word(&file[..used], place) / 32768 % 2 == 0;
     changes::mark_element(&mut file[..used], place, deleted);
@@ -68,8 +68,8 @@ fn undo_renamed(
     requires { ⌜ marker ≡ lastPlace (now file) used ⌝ }
     ensures { λ r. ⌜ Reversed dim (now (file .entry)) used (renamed place first second) before r (now (file .exit)) ⌝ }
 {
-    let payload = cell_names::name_bytes(first, second);
-    if !reversing::reversible(
+    let payload = changes::name_bytes(first, second);
+    if !faults::reversible(
         &file[..used],
         dim,
         marker,
@@ -79,9 +79,9 @@ fn undo_renamed(
         place,
         &payload,
     ) {
-        return steps::refused(19);
+        return opening::refused(19);
     }
-    cell_names::rename_cell(&mut file[..used], place, first, second);
+    changes::rename_cell(&mut file[..used], place, first, second);
     Edited::Made {
         used,
         jused: before,
@@ -105,14 +105,14 @@ fn undo_inserted(
         Spotted::Refused {
             number: _,
             place: _,
-        } => steps::refused(19),
+        } => opening::refused(19),
         Spotted::At {
             end,
             depth: _,
             above,
         } => {
-            if !faults::same_above(above, steps::header_at(header)) {
-                return steps::refused(19);
+            if !faults::same_above(above, opening::header_at(header)) {
+                return opening::refused(19);
             }
             let n = end - place;
             changes::remove_extent(file, used, above, place, n);
@@ -141,12 +141,12 @@ fn undo_removed(
     requires { ⌜ length (now piece) % 2 ≡ 0 ⌝ }
     ensures { λ r. ⌜ Reversed dim (now (file .entry)) used (removed (placeOf header) place (words (now (piece .entry)))) before r (now (file .exit)) ⌝ }
 {
-    let above = steps::header_at(header);
-    if !reversing::reversible(&file[..used], dim, marker, found, 4, above, place, piece) {
-        return steps::refused(19);
+    let above = opening::header_at(header);
+    if !faults::reversible(&file[..used], dim, marker, found, 4, above, place, piece) {
+        return opening::refused(19);
     }
     if file.len() - used < piece.len() {
-        return steps::refused(15);
+        return opening::refused(15);
     }
     changes::insert_piece(file, used, above, place, piece);
     Edited::Made {
@@ -209,10 +209,10 @@ fn undo_opened(
     ensures { λ r. ⌜ Stepped dim (sessionOf (now (file .entry)) used (now (journal .entry)) jused) undo-call r (now (file .exit)) (now (journal .entry)) ⌝ }
 {
     if jused == 0 {
-        return steps::refused(17);
+        return opening::refused(17);
     }
     match last {
-        Last::Bad => steps::refused(19),
+        Last::Bad => opening::refused(19),
         Last::Flag { place, before } => { undo_flag(file, used, dim, marker, place, found, before) }
         Last::Renamed {
             place,

@@ -1,4 +1,4 @@
--- What a view gives of an element (document 01, "The element header"): ws are the file's words, at is the element's
+-- What a view gives of an element (RULES.md, "Reading calls"): ws are the file's words, at is the element's
 -- place.
 use Prim.Native.Nat.{ℕ, _+_, _/_, _%_}
 use mathlib.Core.List.{List}

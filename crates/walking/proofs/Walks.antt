@@ -18,7 +18,7 @@ use Rattle.kinds.specs.Kinds.{isHeader}
 use Rattle.files.specs.Judge.{judgeOf}
 use Rattle.files.specs.Spots.{Spot, spotsOf}
 use Rattle.files.specs.declared.Judged.the-variants.{Accepted}
-use Rattle.grammar.specs.Grammar.{Own, Extent}
+use Rattle.grammar.proofs.Tests.{OwnTests, Extent}
 use Rattle.grammar.proofs.Forest.{Forest, nil, node, flat, Wf, spots, weight, length-node, own-stands, components-stand, rest-stand}
 use Rattle.grammar.proofs.Stands.{Stands}
 use Rattle.grammar.proofs.Rules.{own-size, own-type, own-extent}
@@ -63,7 +63,7 @@ at-place place depth ends = record { place = place; depth = depth; ends = ends }
 abbrev between : ℕ → ℕ → List ℕ → Walk
 between place d ends = at-place place (closedTo d ends place) ends
 
-module _ {dim depth under inside n : ℕ} {own ws : List ℕ} {at : ℕ} (o : Own dim depth under own inside n) (s : Stands own at ws) (fits : at + length own ≤ length ws) where
+module _ {dim depth under inside n : ℕ} {own ws : List ℕ} {at : ℕ} (o : OwnTests dim depth under own inside n) (s : Stands own at ws) (fits : at + length own ≤ length ws) where
   header-of : (b : Bool) → isHeader (typeAt ws at) ≡ b → isHeader (typeAt own 0) ≡ b
   header-of b e = ap isHeader (sym (own-type o s)) ∙ e
 
@@ -120,7 +120,7 @@ record Through (ws : List ℕ) (d at end : ℕ) (ends : List ℕ) (xs : List Spo
 under-same : (d e : ℕ) (last ends : List ℕ) → Same (suc d) last (set ends (suc d) e) → Same d last ends
 under-same d e last ends s j h = s j (omega arith) ∙ getD-set-other ends (suc d) j e 0 (λ q. omega arith)
 
-module _ {dim d under inside n : ℕ} {own ws : List ℕ} {at : ℕ} (o : Own dim d under own inside n) (s : Stands own at ws)
+module _ {dim d under inside n : ℕ} {own ws : List ℕ} {at : ℕ} (o : OwnTests dim d under own inside n) (s : Stands own at ws)
     {end : ℕ} (fits : at + (length own + inside) ≤ end) (in-file : end ≤ length ws) (ends : List ℕ) (around : EndsAt d ends end)
     (x : Spot) (place : x .place ≡ at) (depth : x .depth ≡ d) where
   -- the element itself, and the walk from where its step leads

@@ -1,3 +1,4 @@
 pub mod Stores
 pub mod Laid
 pub mod Writes
+pub mod Refusals

@@ -1,4 +1,4 @@
--- Writing an element (document 01, "Writing"): the answer, and what the buffer then holds.
+-- Writing an element (RULES.md, "Writing"): the answer, and what the buffer then holds.
 use Prim.Native.Nat.{ℕ, _*_}
 use mathlib.Core.Path.{_≡_}
 use mathlib.Core.Bool.{cond}

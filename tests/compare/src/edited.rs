@@ -30,7 +30,7 @@ fn which(call: &Call) -> usize {
     }
 }
 
-/// The numbers that each call can answer by itself, in the order of document 01.
+/// The numbers that each call can answer by itself, in the order of the rules.
 const NUMBERS: [&[usize]; 5] =
     [&[1, 13, 14, 16], &[1, 13, 18, 12, 16], &[1, 13, 15, 16], &[1, 13, 16], &[1, 17, 19, 15]];
 

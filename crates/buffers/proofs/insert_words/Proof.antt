@@ -40,13 +40,20 @@ same-length c = search needs
 
 returns-6 : tie.Need-returns-6
 returns-6 c =
-    let args = c .before .before .before .before .before .before .before .before .before .before .before .before .before .before .before .args in
-    let file = lent-below (args .file .now) (c .before .before .before .before .before .before .before .before .before .before .before .before .before .before .slice-known .given) in
-    let piece = lent-below (args .piece .now) (c .before .before .before .before .before .before .before .before .before .before .before .before .before .shared-slice-known .given) in
-    let even = c .before .before .before .before .before .before .before .before .before .before .before .before .if1 .left in
-    let even-piece = c .before .before .before .before .before .before .before .before .before .before .before .if2 .left in
-    insert-moves _ _ _ file even (omega arith) _ _ _ piece even-piece (omega arith) (omega arith) (c .before .before .before .before .before .before .move-up .ensures) ((c .before .before .copy-in .ensures) ∙ copied-fits _ _ _ (omega arith))
-    ∙ sym (inserted-fits _ _ _ _ even even-piece (omega arith) (omega arith))
+    let at-move-up = c .before .before .before .before .before .before in
+    let at-if2 = at-move-up .before .before .before .before .before in
+    let at-if1 = at-if2 .before in
+    let at-shared-slice-known = at-if1 .before in
+    let at-slice-known = at-shared-slice-known .before in
+    let start = at-slice-known .before in
+    let args = start .args in
+    let file = lent-below (args .file .now) (at-slice-known .slice-known .given) in
+    let piece = lent-below (args .piece .now) (at-shared-slice-known .shared-slice-known .given) in
+    let even = at-if1 .if1 .left in
+    let even-piece = at-if2 .if2 .left in
+    insert-moves _ _ _ file even (omega arith) _ _ _ piece even-piece (omega arith) (omega arith)
+    (at-move-up .move-up .ensures) ((c .before .before .copy-in .ensures) ∙ copied-fits _ _ _ (omega arith)) ∙ sym
+    (inserted-fits _ _ _ _ even even-piece (omega arith) (omega arith))
 
 pub insert-words-spec : {M : Type 1} → statement M
 insert-words-spec =

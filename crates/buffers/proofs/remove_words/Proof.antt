@@ -43,11 +43,15 @@ same-length c = search needs
 
 returns-5 : tie.Need-returns-5
 returns-5 c =
-    let args = c .before .before .before .before .before .before .before .before .before .before .before .before .before .args in
-    let file = lent-below (args .file .now) (c .before .before .before .before .before .before .before .before .before .before .before .before .slice-known .given) in
-    let even = c .before .before .before .before .before .before .before .before .before .before .before .if1 .left in
-    remove-moves _ _ _ file even (omega arith) _ _ _ (omega arith) (c .before .before .before .before .before .before .move-down .ensures) (c .before .before .clear .ensures)
-    ∙ sym (removed-fits _ _ _ _ even (omega arith) (omega arith))
+    let at-move-down = c .before .before .before .before .before .before in
+    let at-if1 = at-move-down .before .before .before .before .before in
+    let at-slice-known = at-if1 .before in
+    let start = at-slice-known .before in
+    let args = start .args in
+    let file = lent-below (args .file .now) (at-slice-known .slice-known .given) in
+    let even = at-if1 .if1 .left in
+    remove-moves _ _ _ file even (omega arith) _ _ _ (omega arith) (at-move-down .move-down .ensures)
+    (c .before .before .clear .ensures) ∙ sym (removed-fits _ _ _ _ even (omega arith) (omega arith))
 
 pub remove-words-spec : {M : Type 1} → statement M
 remove-words-spec =

@@ -19,7 +19,9 @@ same-length : tie.Need-same-length
 same-length c = search needs
 
 returns-2 : tie.Need-returns-2
-returns-2 c = rw (c .before .before .before .before .before .header .given .1) (c .before .before .correct-totals .ensures)
+returns-2 c =
+    let at-header = c .before .before .before .before .before in
+    rw (at-header .header .given .1) (c .before .before .correct-totals .ensures)
 
 pub correct-under-spec : {M : Type 1} → statement M
 correct-under-spec =

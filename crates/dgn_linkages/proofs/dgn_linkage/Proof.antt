@@ -2,7 +2,7 @@
 use native.Mathlib.Omega.{arith}
 use mathlib.Core.Path.{ap, sym, _∙_}
 use lib.ListN.{length-set}
-use Rattle.dgn_linkages.specs.Answers.{linkageReply}
+use Rattle.dgn_linkages.specs.LinkageNumbers.{linkageReply}
 use Rattle.answers.proofs.Laws.{too-short, answered}
 use borrow.Author.Needs.{needs}
 use Rattle.dgn_linkages.proofs.dgn_linkage.Statement.{statement}
@@ -42,13 +42,25 @@ same-length : tie.Need-same-length
 same-length c = search needs
 
 returns-2 : tie.Need-returns-2
-returns-2 c = rw ((c .pick .ensures)) (answered 4 _ _ ((c .before .before .before .before .before .before .before .before .args .out .now)) (ap linkageReply (sym ((c .before .before .before .before .linkage-at .ensures)) ∙ (c .before .before .user .given .1))) ((c .before .before .before .before .before .if1 .left)))
+returns-2 c =
+    let at-linkage-at = c .before .before .before .before in
+    let at-if1 = at-linkage-at .before in
+    let start = at-if1 .before .before .before in
+    rw (c .pick .ensures)
+    (answered 4 _ _ (start .args .out .now)
+    (ap linkageReply (sym (at-linkage-at .linkage-at .ensures) ∙ (c .before .before .user .given .1)))
+    (at-if1 .if1 .left))
 
 same-length-2 : tie.Need-same-length-2
 same-length-2 c = search needs
 
 returns-3 : tie.Need-returns-3
-returns-3 c = answered 4 _ _ ((c .before .before .before .before .before .before .before .args .out .now)) (ap linkageReply (sym ((c .before .before .before .linkage-at .ensures)) ∙ (c .before .number .given .1))) ((c .before .before .before .before .if1 .left))
+returns-3 c =
+    let at-linkage-at = c .before .before .before in
+    let at-if1 = at-linkage-at .before in
+    let start = at-if1 .before .before .before in
+    answered 4 _ _ (start .args .out .now)
+    (ap linkageReply (sym (at-linkage-at .linkage-at .ensures) ∙ (c .before .number .given .1))) (at-if1 .if1 .left)
 
 pub dgn-linkage-spec : {M : Type 1} → statement M
 dgn-linkage-spec =

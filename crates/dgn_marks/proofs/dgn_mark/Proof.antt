@@ -32,7 +32,12 @@ same-length-4 : tie.Need-same-length-4
 same-length-4 c = search needs
 
 returns-3 : tie.Need-returns-3
-returns-3 c = mark-left _ _ _ _ _ ((c .before .before .before .before .before .before .before .before .mark .result)) _ _ _ _ ((c .before .before .before .before .before .before .before .before .before .before .before .before .if1 .left)) ((c .before .before .before .before .before .before .before .before .before .before .before .if2 .left)) ((c .before .before .before .before .before .before .before .before .mark .ensures)) ((c .before .before .put-edited .ensures))
+returns-3 c =
+    let at-mark = c .before .before .before .before .before .before .before .before in
+    let at-if2 = at-mark .before .before .before in
+    let at-if1 = at-if2 .before in
+    mark-left _ _ _ _ _ (at-mark .mark .result) _ _ _ _ (at-if1 .if1 .left) (at-if2 .if2 .left) (at-mark .mark .ensures)
+    (c .before .before .put-edited .ensures)
 
 pub dgn-mark-spec : {M : Type 1} → statement M
 dgn-mark-spec =

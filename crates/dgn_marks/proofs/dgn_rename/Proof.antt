@@ -23,7 +23,11 @@ same-length-3 : tie.Need-same-length-3
 same-length-3 c = search needs
 
 returns-2 : tie.Need-returns-2
-returns-2 c = left _ _ _ _ ((c .before .before .before .before .before .before .before .before .rename .result)) _ _ _ _ ((c .before .before .before .before .before .before .before .before .before .before .before .if1 .left)) ((c .before .before .before .before .before .before .before .before .rename .ensures)) ((c .before .before .put-edited .ensures))
+returns-2 c =
+    let at-rename = c .before .before .before .before .before .before .before .before in
+    let at-if1 = at-rename .before .before .before in
+    left _ _ _ _ (at-rename .rename .result) _ _ _ _ (at-if1 .if1 .left) (at-rename .rename .ensures)
+    (c .before .before .put-edited .ensures)
 
 pub dgn-rename-spec : {M : Type 1} → statement M
 dgn-rename-spec =

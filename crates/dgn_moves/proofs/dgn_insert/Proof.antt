@@ -26,7 +26,13 @@ same-length-3 : tie.Need-same-length-3
 same-length-3 c = search needs
 
 returns-2 : tie.Need-returns-2
-returns-2 c = left _ _ _ _ ((c .before .before .before .before .before .before .before .before .insert .result)) _ _ _ _ ((c .before .before .before .before .before .before .before .before .before .before .before .before .if1 .left)) (rw ((c .before .before .before .before .before .before .before .before .before .before .before .header-given .ensures)) at ((c .before .before .before .before .before .before .before .before .insert .ensures))) ((c .before .before .put-edited .ensures))
+returns-2 c =
+    let at-insert = c .before .before .before .before .before .before .before .before in
+    let at-header-given = at-insert .before .before .before in
+    let at-if1 = at-header-given .before in
+    left _ _ _ _ (at-insert .insert .result) _ _ _ _ (at-if1 .if1 .left)
+    (rw (at-header-given .header-given .ensures) at (at-insert .insert .ensures))
+    (c .before .before .put-edited .ensures)
 
 pub dgn-insert-spec : {M : Type 1} → statement M
 dgn-insert-spec =

@@ -23,7 +23,11 @@ same-length-3 : tie.Need-same-length-3
 same-length-3 c = search needs
 
 returns-2 : tie.Need-returns-2
-returns-2 c = left _ _ _ _ ((c .before .before .before .before .before .before .before .before .remove .result)) _ _ _ _ ((c .before .before .before .before .before .before .before .before .before .before .before .if1 .left)) ((c .before .before .before .before .before .before .before .before .remove .ensures)) ((c .before .before .put-edited .ensures))
+returns-2 c =
+    let at-remove = c .before .before .before .before .before .before .before .before in
+    let at-if1 = at-remove .before .before .before in
+    left _ _ _ _ (at-remove .remove .result) _ _ _ _ (at-if1 .if1 .left) (at-remove .remove .ensures)
+    (c .before .before .put-edited .ensures)
 
 pub dgn-remove-spec : {M : Type 1} → statement M
 dgn-remove-spec =

@@ -2,7 +2,7 @@
 use native.Mathlib.Omega.{arith}
 use mathlib.Core.Path.{ap, sym, _∙_}
 use lib.ListN.{length-set}
-use Rattle.dgn_names.specs.Answers.{packReply}
+use Rattle.dgn_names.specs.PackUnpack.{packReply}
 use Rattle.answers.proofs.Laws.{too-short, answered}
 use borrow.Author.Needs.{needs}
 use Rattle.dgn_names.proofs.dgn_pack.Statement.{statement}
@@ -33,13 +33,23 @@ same-length : tie.Need-same-length
 same-length c = search needs
 
 returns-2 : tie.Need-returns-2
-returns-2 c = answered 2 _ _ ((c .before .before .before .before .before .before .before .args .out .now)) (ap packReply (sym ((c .before .before .before .pack .ensures)) ∙ (c .before .first .given .1))) ((c .before .before .before .before .if1 .left))
+returns-2 c =
+    let at-pack = c .before .before .before in
+    let at-if1 = at-pack .before in
+    let start = at-if1 .before .before .before in
+    answered 2 _ _ (start .args .out .now) (ap packReply (sym (at-pack .pack .ensures) ∙ (c .before .first .given .1)))
+    (at-if1 .if1 .left)
 
 same-length-2 : tie.Need-same-length-2
 same-length-2 c = search needs
 
 returns-3 : tie.Need-returns-3
-returns-3 c = answered 2 _ _ ((c .before .before .before .before .before .before .before .args .out .now)) (ap packReply (sym ((c .before .before .before .pack .ensures)) ∙ (c .before .number .given .1))) ((c .before .before .before .before .if1 .left))
+returns-3 c =
+    let at-pack = c .before .before .before in
+    let at-if1 = at-pack .before in
+    let start = at-if1 .before .before .before in
+    answered 2 _ _ (start .args .out .now) (ap packReply (sym (at-pack .pack .ensures) ∙ (c .before .number .given .1)))
+    (at-if1 .if1 .left)
 
 pub dgn-pack-spec : {M : Type 1} → statement M
 dgn-pack-spec =

@@ -1,6 +1,6 @@
 -- A slice that is too short stays; any other takes the letters, and stays where the words are refused.
 use mathlib.Core.Path.{sym, ap, _∙_}
-use Rattle.dgn_names.specs.Answers.{unpackReply, textReply}
+use Rattle.dgn_names.specs.PackUnpack.{unpackReply, textReply}
 use Rattle.answers.proofs.Laws.{too-short, answered}
 use borrow.Author.Needs.{needs}
 use Rattle.dgn_names.proofs.dgn_unpack.Statement.{statement}
@@ -25,10 +25,26 @@ same-length : tie.Need-same-length
 same-length c = search needs
 
 returns-2 : tie.Need-returns-2
-returns-2 c = rw ((c .before .before .put-letters .ensures)) (answered 7 _ _ ((c .before .before .before .before .before .before .before .before .before .before .args .text .now)) (ap unpackReply (sym ((c .before .before .before .before .before .before .before .unpack .ensures))) ∙ ap (λ x. textReply x ((c .before .before .before .before .before .before .before .unpack .result .letters))) ((c .before .before .before .before .enum-told .given .1))) ((c .before .before .before .before .before .before .before .before .if1 .left)))
+returns-2 c =
+    let at-enum-told = c .before .before .before .before in
+    let at-unpack = at-enum-told .before .before .before in
+    let at-if1 = at-unpack .before in
+    let start = at-if1 .before .before in
+    rw (c .before .before .put-letters .ensures)
+    (answered 7 _ _ (start .args .text .now)
+    (ap unpackReply (sym (at-unpack .unpack .ensures)) ∙ ap (λ x. textReply x (at-unpack .unpack .result .letters))
+    (at-enum-told .enum-told .given .1))
+    (at-if1 .if1 .left))
 
 returns-3 : tie.Need-returns-3
-returns-3 c = answered 7 _ _ ((c .before .before .before .before .before .before .before .args .text .now)) (ap unpackReply (sym ((c .before .before .before .before .unpack .ensures))) ∙ ap (λ x. textReply x ((c .before .before .before .before .unpack .result .letters))) ((c .before .answer .given .1))) ((c .before .before .before .before .before .if1 .left))
+returns-3 c =
+    let at-unpack = c .before .before .before .before in
+    let at-if1 = at-unpack .before in
+    let start = at-if1 .before .before in
+    answered 7 _ _ (start .args .text .now)
+    (ap unpackReply (sym (at-unpack .unpack .ensures)) ∙ ap (λ x. textReply x (at-unpack .unpack .result .letters))
+    (c .before .answer .given .1))
+    (at-if1 .if1 .left)
 
 pub dgn-unpack-spec : {M : Type 1} → statement M
 dgn-unpack-spec =

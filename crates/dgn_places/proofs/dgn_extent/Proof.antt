@@ -2,7 +2,7 @@
 use native.Mathlib.Omega.{arith}
 use mathlib.Core.Path.{ap, sym, _∙_}
 use lib.ListN.{length-set}
-use Rattle.dgn_places.specs.Answers.{extentReply}
+use Rattle.dgn_places.specs.ExtentPoint.{extentReply}
 use Rattle.answers.proofs.Laws.{too-short, answered}
 use borrow.Author.Needs.{needs}
 use Rattle.dgn_places.proofs.dgn_extent.Statement.{statement}
@@ -33,13 +33,24 @@ same-length : tie.Need-same-length
 same-length c = simp length-set
 
 returns-2 : tie.Need-returns-2
-returns-2 c = answered 2 _ _ (c .before .before .before .before .before .before .before .args .out .now) (ap extentReply (sym ((c .before .before .before .extent-answer .ensures)) ∙ c .before .start .given .1)) ((c .before .before .before .before .if1 .left))
+returns-2 c =
+    let at-extent-answer = c .before .before .before in
+    let at-if1 = at-extent-answer .before in
+    let start = at-if1 .before .before .before in
+    answered 2 _ _ (start .args .out .now)
+    (ap extentReply (sym (at-extent-answer .extent-answer .ensures) ∙ c .before .start .given .1)) (at-if1 .if1 .left)
 
 same-length-2 : tie.Need-same-length-2
 same-length-2 c = simp length-set
 
 returns-3 : tie.Need-returns-3
-returns-3 c = answered 2 _ _ ((c .before .before .before .before .before .before .before .args .out .now)) (ap extentReply (sym ((c .before .before .before .extent-answer .ensures)) ∙ (c .before .number .given .1))) ((c .before .before .before .before .if1 .left))
+returns-3 c =
+    let at-extent-answer = c .before .before .before in
+    let at-if1 = at-extent-answer .before in
+    let start = at-if1 .before .before .before in
+    answered 2 _ _ (start .args .out .now)
+    (ap extentReply (sym (at-extent-answer .extent-answer .ensures) ∙ (c .before .number .given .1)))
+    (at-if1 .if1 .left)
 
 pub dgn-extent-spec : {M : Type 1} → statement M
 dgn-extent-spec =

@@ -4,7 +4,7 @@ use mathlib.Core.Path.{sym, ap, _∙_}
 use lib.ListN.{length-set}
 use mir.Syntax.{w64}
 use mir.ValLaws.{toZ-ofZ, toZ-pos}
-use Rattle.dgn_places.specs.Answers.{pointReply}
+use Rattle.dgn_places.specs.ExtentPoint.{pointReply}
 use Rattle.answers.proofs.Laws.{too-short, answered}
 use Rattle.dgn_places.proofs.Places.{point-inside}
 use borrow.Author.Needs.{needs}
@@ -54,19 +54,49 @@ same-length : tie.Need-same-length
 same-length c = simp length-set
 
 returns-2 : tie.Need-returns-2
-returns-2 c = rw (toZ-ofZ w64 ((c .before .x .given .0 .0)) (record { sfits = (c .known-told .given .0 .1) }), toZ-ofZ w64 ((c .before .x .given .0 .1 .0)) (record { sfits = (c .known-told .given .1 .0 .1) })) (answered 3 _ _ ((c .before .before .before .before .before .before .args .out .now)) (ap pointReply (sym ((c .before .before .before .point-at .ensures)) ∙ (c .before .x .given .1))) ((c .before .before .before .before .if1 .left)))
+returns-2 c =
+    let at-point-at = c .before .before .before in
+    let at-if1 = at-point-at .before in
+    let start = at-if1 .before .before in
+    rw (
+      toZ-ofZ w64 (c .before .x .given .0 .0) (record { sfits = (c .known-told .given .0 .1) }),
+      toZ-ofZ w64
+          (c .before .x .given .0 .1 .0) (record { sfits = (c .known-told .given .1 .0 .1) }),
+    )
+    (answered 3 _ _ (start .args .out .now)
+    (ap pointReply (sym (at-point-at .point-at .ensures) ∙ (c .before .x .given .1))) (at-if1 .if1 .left))
 
 same-length-2 : tie.Need-same-length-2
 same-length-2 c = simp length-set
 
 returns-3 : tie.Need-returns-3
-returns-3 c = rw (toZ-ofZ w64 ((c .before .x2 .given .0 .0)) (record { sfits = (c .known-told2 .given .0 .1) }), toZ-ofZ w64 ((c .before .x2 .given .0 .1 .0)) (record { sfits = (c .known-told2 .given .1 .0 .1) }), toZ-ofZ w64 ((c .before .x2 .given .0 .1 .1 .0)) (record { sfits = (c .known-told2 .given .1 .1 .0 .1) })) (answered 3 _ _ ((c .before .before .before .before .before .before .args .out .now)) (ap pointReply (sym ((c .before .before .before .point-at .ensures)) ∙ (c .before .x2 .given .1))) ((c .before .before .before .before .if1 .left)))
+returns-3 c =
+    let at-point-at = c .before .before .before in
+    let at-if1 = at-point-at .before in
+    let start = at-if1 .before .before in
+    rw (
+      toZ-ofZ w64 (c .before .x2 .given .0 .0) (record { sfits = (c .known-told2 .given .0 .1) }),
+      toZ-ofZ w64
+          (c .before .x2 .given .0 .1 .0) (record { sfits = (c .known-told2 .given .1 .0 .1) }),
+      toZ-ofZ w64
+          (c .before .x2 .given .0 .1 .1 .0) (record { sfits = (c .known-told2 .given .1 .1 .0 .1) }),
+    )
+    (answered 3 _ _ (start .args .out .now)
+    (ap pointReply (sym (at-point-at .point-at .ensures) ∙ (c .before .x2 .given .1))) (at-if1 .if1 .left))
 
 same-length-3 : tie.Need-same-length-3
 same-length-3 c = simp length-set
 
 returns-4 : tie.Need-returns-4
-returns-4 c = rw (toZ-pos w64 ((c .before .number .given .0 .1 .0)) (omega (arith, point-inside _ _ _ _ _ _ (sym ((c .before .before .before .point-at .ensures)) ∙ (c .before .number .given .1))))) (answered 3 _ _ ((c .before .before .before .before .before .before .args .out .now)) (ap pointReply (sym ((c .before .before .before .point-at .ensures)) ∙ (c .before .number .given .1))) ((c .before .before .before .before .if1 .left)))
+returns-4 c =
+    let at-point-at = c .before .before .before in
+    let at-if1 = at-point-at .before in
+    let start = at-if1 .before .before in
+    rw
+    (toZ-pos w64 (c .before .number .given .0 .1 .0)
+    (omega (arith, point-inside _ _ _ _ _ _ (sym (at-point-at .point-at .ensures) ∙ (c .before .number .given .1)))))
+    (answered 3 _ _ (start .args .out .now)
+    (ap pointReply (sym (at-point-at .point-at .ensures) ∙ (c .before .number .given .1))) (at-if1 .if1 .left))
 
 pub dgn-point-spec : {M : Type 1} → statement M
 dgn-point-spec =

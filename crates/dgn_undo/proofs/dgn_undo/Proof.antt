@@ -20,7 +20,11 @@ same-length-2 : tie.Need-same-length-2
 same-length-2 c = search needs
 
 returns-2 : tie.Need-returns-2
-returns-2 c = left _ _ _ _ ((c .before .before .before .before .before .before .undo .result)) _ _ _ _ ((c .before .before .before .before .before .before .before .before .if1 .left)) ((c .before .before .before .before .before .before .undo .ensures)) ((c .before .before .put-edited .ensures))
+returns-2 c =
+    let at-undo = c .before .before .before .before .before .before in
+    let at-if1 = at-undo .before .before in
+    left _ _ _ _ (at-undo .undo .result) _ _ _ _ (at-if1 .if1 .left) (at-undo .undo .ensures)
+    (c .before .before .put-edited .ensures)
 
 pub dgn-undo-spec : {M : Type 1} → statement M
 dgn-undo-spec =

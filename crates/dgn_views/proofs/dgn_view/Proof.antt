@@ -32,13 +32,31 @@ same-length : tie.Need-same-length
 same-length c = search needs
 
 returns-2 : tie.Need-returns-2
-returns-2 c = rw ((c .before .before .put-kind .ensures), (c .before .before .before .before .before .before .put-common .ensures), ← element-put ((c .before .before .before .before .before .before .before .before .before .before .before .before .before .before .before .args .out .now)) ((c .before .before .before .before .before .before .before .before .before .element .given .0 .0))) (answered 32 _ _ ((c .before .before .before .before .before .before .before .before .before .before .before .before .before .before .before .args .out .now)) (ap viewReply (sym ((c .before .before .before .before .before .before .before .before .before .before .before .view-at .ensures)) ∙ (c .before .before .before .before .before .before .before .before .before .element .given .1))) ((c .before .before .before .before .before .before .before .before .before .before .before .before .if1 .left)))
+returns-2 c =
+    let at-put-common = c .before .before .before .before .before .before in
+    let at-element = at-put-common .before .before .before in
+    let at-view-at = at-element .before .before in
+    let at-if1 = at-view-at .before in
+    let start = at-if1 .before .before .before in
+    rw (
+      (c .before .before .put-kind .ensures),
+      (at-put-common .put-common .ensures),
+      ← element-put (start .args .out .now)
+          (at-element .element .given .0 .0),
+    )
+    (answered 32 _ _ (start .args .out .now)
+    (ap viewReply (sym (at-view-at .view-at .ensures) ∙ (at-element .element .given .1))) (at-if1 .if1 .left))
 
 same-length-2 : tie.Need-same-length-2
 same-length-2 c = search needs
 
 returns-3 : tie.Need-returns-3
-returns-3 c = answered 32 _ _ ((c .before .before .before .before .before .before .before .args .out .now)) (ap viewReply (sym ((c .before .before .before .view-at .ensures)) ∙ (c .before .number .given .1))) ((c .before .before .before .before .if1 .left))
+returns-3 c =
+    let at-view-at = c .before .before .before in
+    let at-if1 = at-view-at .before in
+    let start = at-if1 .before .before .before in
+    answered 32 _ _ (start .args .out .now)
+    (ap viewReply (sym (at-view-at .view-at .ensures) ∙ (c .before .number .given .1))) (at-if1 .if1 .left)
 
 pub dgn-view-spec : {M : Type 1} → statement M
 dgn-view-spec =

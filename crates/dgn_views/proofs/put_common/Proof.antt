@@ -38,7 +38,25 @@ same-length : tie.Need-same-length
 same-length c = search needs
 
 returns : tie.Need-returns
-returns c = cc ((c .before .before .before .before .before .before .before .before .before .before .before .before .before .before .before .before .before .before .pick .ensures), (c .before .before .before .before .before .before .before .before .before .before .before .before .before .before .before .before .before .pick2 .ensures), (c .before .before .before .before .before .before .before .before .before .before .before .before .before .before .put-numbers .ensures), (c .before .before .before .before .before .before .before .before .before .before .above-numbers .ensures), (c .before .before .before .before .before .before .before .before .put-numbers2 .ensures), (c .before .before .before .before .range-numbers .ensures), (c .before .before .put-numbers3 .ensures), common-put ((c .before .before .before .before .before .before .before .before .before .before .before .before .before .before .before .before .before .before .before .before .args .out .now)) ((c .before .before .before .before .before .before .before .before .before .before .before .before .before .before .before .before .before .before .before .before .args .element)))
+returns c =
+    let at-range-numbers = c .before .before .before .before in
+    let at-put-numbers2 = at-range-numbers .before .before .before .before in
+    let at-above-numbers = at-put-numbers2 .before .before in
+    let at-put-numbers = at-above-numbers .before .before .before .before in
+    let at-pick2 = at-put-numbers .before .before .before in
+    let at-pick = at-pick2 .before in
+    let start = at-pick .before .before in
+    cc (
+      (at-pick .pick .ensures),
+      (at-pick2 .pick2 .ensures),
+      (at-put-numbers .put-numbers .ensures),
+      (at-above-numbers .above-numbers .ensures),
+      (at-put-numbers2 .put-numbers2 .ensures),
+      (at-range-numbers .range-numbers .ensures),
+      (c .before .before .put-numbers3 .ensures),
+      common-put
+          (start .args .out .now) (start .args .element),
+    )
 
 pub put-common-spec : {M : Type 1} → statement M
 put-common-spec =

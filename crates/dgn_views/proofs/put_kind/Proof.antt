@@ -52,13 +52,64 @@ put-numbers-requires-5 : tie.Need-put-numbers-requires-5
 put-numbers-requires-5 c κs = search needs
 
 slice-write-out : tie.Need-slice-write-out
-slice-write-out c = omega (arith, (c .before .before .before .before .before .before .before .before .before .before .before .before .before .before .before .before .before .before .before .before .before .before .before .before .before .before .put-numbers .kept), (c .before .before .before .before .before .before .before .before .before .before .before .before .before .before .before .before .before .before .before .before .put-numbers2 .kept), (c .before .before .before .before .before .before .before .before .before .before .before .before .before .before .put-numbers3 .kept), (c .before .before .before .before .before .before .before .before .put-numbers4 .kept), (c .before .before .put-numbers5 .kept), (c .before .before .before .before .before .before .before .before .before .before .before .before .before .before .before .before .before .before .before .before .before .before .before .before .before .before .before .before .before .before .before .pre))
+slice-write-out c =
+    let at-put-numbers4 = c .before .before .before .before .before .before .before .before in
+    let at-put-numbers3 = at-put-numbers4 .before .before .before .before .before .before in
+    let at-put-numbers2 = at-put-numbers3 .before .before .before .before .before .before in
+    let at-put-numbers = at-put-numbers2 .before .before .before .before .before .before in
+    let start = at-put-numbers .before .before .before .before .before in
+    omega (
+      arith,
+      (at-put-numbers .put-numbers .kept),
+      (at-put-numbers2 .put-numbers2 .kept),
+      (at-put-numbers3 .put-numbers3 .kept),
+      (at-put-numbers4 .put-numbers4 .kept),
+      (c .before .before .put-numbers5 .kept),
+      (start .pre),
+    )
 
 same-length : tie.Need-same-length
-same-length c = simp length-set (omega (arith, (c .before .before .before .before .before .before .before .before .before .before .before .before .before .before .before .before .before .before .before .before .before .before .before .before .before .before .put-numbers .kept), (c .before .before .before .before .before .before .before .before .before .before .before .before .before .before .before .before .before .before .before .before .put-numbers2 .kept), (c .before .before .before .before .before .before .before .before .before .before .before .before .before .before .put-numbers3 .kept), (c .before .before .before .before .before .before .before .before .put-numbers4 .kept), (c .before .before .put-numbers5 .kept)))
+same-length c =
+    let at-put-numbers4 = c .before .before .before .before .before .before .before .before in
+    let at-put-numbers3 = at-put-numbers4 .before .before .before .before .before .before in
+    let at-put-numbers2 = at-put-numbers3 .before .before .before .before .before .before in
+    let at-put-numbers = at-put-numbers2 .before .before .before .before .before .before in
+    simp length-set
+    (omega (
+      arith,
+      (at-put-numbers .put-numbers .kept),
+      (at-put-numbers2 .put-numbers2 .kept),
+      (at-put-numbers3 .put-numbers3 .kept),
+      (at-put-numbers4 .put-numbers4 .kept),
+      (c .before .before .put-numbers5 .kept),
+    ))
 
 returns : tie.Need-returns
-returns c = cc ((c .before .before .before .before .before .before .before .before .before .before .before .before .before .before .before .before .before .before .before .before .before .before .before .before .before .before .before .before .display-numbers .ensures), (c .before .before .before .before .before .before .before .before .before .before .before .before .before .before .before .before .before .before .before .before .before .before .before .before .before .before .put-numbers .ensures), (c .before .before .before .before .before .before .before .before .before .before .before .before .before .before .before .before .before .before .before .before .before .before .number-numbers .ensures), (c .before .before .before .before .before .before .before .before .before .before .before .before .before .before .before .before .before .before .before .before .put-numbers2 .ensures), (c .before .before .before .before .before .before .before .before .before .before .before .before .before .before .before .before .name-numbers .ensures), (c .before .before .before .before .before .before .before .before .before .before .before .before .before .before .put-numbers3 .ensures), (c .before .before .before .before .before .before .before .before .before .before .number-numbers2 .ensures), (c .before .before .before .before .before .before .before .before .put-numbers4 .ensures), (c .before .before .before .before .number-numbers3 .ensures), (c .before .before .put-numbers5 .ensures), kind-put ((c .before .before .before .before .before .before .before .before .before .before .before .before .before .before .before .before .before .before .before .before .before .before .before .before .before .before .before .before .before .before .before .args .out .now)) ((c .before .before .before .before .before .before .before .before .before .before .before .before .before .before .before .before .before .before .before .before .before .before .before .before .before .before .before .before .before .before .before .args .element)))
+returns c =
+    let at-number-numbers3 = c .before .before .before .before in
+    let at-put-numbers4 = at-number-numbers3 .before .before .before .before in
+    let at-number-numbers2 = at-put-numbers4 .before .before in
+    let at-put-numbers3 = at-number-numbers2 .before .before .before .before in
+    let at-name-numbers = at-put-numbers3 .before .before in
+    let at-put-numbers2 = at-name-numbers .before .before .before .before in
+    let at-number-numbers = at-put-numbers2 .before .before in
+    let at-put-numbers = at-number-numbers .before .before .before .before in
+    let at-display-numbers = at-put-numbers .before .before in
+    let start = at-display-numbers .before .before .before in
+    cc (
+      (at-display-numbers .display-numbers .ensures),
+      (at-put-numbers .put-numbers .ensures),
+      (at-number-numbers .number-numbers .ensures),
+      (at-put-numbers2 .put-numbers2 .ensures),
+      (at-name-numbers .name-numbers .ensures),
+      (at-put-numbers3 .put-numbers3 .ensures),
+      (at-number-numbers2 .number-numbers2 .ensures),
+      (at-put-numbers4 .put-numbers4 .ensures),
+      (at-number-numbers3 .number-numbers3 .ensures),
+      (c .before .before .put-numbers5 .ensures),
+      kind-put
+          (start .args .out .now) (start .args .element),
+    )
 
 pub put-kind-spec : {M : Type 1} → statement M
 put-kind-spec =

@@ -47,7 +47,15 @@ same-length-3 : tie.Need-same-length-3
 same-length-3 c = search needs
 
 returns-3 : tie.Need-returns-3
-returns-3 c = written _ _ _ _ _ _ ((c .before .before .before .before .before .write .result)) _ _ (accepted ((c .before .before .before .before .before .before .before .before .before .fields-given .ensures)) ((c .before .before .before .before .before .before .before .before .if2 .left))) ((c .before .before .before .before .before .before .before .before .before .before .if1 .left)) (rw ((c .before .before .before .before .before .before .before .fields-of .ensures)) at ((c .before .before .before .before .before .write .ensures))) (ap writeReply ((c .before .words .given .1)))
+returns-3 c =
+    let at-write = c .before .before .before .before .before in
+    let at-fields-of = at-write .before .before in
+    let at-if2 = at-fields-of .before in
+    let at-fields-given = at-if2 .before in
+    let at-if1 = at-fields-given .before in
+    written _ _ _ _ _ _ (at-write .write .result) _ _
+    (accepted (at-fields-given .fields-given .ensures) (at-if2 .if2 .left)) (at-if1 .if1 .left)
+    (rw (at-fields-of .fields-of .ensures) at (at-write .write .ensures)) (ap writeReply (c .before .words .given .1))
 
 same-length-4 : tie.Need-same-length-4
 same-length-4 c = search needs
@@ -56,7 +64,15 @@ same-length-5 : tie.Need-same-length-5
 same-length-5 c = search needs
 
 returns-4 : tie.Need-returns-4
-returns-4 c = written _ _ _ _ _ _ ((c .before .before .before .before .before .write .result)) _ _ (accepted ((c .before .before .before .before .before .before .before .before .before .fields-given .ensures)) ((c .before .before .before .before .before .before .before .before .if2 .left))) ((c .before .before .before .before .before .before .before .before .before .before .if1 .left)) (rw ((c .before .before .before .before .before .before .before .fields-of .ensures)) at ((c .before .before .before .before .before .write .ensures))) (ap writeReply ((c .before .number .given .1)))
+returns-4 c =
+    let at-write = c .before .before .before .before .before in
+    let at-fields-of = at-write .before .before in
+    let at-if2 = at-fields-of .before in
+    let at-fields-given = at-if2 .before in
+    let at-if1 = at-fields-given .before in
+    written _ _ _ _ _ _ (at-write .write .result) _ _
+    (accepted (at-fields-given .fields-given .ensures) (at-if2 .if2 .left)) (at-if1 .if1 .left)
+    (rw (at-fields-of .fields-of .ensures) at (at-write .write .ensures)) (ap writeReply (c .before .number .given .1))
 
 pub dgn-write-spec : {M : Type 1} → statement M
 dgn-write-spec =

@@ -30,7 +30,20 @@ returns-2 c = λ dim e. rw (sym ((c .before .before .before .word .ensures .is))
 
 returns-3 : tie.Need-returns-3
 unfolding attributesOk
-returns-3 c = λ dim e. rw (sym ((c .before .before .before .before .before .before .pre .0)), sym ((c .before .before .before .before .word .ensures .is)), eq-eqb _ _ ((c .before .before .before .if1 .left)), sym ((c .before .before .word2 .ensures .is)), sym e, le-leb _ _ ((c .before .if2 .left)), lt-leb _ _ ((c .if3 .taken)))
+returns-3 c =
+    let at-if1 = c .before .before .before in
+    let at-word = at-if1 .before in
+    let start = at-word .before .before in
+    λ dim e. rw (
+      sym (start .pre .0),
+      sym (at-word .word .ensures .is),
+      eq-eqb _ _ (at-if1 .if1 .left),
+      sym
+          (c .before .before .word2 .ensures .is),
+      sym e,
+      le-leb _ _ (c .before .if2 .left),
+      lt-leb _ _ (c .if3 .taken),
+    )
 
 add-linkages-fill : tie.Need-add-linkages-fill
 add-linkages-fill c = omega arith
@@ -43,7 +56,22 @@ linkages-fill-requires c κs = tt
 
 returns-4 : tie.Need-returns-4
 unfolding attributesOk
-returns-4 c = λ dim e. rw (sym ((c .before .before .before .before .before .before .before .pre .0)), sym ((c .before .before .before .before .before .word .ensures .is)), eq-eqb _ _ ((c .before .before .before .before .if1 .left)), sym ((c .before .before .before .word2 .ensures .is)), sym e, le-leb _ _ ((c .before .before .if2 .left)), le-leb _ _ ((c .before .if3 .left))) ((c .linkages-fill .ensures))
+returns-4 c =
+    let at-word2 = c .before .before .before in
+    let at-if1 = at-word2 .before in
+    let at-word = at-if1 .before in
+    let start = at-word .before .before in
+    λ dim e. rw (
+      sym (start .pre .0),
+      sym (at-word .word .ensures .is),
+      eq-eqb _ _ (at-if1 .if1 .left),
+      sym
+          (at-word2 .word2 .ensures .is),
+      sym e,
+      le-leb _ _ (c .before .before .if2 .left),
+      le-leb _ _ (c .before .if3 .left),
+    )
+    (c .linkages-fill .ensures)
 
 pub attributes-ok-spec : {M : Type 1} → statement M
 attributes-ok-spec =

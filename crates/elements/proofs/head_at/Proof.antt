@@ -44,7 +44,9 @@ header a = isHeader (typeAt (words (a .args .s .now)) (a .args .at))
 
 -- the entry of the call, from after the third test and from after the type
 abbrev from-3 : tie.Else3 → tie.Start
-from-3 c = c .before .before .before .before .before .before
+from-3 c =
+    let start = c .before .before .before .before .before .before in
+    start
 
 abbrev from-type : tie.After-type-of → tie.Start
 from-type c = from-3 (c .before .before .before)
@@ -77,7 +79,9 @@ settle c e =
 
 -- the type and the size that were read
 typed : (c : tie.After-type-of) → c .type-of .result ≡ typeAt (words (from-type c .args .s .now)) (from-type c .args .at)
-typed c = rw (c .before .before .before .before .before .word .ensures .is) at (c .type-of .ensures)
+typed c =
+    let at-word = c .before .before .before .before .before in
+    rw (at-word .word .ensures .is) at (c .type-of .ensures)
 
 sized : (c : tie.After-type-of) → c .before .before .before .before .word2 .result + 2 ≡ sizeAt (words (from-type c .args .s .now)) (from-type c .args .at)
 sized c = ap (λ (n : ℕ). n + 2) (c .before .before .before .before .word2 .ensures .is)
@@ -138,10 +142,11 @@ add-size c = omega arith
 returns-3 : tie.Need-returns-3
 unfolding faultOf
 returns-3 c =
-    let a = c .before .before .before .before .before .before in
+    let start = c .before .before .before in
+    let start-2 = start .before .before .before in
+    let a = start-2 in
     refuse a _
-    (first (all a)
-    (pass (roomy (c .before .before .before)) (stop (simp (sym (c .before .word2 .ensures .is), lt-leb _ _ (c .if3 .taken))))))
+    (first (all a) (pass (roomy start) (stop (simp (sym (c .before .word2 .ensures .is), lt-leb _ _ (c .if3 .taken))))))
     (λ e. omega arith)
 
 flag-fault-requires : tie.Need-flag-fault-requires
@@ -189,18 +194,23 @@ add-end c = omega arith
 
 add-end-2 : tie.Need-add-end-2
 add-end-2 c =
-    let a = from-type (c .before .before .before .before .before) in
+    let start = c .before .before .before .before .before in
+    let a = from-type start in
     omega (
       arith,
       c .word3 .ensures .is,
-      header-within (a .args .dim) (a .args .depth) (a .args .under) (words (a .args .s .now)) (a .args .at) (a .args .bound) (none (c .before)) (is-complex (c .before)),
+      header-within (a .args .dim) (a .args .depth) (a .args .under)
+          (words (a .args .s .now)) (a .args .at) (a .args .bound) (none (c .before)) (is-complex (c .before)),
     )
 
 returns-6 : tie.Need-returns-6
 returns-6 c =
-    let a = from-type (c .before .before .before .before .before) in
-    rw ((c .before .before .before .before .before .before .before .before .before .word2 .ensures .is), c .word3 .ensures .is)
-    (read-complex (a .args .dim) (a .args .depth) (a .args .under) (a .args .s .now) (a .args .at) (a .args .bound) (none (c .before)) (is-complex (c .before)))
+    let start = c .before .before .before .before .before in
+    let at-word2 = start .before .before .before .before in
+    let a = from-type start in
+    rw ((at-word2 .word2 .ensures .is), c .word3 .ensures .is)
+    (read-complex (a .args .dim) (a .args .depth) (a .args .under) (a .args .s .now) (a .args .at) (a .args .bound)
+    (none (c .before)) (is-complex (c .before)))
 
 simple-fault-requires : tie.Need-simple-fault-requires
 simple-fault-requires c κs = ((typed (c .before .before), sized (c .before .before)), (sym (c .before .is-header .ensures) ∙ c .if5 .left, omega arith))
@@ -213,9 +223,13 @@ returns-7 c =
 
 returns-8 : tie.Need-returns-8
 returns-8 c =
-    let a = from-type (c .before .before .before .before) in
-    rw ((c .before .before .before .before .before .before .before .before .word2 .ensures .is))
-    (read-plain (a .args .dim) (a .args .depth) (a .args .under) (a .args .s .now) (a .args .at) (a .args .bound) (sym (settle (c .before .before .before .before) (sym (c .if7 .left) ∙ simple (c .before)))) (sym (kind (c .before .before .before)) ∙ c .before .before .if5 .left))
+    let start = c .before .before .before in
+    let start-2 = start .before in
+    let at-word2 = start-2 .before .before .before .before in
+    let a = from-type start-2 in
+    rw (at-word2 .word2 .ensures .is)
+    (read-plain (a .args .dim) (a .args .depth) (a .args .under) (a .args .s .now) (a .args .at) (a .args .bound)
+    (sym (settle start-2 (sym (c .if7 .left) ∙ simple (c .before)))) (sym (kind start) ∙ c .before .before .if5 .left))
 
 pub head-at-spec : {M : Type 1} → statement M
 head-at-spec =

@@ -101,7 +101,12 @@ returns-5 : tie.Need-returns-5
 returns-5 c = first (of (from-4 (c .before .before))) (to-3 (c .before .before) (stop (refused (linked (c .before)) (c .if5 .taken))))
 
 stored-name-ok-requires : tie.Need-stored-name-ok-requires
-stored-name-ok-requires c κs = let a = from-5 c in let n = c .before .before .before .before .before .before .if2 .left in let b = a .pre .1 .1 in (a .pre .0 .0, omega arith)
+stored-name-ok-requires c κs =
+    let at-if2 = c .before .before .before .before .before .before in
+    let a = from-5 c in
+    let n = at-if2 .if2 .left in
+    let b = a .pre .1 .1 in
+    (a .pre .0 .0, omega arith)
 
 returns-6 : tie.Need-returns-6
 returns-6 c = first (of (from-5 (c .before .before))) (to-4 (c .before .before) (stop (refused (c .before .stored-name-ok .ensures) (c .if6 .taken))))

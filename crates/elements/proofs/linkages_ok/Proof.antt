@@ -14,7 +14,11 @@ attributes-ok-requires : tie.Need-attributes-ok-requires
 attributes-ok-requires c κs = ((c .before .before .pre .0 .1), (c .before .before .pre .1 .1))
 
 returns-2 : tie.Need-returns-2
-returns-2 c = λ dim e. (c .attributes-ok .ensures) dim e ∙ sym (linkages-linked dim (words ((c .before .before .before .args .s .now))) ((c .before .before .before .args .at)) (rw ((c .before .before .before .pre .0 .0)) at (header-linked ((c .before .before .before .args .t)) ((c .before .before .before .pre .1 .0)) (ne-eqb _ _ ((c .before .if1 .left))))))
+returns-2 c =
+    let start = c .before .before .before in
+    λ dim e. (c .attributes-ok .ensures) dim e ∙ sym
+    (linkages-linked dim (words (start .args .s .now)) (start .args .at)
+    (rw (start .pre .0 .0) at (header-linked (start .args .t) (start .pre .1 .0) (ne-eqb _ _ (c .before .if1 .left)))))
 
 pub linkages-ok-spec : {M : Type 1} → statement M
 linkages-ok-spec = tie.close (tie.spec returns attributes-ok-requires returns-2)

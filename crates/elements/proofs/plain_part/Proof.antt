@@ -50,7 +50,15 @@ pointed c =
 
 -- N that was read decides
 counted : (c : tie.After-word) → points (c .before .before .before .before .before) ≡ (leb 2 (c .word .result) && leb (c .word .result) 101)
-counted c = simp (pointed (c .before .before), sym (c .before .before .before .before .before .pre .0 .1), le-leb 19 (c .before .before .before .before .before .args .size) (omega arith), sym (c .word .ensures .is))
+counted c =
+    let start = c .before .before .before .before .before in
+    simp (
+      pointed (c .before .before),
+      sym (start .pre .0 .1),
+      le-leb 19 (start .args .size) (omega arith),
+      sym
+          (c .word .ensures .is),
+    )
 
 pick-requires : tie.Need-pick-requires
 pick-requires c κs = tt
@@ -73,10 +81,16 @@ word-requires : tie.Need-word-requires
 word-requires c κs = tt
 
 returns-4 : tie.Need-returns-4
-returns-4 c = wrong (c .before .before .before .before .before) (counted (c .before) ∙ simp (lt-leb 2 (c .before .word .result) (omega arith)))
+returns-4 c =
+    let start = c .before .before .before .before .before in
+    wrong start (counted (c .before) ∙ simp (lt-leb 2 (c .before .word .result) (omega arith)))
 
 returns-5 : tie.Need-returns-5
-returns-5 c = wrong (c .before .before .before .before .before .before) (counted (c .before .before) ∙ simp (le-leb 2 (c .before .before .word .result) (omega arith), lt-leb (c .before .before .word .result) 101 (omega arith)))
+returns-5 c =
+    let start = c .before .before .before .before .before .before in
+    wrong start
+    (counted (c .before .before) ∙ simp
+    (le-leb 2 (c .before .before .word .result) (omega arith), lt-leb (c .before .before .word .result) 101 (omega arith)))
 
 mul-pick : tie.Need-mul-pick
 mul-pick c = omega arith
@@ -95,10 +109,19 @@ pick-requires-2 c κs = tt
 
 returns-6 : tie.Need-returns-6
 returns-6 c =
-    let a = c .before .before .before .before .before .before .before .before in
+    let at-word = c .before .before .before in
+    let start = at-word .before .before in
+    let start-2 = start .before .before .before in
+    let a = start-2 in
     right a _
-    (rw (pointed-part (a .args .dim) (a .args .t) (pointsAt (words (a .args .s .now)) (a .args .at)) (pointed (c .before .before .before .before .before)), sym (c .before .before .before .word .ensures .is)) (c .pick2 .ensures))
-    (counted (c .before .before .before) ∙ simp (le-leb 2 (c .before .before .before .word .result) (omega arith), le-leb (c .before .before .before .word .result) 101 (omega arith)))
+    (rw (
+      pointed-part (a .args .dim) (a .args .t) (pointsAt (words (a .args .s .now)) (a .args .at)) (pointed start),
+      sym
+          (at-word .word .ensures .is),
+    )
+    (c .pick2 .ensures))
+    (counted at-word ∙ simp
+    (le-leb 2 (at-word .word .result) (omega arith), le-leb (at-word .word .result) 101 (omega arith)))
 
 pub plain-part-spec : {M : Type 1} → statement M
 plain-part-spec =

@@ -27,10 +27,24 @@ size-ok-requires : tie.Need-size-ok-requires
 size-ok-requires c κs = tt
 
 returns-3 : tie.Need-returns-3
-returns-3 c = first (of (c .before .before .before .before .before)) (pass (simp (ne-eqb _ _ ((c .before .before .before .before .if1 .left)))) (pass (ap not (sym ((c .before .before .before .is-unread .ensures)) ∙ (c .before .before .if2 .left))) (stop (refused ((c .before .size-ok .ensures)) ((c .if3 .taken))))))
+returns-3 c =
+    let at-is-unread = c .before .before .before in
+    let at-if1 = at-is-unread .before in
+    let start = at-if1 .before in
+    first (of start)
+    (pass (simp (ne-eqb _ _ (at-if1 .if1 .left)))
+    (pass (ap not (sym (at-is-unread .is-unread .ensures) ∙ (c .before .before .if2 .left)))
+    (stop (refused (c .before .size-ok .ensures) (c .if3 .taken)))))
 
 returns-4 : tie.Need-returns-4
-returns-4 c = first (of (c .before .before .before .before .before)) (pass (simp (ne-eqb _ _ ((c .before .before .before .before .if1 .left)))) (pass (ap not (sym ((c .before .before .before .is-unread .ensures)) ∙ (c .before .before .if2 .left))) (pass (accepted ((c .before .size-ok .ensures)) ((c .if3 .left))) (tail [] refl))))
+returns-4 c =
+    let at-is-unread = c .before .before .before in
+    let at-if1 = at-is-unread .before in
+    let start = at-if1 .before in
+    first (of start)
+    (pass (simp (ne-eqb _ _ (at-if1 .if1 .left)))
+    (pass (ap not (sym (at-is-unread .is-unread .ensures) ∙ (c .before .before .if2 .left)))
+    (pass (accepted (c .before .size-ok .ensures) (c .if3 .left)) (tail [] refl))))
 
 pub raw-fault-spec : {M : Type 1} → statement M
 raw-fault-spec =

@@ -13,13 +13,22 @@ plain-fault-requires : tie.Need-plain-fault-requires
 plain-fault-requires c κs = ((c .before .before .before .pre .0), (sym ((c .before .is-linked .ensures)) ∙ (c .if1 .taken), (c .before .before .before .pre .1)))
 
 returns : tie.Need-returns
-returns c = rw (stands-plain ((c .before .before .before .before .args .dim)) ((c .before .before .before .before .args .under)) ((c .before .before .before .before .args .t)) ((c .before .before .before .before .pre .1 .0)) (sym ((c .before .before .is-linked .ensures)) ∙ (c .before .if1 .taken))) ((c .plain-fault .ensures))
+returns c =
+    let start = c .before .before .before .before in
+    rw
+    (stands-plain (start .args .dim) (start .args .under) (start .args .t) (start .pre .1 .0)
+    (sym (c .before .before .is-linked .ensures) ∙ (c .before .if1 .taken)))
+    (c .plain-fault .ensures)
 
 raw-fault-requires : tie.Need-raw-fault-requires
 raw-fault-requires c κs = tt
 
 returns-2 : tie.Need-returns-2
-returns-2 c = (c .raw-fault .ensures) ∙ raw-same ((c .before .before .before .before .args .dim)) ((c .before .before .before .before .args .under)) (words ((c .before .before .before .before .args .s .now))) ((c .before .before .before .before .args .at)) ((c .before .before .before .before .args .t)) ((c .before .before .before .before .args .size)) ((c .before .before .before .before .pre .0 .0)) ((c .before .before .before .before .pre .1 .0)) (sym ((c .before .before .is-linked .ensures)) ∙ (c .before .if1 .left))
+returns-2 c =
+    let start = c .before .before .before .before in
+    (c .raw-fault .ensures) ∙ raw-same (start .args .dim) (start .args .under) (words (start .args .s .now))
+    (start .args .at) (start .args .t) (start .args .size) (start .pre .0 .0) (start .pre .1 .0)
+    (sym (c .before .before .is-linked .ensures) ∙ (c .before .if1 .left))
 
 pub simple-fault-spec : {M : Type 1} → statement M
 simple-fault-spec =

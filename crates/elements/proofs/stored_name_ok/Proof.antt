@@ -24,7 +24,19 @@ name-ok-requires c κs = tt
 
 returns : tie.Need-returns
 unfolding storedNameOk
-returns c = let e : c .before .before .before .before .before .args .at + 16 + 1 ≡ c .before .before .before .before .before .args .at + 17 = omega arith in rw (sym (c .before .before .before .before .before .pre .0), c .before .before .before .if1 .taken, e, sym (c .before .before .word .ensures .is), sym (c .before .word2 .ensures .is)) (c .name-ok .ensures)
+returns c =
+    let at-if1 = c .before .before .before in
+    let start = at-if1 .before .before in
+    let e : start .args .at + 16 + 1 ≡ start .args .at + 17 = omega arith in
+    rw (
+      sym (start .pre .0),
+      at-if1 .if1 .taken,
+      e,
+      sym (c .before .before .word .ensures .is),
+      sym
+          (c .before .word2 .ensures .is),
+    )
+    (c .name-ok .ensures)
 
 add-word-3 : tie.Need-add-word-3
 add-word-3 c = omega arith
@@ -43,7 +55,19 @@ name-ok-requires-2 c κs = tt
 
 returns-2 : tie.Need-returns-2
 unfolding storedNameOk
-returns-2 c = let e : c .before .before .before .before .before .before .args .at + 19 + 1 ≡ c .before .before .before .before .before .before .args .at + 20 = omega arith in rw (sym (c .before .before .before .before .before .before .pre .0), c .before .before .before .if2 .taken, e, sym (c .before .before .word3 .ensures .is), sym (c .before .word4 .ensures .is)) (c .name-ok2 .ensures)
+returns-2 c =
+    let at-if2 = c .before .before .before in
+    let start = at-if2 .before .before .before in
+    let e : start .args .at + 19 + 1 ≡ start .args .at + 20 = omega arith in
+    rw (
+      sym (start .pre .0),
+      at-if2 .if2 .taken,
+      e,
+      sym (c .before .before .word3 .ensures .is),
+      sym
+          (c .before .word4 .ensures .is),
+    )
+    (c .name-ok2 .ensures)
 
 returns-3 : tie.Need-returns-3
 unfolding storedNameOk

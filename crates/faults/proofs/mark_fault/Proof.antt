@@ -17,11 +17,27 @@ flag-differs-requires c κs = search needs
 
 returns : tie.Need-returns
 unfolding markNumber
-returns c = rw (sym (c .before .before .before .before .is-at .ensures) ∙ (c .before .before .before .if1 .taken), ap (flagDiffers (c .before .before .before .before .before .before .args .deleted)) (sym (c .before .before .word .ensures .is)) ∙ sym (c .before .flag-differs .ensures) ∙ (c .if2 .taken))
+returns c =
+    let at-if1 = c .before .before .before in
+    let at-is-at = at-if1 .before in
+    let start = at-is-at .before .before in
+    rw (
+      sym (at-is-at .is-at .ensures) ∙ (at-if1 .if1 .taken),
+      ap (flagDiffers (start .args .deleted))
+          (sym (c .before .before .word .ensures .is)) ∙ sym (c .before .flag-differs .ensures) ∙ (c .if2 .taken),
+    )
 
 returns-2 : tie.Need-returns-2
 unfolding markNumber
-returns-2 c = rw (sym (c .before .before .before .before .is-at .ensures) ∙ (c .before .before .before .if1 .taken), ap (flagDiffers (c .before .before .before .before .before .before .args .deleted)) (sym (c .before .before .word .ensures .is)) ∙ sym (c .before .flag-differs .ensures) ∙ (c .if2 .left))
+returns-2 c =
+    let at-if1 = c .before .before .before in
+    let at-is-at = at-if1 .before in
+    let start = at-is-at .before .before in
+    rw (
+      sym (at-is-at .is-at .ensures) ∙ (at-if1 .if1 .taken),
+      ap (flagDiffers (start .args .deleted))
+          (sym (c .before .before .word .ensures .is)) ∙ sym (c .before .flag-differs .ensures) ∙ (c .if2 .left),
+    )
 
 returns-3 : tie.Need-returns-3
 unfolding markNumber

@@ -22,11 +22,29 @@ returns-2 c = rw (sym (c .before .before .before .is-at .ensures) ∙ not-false 
 
 returns-3 : tie.Need-returns-3
 unfolding renameNumber
-returns-3 c = rw (sym (c .before .before .before .before .is-at .ensures) ∙ not-false _ (c .before .before .if1 .left), sym (c .before .before .before .is-cell .ensures) ∙ not-false _ (c .before .if2 .left), not-true (c .before .before .before .before .before .before .args .named) (c .if3 .taken))
+returns-3 c =
+    let at-is-cell = c .before .before .before in
+    let at-is-at = at-is-cell .before in
+    let start = at-is-at .before .before in
+    rw (
+      sym (at-is-at .is-at .ensures) ∙ not-false _ (c .before .before .if1 .left),
+      sym (at-is-cell .is-cell .ensures) ∙
+          not-false _ (c .before .if2 .left),
+      not-true (start .args .named) (c .if3 .taken),
+    )
 
 returns-4 : tie.Need-returns-4
 unfolding renameNumber
-returns-4 c = rw (sym (c .before .before .before .before .is-at .ensures) ∙ not-false _ (c .before .before .if1 .left), sym (c .before .before .before .is-cell .ensures) ∙ not-false _ (c .before .if2 .left), not-false (c .before .before .before .before .before .before .args .named) (c .if3 .left))
+returns-4 c =
+    let at-is-cell = c .before .before .before in
+    let at-is-at = at-is-cell .before in
+    let start = at-is-at .before .before in
+    rw (
+      sym (at-is-at .is-at .ensures) ∙ not-false _ (c .before .before .if1 .left),
+      sym (at-is-cell .is-cell .ensures) ∙
+          not-false _ (c .before .if2 .left),
+      not-false (start .args .named) (c .if3 .left),
+    )
 
 pub rename-fault-spec : {M : Type 1} → statement M
 rename-fault-spec =

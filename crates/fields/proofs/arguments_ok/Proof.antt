@@ -1,3 +1,5 @@
+-- The tests are the definition's, in its order: the first that fails makes the conjunction false (`and-no`), one that passes
+-- leaves the rest (`and-on`).
 use mathlib.Core.Path.{refl}
 use Rattle.headers.proofs.Checks.{refused, accepted}
 use Rattle.fields.specs.Faults.{argumentsOk}
@@ -25,18 +27,45 @@ fields-ok-requires c κs = search needs
 
 returns-3 : tie.Need-returns-3
 unfolding argumentsOk
-returns-3 c = and-on (accepted ((c .before .before .before .before .before .dim-ok .ensures)) ((c .before .before .before .before .if1 .left))) (and-on (accepted ((c .before .before .before .kind-ok .ensures)) ((c .before .before .if2 .left))) (and-no _ (refused ((c .before .fields-ok .ensures)) ((c .if3 .taken)))))
+returns-3 c =
+    let at-kind-ok = c .before .before .before in
+    let at-if1 = at-kind-ok .before in
+    let at-dim-ok = at-if1 .before in
+    and-on (accepted (at-dim-ok .dim-ok .ensures) (at-if1 .if1 .left))
+    (and-on (accepted (at-kind-ok .kind-ok .ensures) (c .before .before .if2 .left))
+    (and-no _ (refused (c .before .fields-ok .ensures) (c .if3 .taken))))
 
 points-fit-requires : tie.Need-points-fit-requires
-points-fit-requires c κs = accepted ((c .before .before .before .before .before .dim-ok .ensures)) ((c .before .before .before .before .if1 .left))
+points-fit-requires c κs =
+    let at-if1 = c .before .before .before .before in
+    let at-dim-ok = at-if1 .before in
+    accepted (at-dim-ok .dim-ok .ensures) (at-if1 .if1 .left)
 
 returns-4 : tie.Need-returns-4
 unfolding argumentsOk
-returns-4 c = and-on (accepted ((c .before .before .before .before .before .before .before .dim-ok .ensures)) ((c .before .before .before .before .before .before .if1 .left))) (and-on (accepted ((c .before .before .before .before .before .kind-ok .ensures)) ((c .before .before .before .before .if2 .left))) (and-on (accepted ((c .before .before .before .fields-ok .ensures)) ((c .before .before .if3 .left))) (and-no _ (refused ((c .before .points-fit .ensures)) ((c .if4 .taken))))))
+returns-4 c =
+    let at-fields-ok = c .before .before .before in
+    let at-if2 = at-fields-ok .before in
+    let at-kind-ok = at-if2 .before in
+    let at-if1 = at-kind-ok .before in
+    let at-dim-ok = at-if1 .before in
+    and-on (accepted (at-dim-ok .dim-ok .ensures) (at-if1 .if1 .left))
+    (and-on (accepted (at-kind-ok .kind-ok .ensures) (at-if2 .if2 .left))
+    (and-on (accepted (at-fields-ok .fields-ok .ensures) (c .before .before .if3 .left))
+    (and-no _ (refused (c .before .points-fit .ensures) (c .if4 .taken)))))
 
 returns-5 : tie.Need-returns-5
 unfolding argumentsOk
-returns-5 c = and-on (accepted ((c .before .before .before .before .before .before .before .dim-ok .ensures)) ((c .before .before .before .before .before .before .if1 .left))) (and-on (accepted ((c .before .before .before .before .before .kind-ok .ensures)) ((c .before .before .before .before .if2 .left))) (and-on (accepted ((c .before .before .before .fields-ok .ensures)) ((c .before .before .if3 .left))) (and-on (accepted ((c .before .points-fit .ensures)) ((c .if4 .left))) refl)))
+returns-5 c =
+    let at-fields-ok = c .before .before .before in
+    let at-if2 = at-fields-ok .before in
+    let at-kind-ok = at-if2 .before in
+    let at-if1 = at-kind-ok .before in
+    let at-dim-ok = at-if1 .before in
+    and-on (accepted (at-dim-ok .dim-ok .ensures) (at-if1 .if1 .left))
+    (and-on (accepted (at-kind-ok .kind-ok .ensures) (at-if2 .if2 .left))
+    (and-on (accepted (at-fields-ok .fields-ok .ensures) (c .before .before .if3 .left))
+    (and-on (accepted (c .before .points-fit .ensures) (c .if4 .left)) refl)))
 
 pub arguments-ok-spec : {M : Type 1} → statement M
 arguments-ok-spec =

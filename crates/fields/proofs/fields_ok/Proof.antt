@@ -1,3 +1,4 @@
+-- The level's comparison, then the three groups of fields, in the definition's order (`and-no`, `and-on`).
 use borrow.Author.Tests.{le-leb, lt-leb}
 use Rattle.headers.proofs.Checks.{refused, accepted}
 use Rattle.fields.specs.Faults.{fieldsOk}
@@ -29,7 +30,13 @@ symbology-ok-requires c κs = search needs
 
 returns-4 : tie.Need-returns-4
 unfolding fieldsOk
-returns-4 c = and-on (le-leb _ _ ((c .before .before .before .before .before .if1 .left))) (and-on (accepted ((c .before .before .before .before .range-ok .ensures)) ((c .before .before .before .if2 .left))) (and-on (accepted ((c .before .before .words-ok .ensures)) ((c .before .if3 .left))) ((c .symbology-ok .ensures))))
+returns-4 c =
+    let at-if2 = c .before .before .before in
+    let at-range-ok = at-if2 .before in
+    let at-if1 = at-range-ok .before in
+    and-on (le-leb _ _ (at-if1 .if1 .left))
+    (and-on (accepted (at-range-ok .range-ok .ensures) (at-if2 .if2 .left))
+    (and-on (accepted (c .before .before .words-ok .ensures) (c .before .if3 .left)) (c .symbology-ok .ensures)))
 
 pub fields-ok-spec : {M : Type 1} → statement M
 fields-ok-spec =

@@ -1,3 +1,5 @@
+-- Each arm of the match holds types of the list of those written (`in-arm`), and what is in no arm is in no such list
+-- (`none-in`).
 use mathlib.Core.Path.{_≡_, refl, sym}
 use mathlib.Core.List.{[], _∷_}
 use mathlib.Core.Bool.{true}

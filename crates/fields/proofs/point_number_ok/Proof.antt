@@ -1,3 +1,4 @@
+-- A type without N passes; else the two tests are those of the definition, in its order.
 use borrow.Author.Tests.{le-leb, lt-leb}
 use Rattle.headers.proofs.Checks.{refused, accepted}
 use Rattle.fields.specs.Faults.{pointNumberOk}

@@ -1,3 +1,5 @@
+-- The type decides which of the definition's two tests is asked; a dimension is 2 or 3, so the product fits and no division is
+-- by 0 (`by-dims`).
 use Prim.Native.Nat.{_≤_, _<_}
 use native.Mathlib.Omega.{arith}
 use borrow.Author.Tests.{eq-eqb, ne-eqb}

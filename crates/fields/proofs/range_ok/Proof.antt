@@ -1,3 +1,5 @@
+-- The six comparisons are the definition's, in its order: one that fails makes the conjunction false (`and-no`), one that passes
+-- leaves the rest (`and-on`).
 use mathlib.Core.Path.{refl}
 use borrow.Author.Tests.{le-leb, lt-leb}
 use Rattle.fields.proofs.Bounds.{and-no, and-on}
@@ -14,16 +16,46 @@ returns-3 : tie.Need-returns-3
 returns-3 c = and-on (le-leb _ _ ((c .before .before .before .before .if1 .left))) (and-on (le-leb _ _ ((c .before .before .if2 .left))) (and-no _ (lt-leb _ _ ((c .if3 .taken)))))
 
 returns-4 : tie.Need-returns-4
-returns-4 c = and-on (le-leb _ _ ((c .before .before .before .before .before .before .if1 .left))) (and-on (le-leb _ _ ((c .before .before .before .before .if2 .left))) (and-on (le-leb _ _ ((c .before .before .if3 .left))) (and-no _ (lt-leb _ _ ((c .if4 .taken))))))
+returns-4 c =
+    let at-if2 = c .before .before .before .before in
+    let at-if1 = at-if2 .before .before in
+    and-on (le-leb _ _ (at-if1 .if1 .left))
+    (and-on (le-leb _ _ (at-if2 .if2 .left))
+    (and-on (le-leb _ _ (c .before .before .if3 .left)) (and-no _ (lt-leb _ _ (c .if4 .taken)))))
 
 returns-5 : tie.Need-returns-5
-returns-5 c = and-on (le-leb _ _ ((c .before .before .before .before .before .before .before .before .if1 .left))) (and-on (le-leb _ _ ((c .before .before .before .before .before .before .if2 .left))) (and-on (le-leb _ _ ((c .before .before .before .before .if3 .left))) (and-on (le-leb _ _ ((c .before .before .if4 .left))) (and-no _ (lt-leb _ _ ((c .if5 .taken)))))))
+returns-5 c =
+    let at-if3 = c .before .before .before .before in
+    let at-if2 = at-if3 .before .before in
+    let at-if1 = at-if2 .before .before in
+    and-on (le-leb _ _ (at-if1 .if1 .left))
+    (and-on (le-leb _ _ (at-if2 .if2 .left))
+    (and-on (le-leb _ _ (at-if3 .if3 .left))
+    (and-on (le-leb _ _ (c .before .before .if4 .left)) (and-no _ (lt-leb _ _ (c .if5 .taken))))))
 
 returns-6 : tie.Need-returns-6
-returns-6 c = and-on (le-leb _ _ ((c .before .before .before .before .before .before .before .before .before .before .if1 .left))) (and-on (le-leb _ _ ((c .before .before .before .before .before .before .before .before .if2 .left))) (and-on (le-leb _ _ ((c .before .before .before .before .before .before .if3 .left))) (and-on (le-leb _ _ ((c .before .before .before .before .if4 .left))) (and-on (le-leb _ _ ((c .before .before .if5 .left))) (and-no _ (lt-leb _ _ ((c .if6 .taken))))))))
+returns-6 c =
+    let at-if4 = c .before .before .before .before in
+    let at-if3 = at-if4 .before .before in
+    let at-if2 = at-if3 .before .before in
+    let at-if1 = at-if2 .before .before in
+    and-on (le-leb _ _ (at-if1 .if1 .left))
+    (and-on (le-leb _ _ (at-if2 .if2 .left))
+    (and-on (le-leb _ _ (at-if3 .if3 .left))
+    (and-on (le-leb _ _ (at-if4 .if4 .left))
+    (and-on (le-leb _ _ (c .before .before .if5 .left)) (and-no _ (lt-leb _ _ (c .if6 .taken)))))))
 
 returns-7 : tie.Need-returns-7
-returns-7 c = and-on (le-leb _ _ ((c .before .before .before .before .before .before .before .before .before .before .if1 .left))) (and-on (le-leb _ _ ((c .before .before .before .before .before .before .before .before .if2 .left))) (and-on (le-leb _ _ ((c .before .before .before .before .before .before .if3 .left))) (and-on (le-leb _ _ ((c .before .before .before .before .if4 .left))) (and-on (le-leb _ _ ((c .before .before .if5 .left))) (and-on (le-leb _ _ ((c .if6 .left))) (refl))))))
+returns-7 c =
+    let at-if4 = c .before .before .before .before in
+    let at-if3 = at-if4 .before .before in
+    let at-if2 = at-if3 .before .before in
+    let at-if1 = at-if2 .before .before in
+    and-on (le-leb _ _ (at-if1 .if1 .left))
+    (and-on (le-leb _ _ (at-if2 .if2 .left))
+    (and-on (le-leb _ _ (at-if3 .if3 .left))
+    (and-on (le-leb _ _ (at-if4 .if4 .left))
+    (and-on (le-leb _ _ (c .before .before .if5 .left)) (and-on (le-leb _ _ (c .if6 .left)) (refl))))))
 
 pub range-ok-spec : {M : Type 1} → statement M
 range-ok-spec =

@@ -1,3 +1,4 @@
+-- N is small once the arguments are right (`count-small`), so it fits a word and the fixed part with the tail fits a number.
 use native.Mathlib.Omega.{arith}
 use Rattle.fields.specs.Words.{sizeOf}
 use Rattle.fields.proofs.Bounds.{called, dim-some, count-small, fixed-most}

@@ -1,3 +1,4 @@
+-- The three comparisons are the definition's, in its order (`and-no`, `and-on`).
 use mathlib.Core.Path.{refl}
 use borrow.Author.Tests.{le-leb, lt-leb}
 use Rattle.fields.proofs.Bounds.{and-no, and-on}

@@ -1,3 +1,5 @@
+-- Check by check: those before a return are passed (`pass`) and the one that returns stops there (`stop`), so its number is the
+-- first fault.
 use mathlib.Core.List.{List, []}
 use mathlib.Core.Path.{refl}
 use native.Mathlib.Omega.{arith}
@@ -29,32 +31,86 @@ point-number-ok-requires c κs = search needs
 
 returns-2 : tie.Need-returns-2
 unfolding writeFault
-returns-2 c = first (of ((c .before .before .before .before .before))) (pass (accepted ((c .before .before .before .arguments-ok .ensures)) ((c .before .before .if1 .left))) (stop (refused ((c .before .point-number-ok .ensures)) ((c .if2 .taken)))))
+returns-2 c =
+    let at-arguments-ok = c .before .before .before in
+    let start = at-arguments-ok .before .before in
+    first (of start)
+    (pass (accepted (at-arguments-ok .arguments-ok .ensures) (c .before .before .if1 .left))
+    (stop (refused (c .before .point-number-ok .ensures) (c .if2 .taken))))
 
 size-of-requires : tie.Need-size-of-requires
 size-of-requires c κs = (accepted ((c .before .before .before .arguments-ok .ensures)) ((c .before .before .if1 .left)), accepted ((c .before .point-number-ok .ensures)) ((c .if2 .left)))
 
 returns-3 : tie.Need-returns-3
 unfolding writeFault
-returns-3 c = first (of ((c .before .before .before .before .before .before .before))) (pass (accepted ((c .before .before .before .before .before .arguments-ok .ensures)) ((c .before .before .before .before .if1 .left))) (pass (accepted ((c .before .before .before .point-number-ok .ensures)) ((c .before .before .if2 .left))) (stop (rw ((c .before .size-of .ensures)) at (lt-leb _ _ ((c .if3 .taken)))))))
+returns-3 c =
+    let at-point-number-ok = c .before .before .before in
+    let at-if1 = at-point-number-ok .before in
+    let at-arguments-ok = at-if1 .before in
+    let start = at-arguments-ok .before .before in
+    first (of start)
+    (pass (accepted (at-arguments-ok .arguments-ok .ensures) (at-if1 .if1 .left))
+    (pass (accepted (at-point-number-ok .point-number-ok .ensures) (c .before .before .if2 .left))
+    (stop (rw (c .before .size-of .ensures) at (lt-leb _ _ (c .if3 .taken))))))
 
 tail-ok-requires : tie.Need-tail-ok-requires
-tail-ok-requires c κs = (accepted ((c .before .before .before .before .before .arguments-ok .ensures)) ((c .before .before .before .before .if1 .left)), accepted ((c .before .before .before .point-number-ok .ensures)) ((c .before .before .if2 .left)))
+tail-ok-requires c κs =
+    let at-point-number-ok = c .before .before .before in
+    let at-if1 = at-point-number-ok .before in
+    let at-arguments-ok = at-if1 .before in
+    (accepted (at-arguments-ok .arguments-ok .ensures) (at-if1 .if1 .left), accepted (at-point-number-ok .point-number-ok .ensures) (c .before .before .if2 .left))
 
 returns-4 : tie.Need-returns-4
 unfolding writeFault
-returns-4 c = first (of ((c .before .before .before .before .before .before .before .before .before))) (pass (accepted ((c .before .before .before .before .before .before .before .arguments-ok .ensures)) ((c .before .before .before .before .before .before .if1 .left))) (pass (accepted ((c .before .before .before .before .before .point-number-ok .ensures)) ((c .before .before .before .before .if2 .left))) (pass (rw ((c .before .before .before .size-of .ensures)) at (le-leb _ _ ((c .before .before .if3 .left)))) (stop (refused ((c .before .tail-ok .ensures)) ((c .if4 .taken)))))))
+returns-4 c =
+    let at-size-of = c .before .before .before in
+    let at-if2 = at-size-of .before in
+    let at-point-number-ok = at-if2 .before in
+    let at-if1 = at-point-number-ok .before in
+    let at-arguments-ok = at-if1 .before in
+    let start = at-arguments-ok .before .before in
+    first (of start)
+    (pass (accepted (at-arguments-ok .arguments-ok .ensures) (at-if1 .if1 .left))
+    (pass (accepted (at-point-number-ok .point-number-ok .ensures) (at-if2 .if2 .left))
+    (pass (rw (at-size-of .size-of .ensures) at (le-leb _ _ (c .before .before .if3 .left)))
+    (stop (refused (c .before .tail-ok .ensures) (c .if4 .taken))))))
 
 mul-if5 : tie.Need-mul-if5
 mul-if5 c = search needs
 
 returns-5 : tie.Need-returns-5
 unfolding writeFault
-returns-5 c = first (of ((c .before .before .before .before .before .before .before .before .before .before))) (pass (accepted ((c .before .before .before .before .before .before .before .before .arguments-ok .ensures)) ((c .before .before .before .before .before .before .before .if1 .left))) (pass (accepted ((c .before .before .before .before .before .before .point-number-ok .ensures)) ((c .before .before .before .before .before .if2 .left))) (pass (rw ((c .before .before .before .before .size-of .ensures)) at (le-leb _ _ ((c .before .before .before .if3 .left)))) (pass (accepted ((c .before .before .tail-ok .ensures)) ((c .before .if4 .left))) (stop (rw ((c .before .before .before .before .size-of .ensures)) at (lt-leb _ _ ((c .if5 .taken)))))))))
+returns-5 c =
+    let at-if3 = c .before .before .before in
+    let at-size-of = at-if3 .before in
+    let at-if2 = at-size-of .before in
+    let at-point-number-ok = at-if2 .before in
+    let at-if1 = at-point-number-ok .before in
+    let at-arguments-ok = at-if1 .before in
+    let start = at-arguments-ok .before .before in
+    first (of start)
+    (pass (accepted (at-arguments-ok .arguments-ok .ensures) (at-if1 .if1 .left))
+    (pass (accepted (at-point-number-ok .point-number-ok .ensures) (at-if2 .if2 .left))
+    (pass (rw (at-size-of .size-of .ensures) at (le-leb _ _ (at-if3 .if3 .left)))
+    (pass (accepted (c .before .before .tail-ok .ensures) (c .before .if4 .left))
+    (stop (rw (at-size-of .size-of .ensures) at (lt-leb _ _ (c .if5 .taken))))))))
 
 returns-6 : tie.Need-returns-6
 unfolding writeFault
-returns-6 c = first (of ((c .before .before .before .before .before .before .before .before .before .before))) (pass (accepted ((c .before .before .before .before .before .before .before .before .arguments-ok .ensures)) ((c .before .before .before .before .before .before .before .if1 .left))) (pass (accepted ((c .before .before .before .before .before .before .point-number-ok .ensures)) ((c .before .before .before .before .before .if2 .left))) (pass (rw ((c .before .before .before .before .size-of .ensures)) at (le-leb _ _ ((c .before .before .before .if3 .left)))) (pass (accepted ((c .before .before .tail-ok .ensures)) ((c .before .if4 .left))) (pass (rw ((c .before .before .before .before .size-of .ensures)) at (le-leb _ _ ((c .if5 .left)))) (tail [] refl))))))
+returns-6 c =
+    let at-if3 = c .before .before .before in
+    let at-size-of = at-if3 .before in
+    let at-if2 = at-size-of .before in
+    let at-point-number-ok = at-if2 .before in
+    let at-if1 = at-point-number-ok .before in
+    let at-arguments-ok = at-if1 .before in
+    let start = at-arguments-ok .before .before in
+    first (of start)
+    (pass (accepted (at-arguments-ok .arguments-ok .ensures) (at-if1 .if1 .left))
+    (pass (accepted (at-point-number-ok .point-number-ok .ensures) (at-if2 .if2 .left))
+    (pass (rw (at-size-of .size-of .ensures) at (le-leb _ _ (at-if3 .if3 .left)))
+    (pass (accepted (c .before .before .tail-ok .ensures) (c .before .if4 .left))
+    (pass (rw (at-size-of .size-of .ensures) at (le-leb _ _ (c .if5 .left))) (tail [] refl))))))
 
 pub write-fault-spec : {M : Type 1} → statement M
 write-fault-spec =

@@ -4,6 +4,7 @@ use Prim.Native.Nat.{ℕ, _+_, _-_, _*_, _<_}
 use mathlib.Core.Path.{refl, sym, _∙_}
 use native.Mathlib.Omega.{arith}
 use borrow.Author.Needs.{needs}
+use Rattle.files.specs.Progress.{listIn, runOf}
 use Rattle.files.proofs.Laws.{list-none}
 use Rattle.files.proofs.Going.{Going, as-bound, going-none, head-plain, head-complex, good-plain, more-complex, fault-beneath, good-complex, fault-count, plain-stops, plain-goes, header-stops, going-halted, going-broken, going-stopped, going-on, depth-plain, depth-complex}
 use borrow.Fn.Kinds.{In}
@@ -89,26 +90,52 @@ judge-element-enum-known-elements : (t : ℕ) → judge-element-lts.Need-enum-kn
 judge-element-enum-known-elements t c = search needs
 
 judge-element-count-ok-requires-2 : (t : ℕ) → judge-element-lts.Need-count-ok-requires-2 (element-calls t) (judge-element-at t) judge-element.Post
-judge-element-count-ok-requires-2 t c κs = (c .before .before .before .before .before .before .type-at .ensures, omega arith)
+judge-element-count-ok-requires-2 t c κs =
+    let at-type-at = c .before .before .before .before .before .before in
+    (at-type-at .type-at .ensures, omega arith)
 
 judge-element-add-t21 : (t : ℕ) → judge-element-lts.Need-add-t21 (element-calls t) (judge-element-at t) judge-element.Post
-judge-element-add-t21 t c = let l = ((c .before .before .before .before .before .closed .ensures) _ _ _ ((c .before .before .before .before .before .before .judge-list .ensures))) in omega (arith, rw ((c .before .before .before .elements .given .1)) at (l .within))
+judge-element-add-t21 t c =
+    let at-elements = c .before .before .before in
+    let at-closed = at-elements .before .before in
+    let at-judge-list = at-closed .before in
+    let l = ((at-closed .closed .ensures) _ _ _ (at-judge-list .judge-list .ensures)) in
+    omega (arith, rw (at-elements .elements .given .1) at (l .within))
 
 judge-element-larger-requires : (t : ℕ) → judge-element-lts.Need-larger-requires (element-calls t) (judge-element-at t) judge-element.Post
 judge-element-larger-requires t c κs = search needs
 
 judge-element-returns-3 : (t : ℕ) → judge-element-lts.Need-returns-3 (element-calls t) (judge-element-at t) judge-element.Post
-judge-element-returns-3 t c under bound h = fault-beneath h refl ((c .before .before .before .before .before .before .type-at .ensures)) ((c .before .before .before .closed .ensures) _ _ _ ((c .before .before .before .before .judge-list .ensures))) ((c .before .number .given .1))
+judge-element-returns-3 t c under bound h =
+    let at-closed = c .before .before .before in
+    let at-judge-list = at-closed .before in
+    let at-type-at = at-judge-list .before .before in
+    fault-beneath h refl (at-type-at .type-at .ensures)
+    ((at-closed .closed .ensures) _ _ _ (at-judge-list .judge-list .ensures)) (c .before .number .given .1)
 
 judge-element-returns-4 : (t : ℕ) → judge-element-lts.Need-returns-4 (element-calls t) (judge-element-at t) judge-element.Post
-judge-element-returns-4 t c under bound h = good-complex h refl ((c .before .before .before .before .before .before .before .before .before .type-at .ensures)) ((c .before .before .before .before .before .before .closed .ensures) _ _ _ ((c .before .before .before .before .before .before .before .judge-list .ensures))) ((c .before .before .before .before .elements .given .1)) ((c .before .before .count-ok2 .ensures)) ((c .before .if3 .taken)) ((c .larger .ensures))
+judge-element-returns-4 t c under bound h =
+    let at-elements = c .before .before .before .before in
+    let at-closed = at-elements .before .before in
+    let at-judge-list = at-closed .before in
+    let at-type-at = at-judge-list .before .before in
+    good-complex h refl (at-type-at .type-at .ensures)
+    ((at-closed .closed .ensures) _ _ _ (at-judge-list .judge-list .ensures)) (at-elements .elements .given .1)
+    (c .before .before .count-ok2 .ensures) (c .before .if3 .taken) (c .larger .ensures)
 
 judge-element-returns-5 : (t : ℕ) → judge-element-lts.Need-returns-5 (element-calls t) (judge-element-at t) judge-element.Post
-judge-element-returns-5 t c under bound h = fault-count h refl ((c .before .before .before .before .before .before .before .before .type-at .ensures)) ((c .before .before .before .before .before .closed .ensures) _ _ _ ((c .before .before .before .before .before .before .judge-list .ensures))) ((c .before .before .before .elements .given .1)) ((c .before .count-ok2 .ensures)) ((c .if3 .left))
+judge-element-returns-5 t c under bound h =
+    let at-elements = c .before .before .before in
+    let at-closed = at-elements .before .before in
+    let at-judge-list = at-closed .before in
+    let at-type-at = at-judge-list .before .before in
+    fault-count h refl (at-type-at .type-at .ensures)
+    ((at-closed .closed .ensures) _ _ _ (at-judge-list .judge-list .ensures)) (at-elements .elements .given .1)
+    (c .before .count-ok2 .ensures) (c .if3 .left)
 
 abbrev judge-list-Inv-loop : judge-list-lts.InvT-loop
 judge-list-Inv-loop s at bound depth under dim until each last here₀ below₀ deepest₀ direct₀ here below deepest direct =
-    Going dim depth under s at last until each here below deepest direct
+    Going (runOf (listIn dim depth under s at last) until each) here below deepest direct
 
 abbrev judge-list-μ-loop : judge-list-lts.MeasureT-loop
 judge-list-μ-loop s at bound depth under dim until each last here₀ below₀ deepest₀ direct₀ here below deepest direct = last - here
@@ -129,10 +156,19 @@ judge-list-depth-of-requires : (t : ℕ) → judge-list-lts.Need-depth-of-requir
 judge-list-depth-of-requires t c κs = search needs
 
 judge-list-add-t29 : (t : ℕ) → judge-list-lts.Need-add-t29 (list-calls t) (judge-list-at t) judge-list.Post judge-list-Inv-loop judge-list-μ-loop
-judge-list-add-t29 t c = omega (arith, (c .before .before .before .before .before .loop .inv .gone .words-each), (c .before .before .before .before .before .loop .inv .gone .inside))
+judge-list-add-t29 t c =
+    let at-loop = c .before .before .before .before .before in
+    omega (arith, (at-loop .loop .inv .gone .words-each), (at-loop .loop .inv .gone .inside))
 
 judge-list-returns : (t : ℕ) → judge-list-lts.Need-returns (list-calls t) (judge-list-at t) judge-list.Post judge-list-Inv-loop judge-list-μ-loop
-judge-list-returns t c = rw (sym (as-bound (c .before .before .before .before .before .before .smaller .ensures) (c .before .before .before .before .before .before .before .before .pre .1))) (going-halted ((c .before .before .before .before .before .loop .inv)) ((c .before .before .before .before .head-at .ensures)) ((c .before .before .number .given .1)) ((c .depth-of .ensures)))
+judge-list-returns t c =
+    let at-head-at = c .before .before .before .before in
+    let at-loop = at-head-at .before in
+    let at-smaller = at-loop .before in
+    let start = at-smaller .before .before in
+    rw (sym (as-bound (at-smaller .smaller .ensures) (start .pre .1)))
+    (going-halted (at-loop .loop .inv) (at-head-at .head-at .ensures) (c .before .before .number .given .1)
+    (c .depth-of .ensures))
 
 judge-list-enum-known-next : (t : ℕ) → judge-list-lts.Need-enum-known-next (list-calls t) (judge-list-at t) judge-list.Post judge-list-Inv-loop judge-list-μ-loop
 judge-list-enum-known-next t c = search needs
@@ -144,40 +180,108 @@ judge-list-larger-requires : (t : ℕ) → judge-list-lts.Need-larger-requires (
 judge-list-larger-requires t c κs = search needs
 
 judge-list-add-t31 : (t : ℕ) → judge-list-lts.Need-add-t31 (list-calls t) (judge-list-at t) judge-list.Post judge-list-Inv-loop judge-list-μ-loop
-judge-list-add-t31 t c = omega (arith, rw ((c .before .before .before .next .given .1)) at ((c .before .before .before .before .before .head-at .ensures .within)), (c .before .before .before .before .before .before .loop .inv .gone .words-each))
+judge-list-add-t31 t c =
+    let at-next = c .before .before .before in
+    let at-head-at = at-next .before .before in
+    let at-loop = at-head-at .before in
+    omega (
+      arith,
+      rw (at-next .next .given .1) at (at-head-at .head-at .ensures .within),
+      (at-loop .loop .inv .gone .words-each),
+    )
 
 judge-list-returns-2 : (t : ℕ) → judge-list-lts.Need-returns-2 (list-calls t) (judge-list-at t) judge-list.Post judge-list-Inv-loop judge-list-μ-loop
-judge-list-returns-2 t c = rw (sym (as-bound (c .before .before .before .before .before .before .before .smaller .ensures) (c .before .before .before .before .before .before .before .before .before .pre .1))) (going-stopped ((c .before .before .before .before .before .before .loop .inv)) (good-plain ((c .before .before .before .before .before .head-at .ensures)) ((c .before .before .before .next .given .1))) (plain-stops _ _ _ _ _ (head-plain ((c .before .before .before .before .before .head-at .ensures)) ((c .before .before .before .next .given .1))) ((c .before .if1 .taken))) (omega arith) (depth-plain ((c .before .before .before .before .before .before .loop .inv)) ((c .larger .ensures))))
+judge-list-returns-2 t c =
+    let at-next = c .before .before .before in
+    let at-head-at = at-next .before .before in
+    let at-loop = at-head-at .before in
+    let at-smaller = at-loop .before in
+    let start = at-smaller .before .before in
+    rw (sym (as-bound (at-smaller .smaller .ensures) (start .pre .1)))
+    (going-stopped (at-loop .loop .inv) (good-plain (at-head-at .head-at .ensures) (at-next .next .given .1))
+    (plain-stops _ _ _ _ _ (head-plain (at-head-at .head-at .ensures) (at-next .next .given .1)) (c .before .if1 .taken))
+    (omega arith) (depth-plain (at-loop .loop .inv) (c .larger .ensures)))
 
 judge-list-loop-less : (t : ℕ) → judge-list-lts.Need-loop-less (list-calls t) (judge-list-at t) judge-list.Post judge-list-Inv-loop judge-list-μ-loop
 judge-list-loop-less t c = omega (arith, rw ((c .before .before .next .given .1)) at ((c .before .before .before .before .head-at .ensures .within)))
 
 judge-list-loop-again : (t : ℕ) → judge-list-lts.Need-loop-again (list-calls t) (judge-list-at t) judge-list.Post judge-list-Inv-loop judge-list-μ-loop
-judge-list-loop-again t c = going-on ((c .before .before .before .before .before .loop .inv)) (good-plain ((c .before .before .before .before .head-at .ensures)) ((c .before .before .next .given .1))) (plain-goes _ _ _ _ _ (head-plain ((c .before .before .before .before .head-at .ensures)) ((c .before .before .next .given .1))) ((c .if1 .left))) (omega arith) (depth-plain ((c .before .before .before .before .before .loop .inv)) refl) (omega (arith, rw ((c .before .before .next .given .1)) at ((c .before .before .before .before .head-at .ensures .within))))
+judge-list-loop-again t c =
+    let at-head-at = c .before .before .before .before in
+    let at-loop = at-head-at .before in
+    going-on (at-loop .loop .inv) (good-plain (at-head-at .head-at .ensures) (c .before .before .next .given .1))
+    (plain-goes _ _ _ _ _ (head-plain (at-head-at .head-at .ensures) (c .before .before .next .given .1)) (c .if1 .left))
+    (omega arith) (depth-plain (at-loop .loop .inv) refl)
+    (omega (arith, rw (c .before .before .next .given .1) at (at-head-at .head-at .ensures .within)))
 
 judge-list-enum-known-inner : (t : ℕ) → judge-list-lts.Need-enum-known-inner (list-calls t) (judge-list-at t) judge-list.Post judge-list-Inv-loop judge-list-μ-loop
 judge-list-enum-known-inner t c = search needs
 
 judge-list-judge-element-requires : (t : ℕ) → judge-list-lts.Need-judge-element-requires (list-calls t) (judge-list-at t) judge-list.Post judge-list-Inv-loop judge-list-μ-loop
-judge-list-judge-element-requires t c κs = let e = as-bound (c .before .before .before .before .before .smaller .ensures) (c .before .before .before .before .before .before .before .pre .1) in let p = c .before .before .before .before .before .before .before .pre .1 in omega (arith, rw ((c .before .inner .given .1)) at ((c .before .before .before .head-at .ensures .within)), (c .before .before .before .before .loop .inv .gone .words-each))
+judge-list-judge-element-requires t c κs =
+    let at-head-at = c .before .before .before in
+    let at-loop = at-head-at .before in
+    let at-smaller = at-loop .before in
+    let start = at-smaller .before .before in
+    let e = as-bound (at-smaller .smaller .ensures) (start .pre .1) in
+    let p = start .pre .1 in
+    omega (
+      arith,
+      rw (c .before .inner .given .1) at (at-head-at .head-at .ensures .within),
+      (at-loop .loop .inv .gone .words-each),
+    )
 
 judge-list-enum-known-number-2 : (t : ℕ) → judge-list-lts.Need-enum-known-number-2 (list-calls t) (judge-list-at t) judge-list.Post judge-list-Inv-loop judge-list-μ-loop
 judge-list-enum-known-number-2 t c = search needs
 
 judge-list-returns-3 : (t : ℕ) → judge-list-lts.Need-returns-3 (list-calls t) (judge-list-at t) judge-list.Post judge-list-Inv-loop judge-list-μ-loop
-judge-list-returns-3 t c = let h = rw ((c .before .before .before .before .before .inner .given .1)) at ((c .before .before .before .before .before .before .before .head-at .ensures)) in rw (sym (as-bound (c .before .before .before .before .before .before .before .before .before .smaller .ensures) (c .before .before .before .before .before .before .before .before .before .before .before .pre .1))) (going-broken ((c .before .before .before .before .before .before .before .before .loop .inv)) (more-complex h refl) (rw ((c .before .number2 .given .1)) at ((c .before .before .before .judge-element .ensures) _ _ h)))
+judge-list-returns-3 t c =
+    let at-judge-element = c .before .before .before in
+    let at-inner = at-judge-element .before .before in
+    let at-head-at = at-inner .before .before in
+    let at-loop = at-head-at .before in
+    let at-smaller = at-loop .before in
+    let start = at-smaller .before .before in
+    let h = rw (at-inner .inner .given .1) at (at-head-at .head-at .ensures) in
+    rw (sym (as-bound (at-smaller .smaller .ensures) (start .pre .1)))
+    (going-broken (at-loop .loop .inv) (more-complex h refl)
+    (rw (c .before .number2 .given .1) at ((at-judge-element .judge-element .ensures) _ _ h)))
 
 judge-list-enum-known-next-2 : (t : ℕ) → judge-list-lts.Need-enum-known-next-2 (list-calls t) (judge-list-at t) judge-list.Post judge-list-Inv-loop judge-list-μ-loop
 judge-list-enum-known-next-2 t c = search needs
 
 judge-list-add-direct-2 : (t : ℕ) → judge-list-lts.Need-add-direct-2 (list-calls t) (judge-list-at t) judge-list.Post judge-list-Inv-loop judge-list-μ-loop
-judge-list-add-direct-2 t c = omega (arith, rw ((c .before .before .before .before .before .inner .given .1)) at ((c .before .before .before .before .before .before .before .head-at .ensures .within)), (c .before .before .before .before .before .before .before .before .loop .inv .gone .words-each), (c .before .before .before .before .before .before .before .before .loop .inv .gone .direct))
+judge-list-add-direct-2 t c =
+    let at-inner = c .before .before .before .before .before in
+    let at-head-at = at-inner .before .before in
+    let at-loop = at-head-at .before in
+    omega (
+      arith,
+      rw (at-inner .inner .given .1) at (at-head-at .head-at .ensures .within),
+      (at-loop .loop .inv .gone .words-each),
+      (at-loop .loop .inv .gone .direct),
+    )
 
 judge-list-sub-below : (t : ℕ) → judge-list-lts.Need-sub-below (list-calls t) (judge-list-at t) judge-list.Post judge-list-Inv-loop judge-list-μ-loop
-judge-list-sub-below t c = let x = rw ((c .before .next2 .given .1)) at ((c .before .before .before .judge-element .ensures) _ _ (rw ((c .before .before .before .before .before .inner .given .1)) at ((c .before .before .before .before .before .before .before .head-at .ensures)))) in omega (arith, x .1 .1 .0)
+judge-list-sub-below t c =
+    let at-judge-element = c .before .before .before in
+    let at-inner = at-judge-element .before .before in
+    let at-head-at = at-inner .before .before in
+    let x = rw (c .before .next2 .given .1) at
+    ((at-judge-element .judge-element .ensures) _ _ (rw (at-inner .inner .given .1) at (at-head-at .head-at .ensures)))
+    in
+    omega (arith, x .itself)
 
 judge-list-add-below : (t : ℕ) → judge-list-lts.Need-add-below (list-calls t) (judge-list-at t) judge-list.Post judge-list-Inv-loop judge-list-μ-loop
-judge-list-add-below t c = let x = rw ((c .before .next2 .given .1)) at ((c .before .before .before .judge-element .ensures) _ _ (rw ((c .before .before .before .before .before .inner .given .1)) at ((c .before .before .before .before .before .before .before .head-at .ensures)))) in omega (arith, x .1 .1 .1 .1, x .0 .by, (c .before .before .before .before .before .before .before .before .loop .inv .gone .words-each))
+judge-list-add-below t c =
+    let at-judge-element = c .before .before .before in
+    let at-inner = at-judge-element .before .before in
+    let at-head-at = at-inner .before .before in
+    let at-loop = at-head-at .before in
+    let x = rw (c .before .next2 .given .1) at
+    ((at-judge-element .judge-element .ensures) _ _ (rw (at-inner .inner .given .1) at (at-head-at .head-at .ensures)))
+    in
+    omega (arith, x .words-each, x .good .by, (at-loop .loop .inv .gone .words-each))
 
 judge-list-larger-requires-2 : (t : ℕ) → judge-list-lts.Need-larger-requires-2 (list-calls t) (judge-list-at t) judge-list.Post judge-list-Inv-loop judge-list-μ-loop
 judge-list-larger-requires-2 t c κs = search needs
@@ -189,16 +293,59 @@ judge-list-larger-requires-3 : (t : ℕ) → judge-list-lts.Need-larger-requires
 judge-list-larger-requires-3 t c κs = search needs
 
 judge-list-add-t35 : (t : ℕ) → judge-list-lts.Need-add-t35 (list-calls t) (judge-list-at t) judge-list.Post judge-list-Inv-loop judge-list-μ-loop
-judge-list-add-t35 t c = let x = rw ((c .before .before .before .before .before .next2 .given .1)) at ((c .before .before .before .before .before .before .before .judge-element .ensures) _ _ (rw ((c .before .before .before .before .before .before .before .before .before .inner .given .1)) at ((c .before .before .before .before .before .before .before .before .before .before .before .head-at .ensures)))) in omega (arith, x .1 .1 .0, x .1 .1 .1 .1, x .0 .by, (c .before .before .before .before .before .before .before .before .before .before .before .before .loop .inv .gone .words-each))
+judge-list-add-t35 t c =
+    let at-next2 = c .before .before .before .before .before in
+    let at-judge-element = at-next2 .before .before in
+    let at-inner = at-judge-element .before .before in
+    let at-head-at = at-inner .before .before in
+    let at-loop = at-head-at .before in
+    let x = rw (at-next2 .next2 .given .1) at
+    ((at-judge-element .judge-element .ensures) _ _ (rw (at-inner .inner .given .1) at (at-head-at .head-at .ensures)))
+    in
+    omega (arith, x .itself, x .words-each, x .good .by, (at-loop .loop .inv .gone .words-each))
 
 judge-list-returns-4 : (t : ℕ) → judge-list-lts.Need-returns-4 (list-calls t) (judge-list-at t) judge-list.Post judge-list-Inv-loop judge-list-μ-loop
-judge-list-returns-4 t c = let h = rw ((c .before .before .before .before .before .before .before .before .before .inner .given .1)) at ((c .before .before .before .before .before .before .before .before .before .before .before .head-at .ensures)) in let x = rw ((c .before .before .before .before .before .next2 .given .1)) at ((c .before .before .before .before .before .before .before .judge-element .ensures) _ _ h) in rw (sym (as-bound (c .before .before .before .before .before .before .before .before .before .before .before .before .before .smaller .ensures) (c .before .before .before .before .before .before .before .before .before .before .before .before .before .before .before .pre .1))) (going-stopped ((c .before .before .before .before .before .before .before .before .before .before .before .before .loop .inv)) (x .0) (header-stops _ _ _ _ _ (head-complex h refl) ((c .before .before .stops .ensures)) ((c .before .if2 .taken))) (omega (arith, x .1 .1 .0)) (((c .larger3 .ensures)) ∙ depth-complex ((c .before .before .before .before .before .before .before .before .before .before .before .before .loop .inv)) _ (x .1 .1 .1 .0) ((c .before .before .before .larger2 .ensures))))
+judge-list-returns-4 t c =
+    let at-larger2 = c .before .before .before in
+    let at-next2 = at-larger2 .before .before in
+    let at-judge-element = at-next2 .before .before in
+    let at-inner = at-judge-element .before .before in
+    let at-head-at = at-inner .before .before in
+    let at-loop = at-head-at .before in
+    let at-smaller = at-loop .before in
+    let start = at-smaller .before .before in
+    let h = rw (at-inner .inner .given .1) at (at-head-at .head-at .ensures) in
+    let x = rw (at-next2 .next2 .given .1) at ((at-judge-element .judge-element .ensures) _ _ h) in
+    rw (sym (as-bound (at-smaller .smaller .ensures) (start .pre .1)))
+    (going-stopped (at-loop .loop .inv) (x .good)
+    (header-stops _ _ _ _ _ (head-complex h refl) (c .before .before .stops .ensures) (c .before .if2 .taken))
+    (omega (arith, x .itself))
+    ((c .larger3 .ensures) ∙ depth-complex (at-loop .loop .inv) _ (x .deep) (at-larger2 .larger2 .ensures)))
 
 judge-list-loop-less-2 : (t : ℕ) → judge-list-lts.Need-loop-less-2 (list-calls t) (judge-list-at t) judge-list.Post judge-list-Inv-loop judge-list-μ-loop
-judge-list-loop-less-2 t c = let x = rw ((c .before .before .before .before .next2 .given .1)) at ((c .before .before .before .before .before .before .judge-element .ensures) _ _ (rw ((c .before .before .before .before .before .before .before .before .inner .given .1)) at ((c .before .before .before .before .before .before .before .before .before .before .head-at .ensures)))) in omega (arith, x .0 .on, x .0 .by)
+judge-list-loop-less-2 t c =
+    let at-next2 = c .before .before .before .before in
+    let at-judge-element = at-next2 .before .before in
+    let at-inner = at-judge-element .before .before in
+    let at-head-at = at-inner .before .before in
+    let x = rw (at-next2 .next2 .given .1) at
+    ((at-judge-element .judge-element .ensures) _ _ (rw (at-inner .inner .given .1) at (at-head-at .head-at .ensures)))
+    in
+    omega (arith, x .good .on, x .good .by)
 
 judge-list-loop-again-2 : (t : ℕ) → judge-list-lts.Need-loop-again-2 (list-calls t) (judge-list-at t) judge-list.Post judge-list-Inv-loop judge-list-μ-loop
-judge-list-loop-again-2 t c = let h = rw ((c .before .before .before .before .before .before .before .before .inner .given .1)) at ((c .before .before .before .before .before .before .before .before .before .before .head-at .ensures)) in let x = rw ((c .before .before .before .before .next2 .given .1)) at ((c .before .before .before .before .before .before .judge-element .ensures) _ _ h) in going-on ((c .before .before .before .before .before .before .before .before .before .before .before .loop .inv)) (x .0) (header-stops _ _ _ _ _ (head-complex h refl) ((c .before .stops .ensures)) ((c .if2 .left))) (omega (arith, x .1 .1 .0)) (depth-complex ((c .before .before .before .before .before .before .before .before .before .before .before .loop .inv)) _ (x .1 .1 .1 .0) ((c .before .before .larger2 .ensures))) (x .1 .1 .1 .1)
+judge-list-loop-again-2 t c =
+    let at-next2 = c .before .before .before .before in
+    let at-judge-element = at-next2 .before .before in
+    let at-inner = at-judge-element .before .before in
+    let at-head-at = at-inner .before .before in
+    let at-loop = at-head-at .before in
+    let h = rw (at-inner .inner .given .1) at (at-head-at .head-at .ensures) in
+    let x = rw (at-next2 .next2 .given .1) at ((at-judge-element .judge-element .ensures) _ _ h) in
+    going-on (at-loop .loop .inv) (x .good)
+    (header-stops _ _ _ _ _ (head-complex h refl) (c .before .stops .ensures) (c .if2 .left))
+    (omega (arith, x .itself))
+    (depth-complex (at-loop .loop .inv) _ (x .deep) (c .before .before .larger2 .ensures)) (x .words-each)
 
 pub +judge-element+judge-list-spec : {M : Type 1} → statement M
 +judge-element+judge-list-spec = close μ-judge-element μ-judge-list (λ t. judge-element-lts.spec (element-calls t)

@@ -1,3 +1,4 @@
+-- Judging a list until the element's own place stops after that element, and halts or breaks only at it (Reaching).
 use native.Mathlib.Omega.{arith}
 use Rattle.files.proofs.Reaching.{stopped-element, halted-element, broken-element}
 use borrow.Author.Needs.{needs}

@@ -20,21 +20,21 @@ enum-known-number c = search needs
 
 returns : tie.Need-returns
 returns c =
-    judge-top
-    _
-    (c .before .before .before .before .before .before .before .args .file .now)
-    _
-    (sym (c .before .before .before .before .before .call-ok .ensures) ∙ (c .before .before .before .before .if1 .taken))
-    (rw (c .before .next .given .1) at (c .before .before .before .judge-all .ensures .is))
+    let at-judge-all = c .before .before .before in
+    let at-if1 = at-judge-all .before in
+    let at-call-ok = at-if1 .before in
+    let start = at-call-ok .before .before in
+    judge-top _ (start .args .file .now) _ (sym (at-call-ok .call-ok .ensures) ∙ (at-if1 .if1 .taken))
+    (rw (c .before .next .given .1) at (at-judge-all .judge-all .ensures .is))
 
 returns-2 : tie.Need-returns-2
 returns-2 c =
-    judge-top
-    _
-    (c .before .before .before .before .before .before .before .args .file .now)
-    _
-    (sym (c .before .before .before .before .before .call-ok .ensures) ∙ (c .before .before .before .before .if1 .taken))
-    (rw (c .before .number .given .1) at (c .before .before .before .judge-all .ensures .is))
+    let at-judge-all = c .before .before .before in
+    let at-if1 = at-judge-all .before in
+    let at-call-ok = at-if1 .before in
+    let start = at-call-ok .before .before in
+    judge-top _ (start .args .file .now) _ (sym (at-call-ok .call-ok .ensures) ∙ (at-if1 .if1 .taken))
+    (rw (c .before .number .given .1) at (at-judge-all .judge-all .ensures .is))
 
 returns-3 : tie.Need-returns-3
 returns-3 c = judge-call _ _ (sym (c .before .call-ok .ensures) ∙ (c .if1 .left))

@@ -1,3 +1,4 @@
+-- The list is judged until its own bound, which is what `closed` asks for to answer for the whole list.
 use borrow.Author.Needs.{needs}
 use Rattle.files.proofs.judge_all.Statement.{statement}
 use Rattle.files.proofs.judge_all.Tie as tie

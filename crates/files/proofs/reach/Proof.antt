@@ -1,3 +1,5 @@
+-- Each way out of judging the list at the top is a case of `reachedOf`; where no head stands, what stands there decides
+-- (Reaching).
 use mathlib.Core.Path.{sym, _∙_}
 use native.Mathlib.Omega.{arith}
 use Rattle.files.proofs.Reaching.{reach-stopped, reach-broken, reach-halted-done, reach-halted-lacking, reach-halted-more}
@@ -39,13 +41,25 @@ returns-2 : tie.Need-returns-2
 returns-2 c = reach-broken (rw ((c .before .number .given .1)) at ((c .before .before .before .judge-list .ensures)))
 
 returns-3 : tie.Need-returns-3
-returns-3 c = reach-halted-done (rw ((c .before .before .before .before .number2 .given .1)) at ((c .before .before .before .before .before .before .judge-list .ensures))) (sym ((c .before .before .stop-at .ensures)) ∙ ((c .enum-told .given .1)))
+returns-3 c =
+    let at-number2 = c .before .before .before .before in
+    let at-judge-list = at-number2 .before .before in
+    reach-halted-done (rw (at-number2 .number2 .given .1) at (at-judge-list .judge-list .ensures))
+    (sym (c .before .before .stop-at .ensures) ∙ (c .enum-told .given .1))
 
 returns-4 : tie.Need-returns-4
-returns-4 c = reach-halted-lacking (rw ((c .before .before .before .before .number2 .given .1)) at ((c .before .before .before .before .before .before .judge-list .ensures))) (sym ((c .before .before .stop-at .ensures)) ∙ ((c .enum-told2 .given .1)))
+returns-4 c =
+    let at-number2 = c .before .before .before .before in
+    let at-judge-list = at-number2 .before .before in
+    reach-halted-lacking (rw (at-number2 .number2 .given .1) at (at-judge-list .judge-list .ensures))
+    (sym (c .before .before .stop-at .ensures) ∙ (c .enum-told2 .given .1))
 
 returns-5 : tie.Need-returns-5
-returns-5 c = reach-halted-more (rw ((c .before .before .before .before .number2 .given .1)) at ((c .before .before .before .before .before .before .judge-list .ensures))) (sym ((c .before .before .stop-at .ensures)) ∙ ((c .enum-told3 .given .1)))
+returns-5 c =
+    let at-number2 = c .before .before .before .before in
+    let at-judge-list = at-number2 .before .before in
+    reach-halted-more (rw (at-number2 .number2 .given .1) at (at-judge-list .judge-list .ensures))
+    (sym (c .before .before .stop-at .ensures) ∙ (c .enum-told3 .given .1))
 
 pub reach-spec : {M : Type 1} → statement M
 reach-spec =

@@ -1,3 +1,4 @@
+-- The comparison is that of the definition, and each of its answers picks the number that is returned.
 use borrow.Author.Tests.{le-leb, lt-leb}
 use Rattle.files.proofs.smaller.Statement.{statement}
 use Rattle.files.proofs.smaller.Tie as tie

@@ -1,3 +1,4 @@
+-- Where `each` holds the definition is true; else it is the comparison that is returned.
 use mathlib.Core.Path.{refl}
 use borrow.Author.Needs.{needs}
 use Rattle.files.proofs.stops.Statement.{statement}

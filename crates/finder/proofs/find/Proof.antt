@@ -39,7 +39,13 @@ returns-2 : tie.Need-returns-2
 returns-2 c = (c .refused .ensures) ∙ file-refused _ _ _ _ _ (sym ((c .before .before .before .before .judge .ensures)) ∙ (c .before .before .of-file .given .1))
 
 returns-3 : tie.Need-returns-3
-returns-3 c = (c .refused2 .ensures) ∙ text-refused _ _ _ _ _ _ _ _ (sym ((c .before .before .before .judge .ensures)) ∙ (c .before .enum-told .given .1)) (sym ((c .before .before .before .before .before .before .before .pack .ensures)) ∙ (c .before .before .before .before .before .number .given .1))
+returns-3 c =
+    let at-judge = c .before .before .before in
+    let at-number = at-judge .before .before in
+    let at-pack = at-number .before .before in
+    (c .refused2 .ensures) ∙ text-refused _ _ _ _ _ _ _ _
+    (sym (at-judge .judge .ensures) ∙ (c .before .enum-told .given .1))
+    (sym (at-pack .pack .ensures) ∙ (at-number .number .given .1))
 
 pub find-spec : {M : Type 1} → statement M
 find-spec =

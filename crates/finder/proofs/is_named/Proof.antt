@@ -1,3 +1,5 @@
+-- The definition asks the type first and the code the words: where the words are the name's both leave the type, else both are
+-- false (Named).
 use Rattle.words.specs.Words.{words}
 use mathlib.Core.Path.{refl}
 use Rattle.finder.proofs.Named.{words-first, words-fail}
@@ -15,10 +17,16 @@ type-at-requires : tie.Need-type-at-requires
 type-at-requires c κs = search needs
 
 returns : tie.Need-returns
-returns c = words-first (words (c .before .before .before .before .args .s .now)) (c .before .before .before .before .args .at) (c .before .before .before .before .args .t) (c .before .before .before .before .args .k) (c .before .before .before .before .args .first) (c .before .before .before .before .args .second) (c .before .before .has-words .ensures) (c .before .if1 .taken) (c .type-at .ensures) refl
+returns c =
+    let start = c .before .before .before .before in
+    words-first (words (start .args .s .now)) (start .args .at) (start .args .t) (start .args .k) (start .args .first)
+    (start .args .second) (c .before .before .has-words .ensures) (c .before .if1 .taken) (c .type-at .ensures) refl
 
 returns-2 : tie.Need-returns-2
-returns-2 c = words-fail (words (c .before .before .before .args .s .now)) (c .before .before .before .args .at) (c .before .before .before .args .t) (c .before .before .before .args .k) (c .before .before .before .args .first) (c .before .before .before .args .second) (c .before .has-words .ensures) (c .if1 .left)
+returns-2 c =
+    let start = c .before .before .before in
+    words-fail (words (start .args .s .now)) (start .args .at) (start .args .t) (start .args .k) (start .args .first)
+    (start .args .second) (c .before .has-words .ensures) (c .if1 .left)
 
 pub is-named-spec : {M : Type 1} → statement M
 is-named-spec =

@@ -26,7 +26,10 @@ has-name-requires : tie.Need-has-name-requires Inv-loop μ-loop
 has-name-requires c κs = omega (arith, (c .loop-test .taken), (c .before .before .before .pre .1))
 
 add-t11 : tie.Need-add-t11 Inv-loop μ-loop
-add-t11 c = omega (arith, (c .before .before .loop-test .taken), (c .before .before .before .before .before .pre .1), (c .before .before .before .loop .inv .0))
+add-t11 c =
+    let at-loop = c .before .before .before in
+    let start = at-loop .before .before in
+    omega (arith, (c .before .before .loop-test .taken), (start .pre .1), (at-loop .loop .inv .0))
 
 returns : tie.Need-returns Inv-loop μ-loop
 returns c = (c .before .before .before .loop .inv .1) _ (look-hit _ _ _ _ _ _ ((c .before .before .loop-test .taken)) (sym ((c .before .has-name .ensures)) ∙ (c .if1 .taken)))
@@ -36,18 +39,29 @@ size-at-requires c κs = search needs
 
 add-at : tie.Need-add-at Inv-loop μ-loop
 add-at c =
-    let s = c .before .before .before .before .before .before .args .file .now in
-    let size = size-small s (lent-below s (c .before .before .before .before .before .shared-slice-known .given)) (c .before .before .before .before .loop .at) in
-    omega (arith, (c .before .before .before .loop-test .taken), (c .before .before .before .before .before .before .pre .1), (c .size-at .ensures))
+    let at-loop-test = c .before .before .before in
+    let at-loop = at-loop-test .before in
+    let at-shared-slice-known = at-loop .before in
+    let start = at-shared-slice-known .before in
+    let s = start .args .file .now in
+    let size = size-small s (lent-below s (at-shared-slice-known .shared-slice-known .given)) (at-loop .loop .at) in
+    omega (arith, (at-loop-test .loop-test .taken), (start .pre .1), (c .size-at .ensures))
 
 add-n : tie.Need-add-n Inv-loop μ-loop
-add-n c = omega (arith, (c .before .before .before .loop-test .taken), (c .before .before .before .before .before .before .pre .1), (c .before .before .before .before .loop .inv .0))
+add-n c =
+    let at-loop-test = c .before .before .before in
+    let at-loop = at-loop-test .before in
+    let start = at-loop .before .before in
+    omega (arith, (at-loop-test .loop-test .taken), (start .pre .1), (at-loop .loop .inv .0))
 
 loop-less : tie.Need-loop-less Inv-loop μ-loop
 loop-less c = omega (arith, (c .before .before .before .loop-test .taken), (c .size-at .ensures))
 
 loop-again : tie.Need-loop-again Inv-loop μ-loop
-loop-again c = (omega (arith, (c .size-at .ensures), (c .before .before .before .before .loop .inv .0)), λ r f. (c .before .before .before .before .loop .inv .1) r (look-next _ _ _ _ _ _ ((c .before .before .before .loop-test .taken)) (sym ((c .before .before .has-name .ensures)) ∙ (c .before .if1 .left)) r (rw ((c .size-at .ensures)) at f)))
+loop-again c =
+    let at-loop-test = c .before .before .before in
+    let at-loop = at-loop-test .before in
+    (omega (arith, (c .size-at .ensures), (at-loop .loop .inv .0)), λ r f. (at-loop .loop .inv .1) r (look-next _ _ _ _ _ _ (at-loop-test .loop-test .taken) (sym (c .before .before .has-name .ensures) ∙ (c .before .if1 .left)) r (rw (c .size-at .ensures) at f)))
 
 returns-2 : tie.Need-returns-2 Inv-loop μ-loop
 returns-2 c = (c .before .loop .inv .1) _ (look-none _ _ _ _ _ _ ((c .loop-test .left)))

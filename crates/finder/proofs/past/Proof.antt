@@ -1,3 +1,4 @@
+-- Each case of the answer is that of the definition; only a refusal's count grows, and its `requires` says that the sum fits.
 use mathlib.Core.Path.{refl}
 use native.Mathlib.Omega.{arith}
 use borrow.Author.Needs.{needs}

@@ -1,9 +1,9 @@
+-- The loop's invariant: the elements at the top before `here` are judged, and the answer is that of all elements up to
+-- there (Looks). A refused file is answered as it is judged.
 use mathlib.Core.Path.{sym, _∙_}
 use borrow.Author.Tests.{not-true, not-false}
 use Rattle.files.proofs.Laws.{judge-call}
 use Rattle.finder.proofs.Looks.{Searched, searched-none, search-refused, arrived-fault, end-may, end-answer, header-may, header-less, header-hit, header-look, header-more}
--- The loop's invariant: the elements at the top before `here` are judged, and the answer is that of all elements up to
--- there (Looks). A refused file is answered as it is judged.
 use Prim.Native.Nat.{_-_, _/_}
 use lib.ListN.{length}
 use borrow.Author.Needs.{needs}
@@ -41,43 +41,108 @@ refused-requires-3 : tie.Need-refused-requires-3 Inv-loop μ-loop
 refused-requires-3 c κs = search needs
 
 returns-2 : tie.Need-returns-2 Inv-loop μ-loop
-returns-2 c = ((c .refused3 .ensures)) ∙ arrived-fault ((c .before .before .before .before .before .loop .inv)) (sym ((c .before .before .before .before .before .before .before .before .call-ok .ensures)) ∙ not-false _ ((c .before .before .before .before .before .before .before .if1 .left))) (sym ((c .before .before .number .given .1)) ∙ ((c .before .before .before .before .reach .ensures)))
+returns-2 c =
+    let at-reach = c .before .before .before .before in
+    let at-loop = at-reach .before in
+    let at-if1 = at-loop .before .before in
+    let at-call-ok = at-if1 .before in
+    (c .refused3 .ensures) ∙ arrived-fault (at-loop .loop .inv)
+    (sym (at-call-ok .call-ok .ensures) ∙ not-false _ (at-if1 .if1 .left))
+    (sym (c .before .before .number .given .1) ∙ (at-reach .reach .ensures))
 
 enum-known-before : tie.Need-enum-known-before Inv-loop μ-loop
 enum-known-before c = search needs
 
 past-requires : tie.Need-past-requires Inv-loop μ-loop
-past-requires c κs = end-may ((c .before .before .before .before .loop .inv)) (sym ((c .before .before .before .before .before .before .before .call-ok .ensures)) ∙ not-false _ ((c .before .before .before .before .before .before .if1 .left))) (sym ((c .before .before2 .given .1)) ∙ ((c .before .before .before .reach .ensures)))
+past-requires c κs =
+    let at-reach = c .before .before .before in
+    let at-loop = at-reach .before in
+    let at-if1 = at-loop .before .before in
+    let at-call-ok = at-if1 .before in
+    end-may (at-loop .loop .inv) (sym (at-call-ok .call-ok .ensures) ∙ not-false _ (at-if1 .if1 .left))
+    (sym (c .before .before2 .given .1) ∙ (at-reach .reach .ensures))
 
 returns-3 : tie.Need-returns-3 Inv-loop μ-loop
-returns-3 c = end-answer ((c .before .before .before .before .before .loop .inv)) (sym ((c .before .before .before .before .before .before .before .before .call-ok .ensures)) ∙ not-false _ ((c .before .before .before .before .before .before .before .if1 .left))) (sym ((c .before .before .before2 .given .1)) ∙ ((c .before .before .before .before .reach .ensures))) ((c .past .ensures))
+returns-3 c =
+    let at-reach = c .before .before .before .before in
+    let at-loop = at-reach .before in
+    let at-if1 = at-loop .before .before in
+    let at-call-ok = at-if1 .before in
+    end-answer (at-loop .loop .inv) (sym (at-call-ok .call-ok .ensures) ∙ not-false _ (at-if1 .if1 .left))
+    (sym (c .before .before .before2 .given .1) ∙ (at-reach .reach .ensures)) (c .past .ensures)
 
 enum-known-header : tie.Need-enum-known-header Inv-loop μ-loop
 enum-known-header c = search needs
 
 past-requires-2 : tie.Need-past-requires-2 Inv-loop μ-loop
-past-requires-2 c κs = header-may ((c .before .before .before .before .loop .inv)) (sym ((c .before .before .before .before .before .before .before .call-ok .ensures)) ∙ not-false _ ((c .before .before .before .before .before .before .if1 .left))) (sym ((c .before .header .given .1)) ∙ ((c .before .before .before .reach .ensures)))
+past-requires-2 c κs =
+    let at-reach = c .before .before .before in
+    let at-loop = at-reach .before in
+    let at-if1 = at-loop .before .before in
+    let at-call-ok = at-if1 .before in
+    header-may (at-loop .loop .inv) (sym (at-call-ok .call-ok .ensures) ∙ not-false _ (at-if1 .if1 .left))
+    (sym (c .before .header .given .1) ∙ (at-reach .reach .ensures))
 
 enum-told : tie.Need-enum-told Inv-loop μ-loop
 enum-told c = search needs
 
 loop-less : tie.Need-loop-less Inv-loop μ-loop
-loop-less c = header-less ((c .before .before .before .before .before .before .before .loop .inv)) (sym ((c .before .before .before .before .before .before .before .before .before .before .call-ok .ensures)) ∙ not-false _ ((c .before .before .before .before .before .before .before .before .before .if1 .left))) (sym ((c .before .before .before .before .header .given .1)) ∙ ((c .before .before .before .before .before .before .reach .ensures)))
+loop-less c =
+    let at-header = c .before .before .before .before in
+    let at-reach = at-header .before .before in
+    let at-loop = at-reach .before in
+    let at-if1 = at-loop .before .before in
+    let at-call-ok = at-if1 .before in
+    header-less (at-loop .loop .inv) (sym (at-call-ok .call-ok .ensures) ∙ not-false _ (at-if1 .if1 .left))
+    (sym (at-header .header .given .1) ∙ (at-reach .reach .ensures))
 
 loop-again : tie.Need-loop-again Inv-loop μ-loop
-loop-again c = header-hit ((c .before .before .before .before .before .before .before .loop .inv)) (sym ((c .before .before .before .before .before .before .before .before .before .before .call-ok .ensures)) ∙ not-false _ ((c .before .before .before .before .before .before .before .before .before .if1 .left))) (sym ((c .before .before .before .before .header .given .1)) ∙ ((c .before .before .before .before .before .before .reach .ensures))) ((c .before .before .past2 .ensures)) ((c .enum-told .given .1))
+loop-again c =
+    let at-header = c .before .before .before .before in
+    let at-reach = at-header .before .before in
+    let at-loop = at-reach .before in
+    let at-if1 = at-loop .before .before in
+    let at-call-ok = at-if1 .before in
+    header-hit (at-loop .loop .inv) (sym (at-call-ok .call-ok .ensures) ∙ not-false _ (at-if1 .if1 .left))
+    (sym (at-header .header .given .1) ∙ (at-reach .reach .ensures)) (c .before .before .past2 .ensures)
+    (c .enum-told .given .1)
 
 enum-known-count : tie.Need-enum-known-count Inv-loop μ-loop
 enum-known-count c = search needs
 
 look-requires : tie.Need-look-requires Inv-loop μ-loop
-look-requires c κs = header-look ((c .before .before .before .before .before .before .before .before .loop .inv)) (sym ((c .before .before .before .before .before .before .before .before .before .before .before .call-ok .ensures)) ∙ not-false _ ((c .before .before .before .before .before .before .before .before .before .before .if1 .left))) (sym ((c .before .before .before .before .before .header .given .1)) ∙ ((c .before .before .before .before .before .before .before .reach .ensures))) ((c .before .before .before .past2 .ensures)) ((c .before .count .given .1))
+look-requires c κs =
+    let at-past2 = c .before .before .before in
+    let at-header = at-past2 .before .before in
+    let at-reach = at-header .before .before in
+    let at-loop = at-reach .before in
+    let at-if1 = at-loop .before .before in
+    let at-call-ok = at-if1 .before in
+    header-look (at-loop .loop .inv) (sym (at-call-ok .call-ok .ensures) ∙ not-false _ (at-if1 .if1 .left))
+    (sym (at-header .header .given .1) ∙ (at-reach .reach .ensures)) (at-past2 .past2 .ensures)
+    (c .before .count .given .1)
 
 loop-less-2 : tie.Need-loop-less-2 Inv-loop μ-loop
-loop-less-2 c = header-less ((c .before .before .before .before .before .before .before .before .before .loop .inv)) (sym ((c .before .before .before .before .before .before .before .before .before .before .before .before .call-ok .ensures)) ∙ not-false _ ((c .before .before .before .before .before .before .before .before .before .before .before .if1 .left))) (sym ((c .before .before .before .before .before .before .header .given .1)) ∙ ((c .before .before .before .before .before .before .before .before .reach .ensures)))
+loop-less-2 c =
+    let at-header = c .before .before .before .before .before .before in
+    let at-reach = at-header .before .before in
+    let at-loop = at-reach .before in
+    let at-if1 = at-loop .before .before in
+    let at-call-ok = at-if1 .before in
+    header-less (at-loop .loop .inv) (sym (at-call-ok .call-ok .ensures) ∙ not-false _ (at-if1 .if1 .left))
+    (sym (at-header .header .given .1) ∙ (at-reach .reach .ensures))
 
 loop-again-2 : tie.Need-loop-again-2 Inv-loop μ-loop
-loop-again-2 c = header-more ((c .before .before .before .before .before .before .before .before .before .loop .inv)) (sym ((c .before .before .before .before .before .before .before .before .before .before .before .before .call-ok .ensures)) ∙ not-false _ ((c .before .before .before .before .before .before .before .before .before .before .before .if1 .left))) (sym ((c .before .before .before .before .before .before .header .given .1)) ∙ ((c .before .before .before .before .before .before .before .before .reach .ensures))) ((c .before .before .before .before .past2 .ensures)) ((c .before .before .count .given .1)) _ ((c .look .ensures))
+loop-again-2 c =
+    let at-past2 = c .before .before .before .before in
+    let at-header = at-past2 .before .before in
+    let at-reach = at-header .before .before in
+    let at-loop = at-reach .before in
+    let at-if1 = at-loop .before .before in
+    let at-call-ok = at-if1 .before in
+    header-more (at-loop .loop .inv) (sym (at-call-ok .call-ok .ensures) ∙ not-false _ (at-if1 .if1 .left))
+    (sym (at-header .header .given .1) ∙ (at-reach .reach .ensures)) (at-past2 .past2 .ensures)
+    (c .before .before .count .given .1) _ (c .look .ensures)
 
 pub search-spec : {M : Type 1} → statement M
 search-spec =

@@ -23,10 +23,18 @@ returns : tie.Need-returns
 returns c = (c .pick .ensures) ∙ first (of (c .before .before .before)) (flags-stop ((c .before .before .before .args .w)) ((c .before .before .before .args .depth)) _ (refused ((c .before .before .flags-ok .ensures)) ((c .before .if1 .taken))))
 
 returns-2 : tie.Need-returns-2
-returns-2 c = let p = both-true (reservedOk ((c .before .before .before .args .w))) (placeOk ((c .before .before .before .args .depth)) ((c .before .before .before .args .w))) (accepted ((c .before .before .flags-ok .ensures)) ((c .before .if1 .left))) in first (of (c .before .before .before)) (pass (p .0) (pass (p .1) (stop (lt-leb _ _ ((c .if2 .taken))))))
+returns-2 c =
+    let start = c .before .before .before in
+    let p = both-true (reservedOk (start .args .w)) (placeOk (start .args .depth) (start .args .w))
+    (accepted (c .before .before .flags-ok .ensures) (c .before .if1 .left)) in
+    first (of start) (pass (p .0) (pass (p .1) (stop (lt-leb _ _ (c .if2 .taken)))))
 
 returns-3 : tie.Need-returns-3
-returns-3 c = let p = both-true (reservedOk ((c .before .before .before .args .w))) (placeOk ((c .before .before .before .args .depth)) ((c .before .before .before .args .w))) (accepted ((c .before .before .flags-ok .ensures)) ((c .before .if1 .left))) in first (of (c .before .before .before)) (pass (p .0) (pass (p .1) (pass (le-leb _ _ ((c .if2 .left))) (tail [] refl))))
+returns-3 c =
+    let start = c .before .before .before in
+    let p = both-true (reservedOk (start .args .w)) (placeOk (start .args .depth) (start .args .w))
+    (accepted (c .before .before .flags-ok .ensures) (c .before .if1 .left)) in
+    first (of start) (pass (p .0) (pass (p .1) (pass (le-leb _ _ (c .if2 .left)) (tail [] refl))))
 
 pub flag-fault-spec : {M : Type 1} → statement M
 flag-fault-spec = tie.close (tie.spec flags-ok-requires pick-requires returns returns-2 returns-3)

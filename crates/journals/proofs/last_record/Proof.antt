@@ -20,7 +20,11 @@ record-at-requires : tie.Need-record-at-requires
 record-at-requires c κs = search needs
 
 returns-3 : tie.Need-returns-3
-returns-3 c = last-read (c .before .before .before .before .before .args .journal .now) _ (c .before .before .before .if1 .left) (c .before .before .word .ensures .is) _ (c .record-at .ensures)
+returns-3 c =
+    let at-if1 = c .before .before .before in
+    let start = at-if1 .before .before in
+    last-read (start .args .journal .now) _ (at-if1 .if1 .left) (c .before .before .word .ensures .is) _
+    (c .record-at .ensures)
 
 pub last-record-spec : {M : Type 1} → statement M
 last-record-spec =

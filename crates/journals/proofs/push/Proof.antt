@@ -53,12 +53,20 @@ same-length c = search needs
 
 returns-6 : tie.Need-returns-6
 returns-6 c =
-    let args = c .before .before .before .before .before .before .before .before .before .before .before .before .before .before .before .before .before .args in
-    let payload = lent-below (args .payload .now) (c .before .before .before .before .before .before .before .before .before .before .before .before .before .before .before .shared-slice-known .given) in
-    let even = c .before .before .before .before .before .before .before .before .before .before .before .before .before .before .if1 .left in
-    let even-payload = c .before .before .before .before .before .before .before .before .before .before .before .before .before .if2 .left in
-    push-copies _ _ _ _ _ _ _ (placeOf (args .header)) (args .place) payload even-payload (omega arith) (c .before .before .before .before .before .before .before .before .before .trailer .ensures) ((c .before .before .before .before .before .before .before .copy-in .ensures) ∙ copied-fits _ _ _ (omega arith)) ((c .before .before .copy-in2 .ensures) ∙ copied-fits _ _ _ (omega arith))
-    ∙ sym (pushed-fits _ _ _ _ _ _ even even-payload (omega arith))
+    let at-copy-in = c .before .before .before .before .before .before .before in
+    let at-trailer = at-copy-in .before .before in
+    let at-if2 = at-trailer .before .before .before .before in
+    let at-if1 = at-if2 .before in
+    let at-shared-slice-known = at-if1 .before in
+    let start = at-shared-slice-known .before .before in
+    let args = start .args in
+    let payload = lent-below (args .payload .now) (at-shared-slice-known .shared-slice-known .given) in
+    let even = at-if1 .if1 .left in
+    let even-payload = at-if2 .if2 .left in
+    push-copies _ _ _ _ _ _ _ (placeOf (args .header)) (args .place) payload even-payload (omega arith)
+    (at-trailer .trailer .ensures) ((at-copy-in .copy-in .ensures) ∙ copied-fits _ _ _ (omega arith))
+    ((c .before .before .copy-in2 .ensures) ∙ copied-fits _ _ _ (omega arith)) ∙ sym
+    (pushed-fits _ _ _ _ _ _ even even-payload (omega arith))
 
 pub push-spec : {M : Type 1} → statement M
 push-spec =

@@ -6,17 +6,14 @@ use Rattle.journals.proofs.Records.{Six, read-bad, read-flag, read-rena
 use Rattle.journals.proofs.record_at.Statement.{statement}
 use Rattle.journals.proofs.record_at.Tie as tie
 
-six : (c : tie.After-well-formed)
-    → Six (c .before .before .before .before .before .args .journal .now) (c .before .before .before .before .before .args .t)
-    (c .before .before .before .before .before .args .count) (c .before .before .before .word .result) (c .before .before .long .result) (c .before .long2 .result)
+six : (c : tie.After-well-formed) →
+    let start = c .before .before .before .before .before in
+    Six (start .args .journal .now) (start .args .t) (start .args .count) (c .before .before .before .word .result) (c .before .before .long .result) (c .before .long2 .result)
 six c =
-    record {
-      behind = c .before .before .before .before .before .pre .0;
-      room = c .before .before .before .before .before .pre .1;
-      kind-is = c .before .before .before .word .ensures .is;
-      header-is = c .before .before .long .ensures;
-      place-is = c .before .long2 .ensures;
-    }
+    let at-word = c .before .before .before in
+    let start = at-word .before .before in
+    record
+    { behind = start .pre .0; room = start .pre .1; kind-is = at-word .word .ensures .is; header-is = c .before .before .long .ensures; place-is = c .before .long2 .ensures }
 
 word-requires : tie.Need-word-requires
 word-requires c κs = search needs
@@ -59,7 +56,11 @@ word-requires-3 c κs = search needs
 
 returns-3 : tie.Need-returns-3
 returns-3 c =
-    read-renamed _ _ _ _ _ _ (six (c .before .before .before .before .before)) (sym (c .before .before .before .before .before .well-formed .ensures) ∙ not-false _ (c .before .before .before .before .if1 .left)) _ _ (c .before .before .if3 .taken) (c .before .word2 .ensures) (c .word3 .ensures)
+    let at-if1 = c .before .before .before .before in
+    let at-well-formed = at-if1 .before in
+    read-renamed _ _ _ _ _ _ (six at-well-formed)
+    (sym (at-well-formed .well-formed .ensures) ∙ not-false _ (at-if1 .if1 .left)) _ _ (c .before .before .if3 .taken)
+    (c .before .word2 .ensures) (c .word3 .ensures)
 
 returns-4 : tie.Need-returns-4
 returns-4 c = read-inserted _ _ _ _ _ _ (six (c .before .before .before .before)) (sym (c .before .before .before .before .well-formed .ensures) ∙ not-false _ (c .before .before .before .if1 .left)) (c .if4 .taken)

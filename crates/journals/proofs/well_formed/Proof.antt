@@ -1,7 +1,8 @@
 -- By kind, as the definition goes.
-use mathlib.Core.Path.{refl, _∙_}
+use mathlib.Core.Path.{refl, sym, _∙_}
 use borrow.Author.Needs.{needs}
 use borrow.Author.Tests.{eq-eqb, ne-eqb}
+use Rattle.journals.proofs.Records.{last-kind}
 use Rattle.journals.proofs.well_formed.Statement.{statement}
 use Rattle.journals.proofs.well_formed.Tie as tie
 
@@ -21,7 +22,7 @@ returns-3 : tie.Need-returns-3
 returns-3 c = rw (ne-eqb (c .before .before .before .args .kind) 1 (c .before .before .if1 .left), ne-eqb (c .before .before .before .args .kind) 2 (c .before .if2 .left), eq-eqb (c .before .before .before .args .kind) 3 (c .if3 .taken)) refl
 
 returns-4 : tie.Need-returns-4
-returns-4 c = rw (ne-eqb (c .before .before .before .args .kind) 1 (c .before .before .if1 .left), ne-eqb (c .before .before .before .args .kind) 2 (c .before .if2 .left), ne-eqb (c .before .before .before .args .kind) 3 (c .if3 .left)) refl
+returns-4 c = rw (ne-eqb (c .before .before .before .args .kind) 1 (c .before .before .if1 .left), ne-eqb (c .before .before .before .args .kind) 2 (c .before .if2 .left), ne-eqb (c .before .before .before .args .kind) 3 (c .if3 .left)) (sym (last-kind _ _ _))
 
 pub well-formed-spec : {M : Type 1} → statement M
 well-formed-spec =

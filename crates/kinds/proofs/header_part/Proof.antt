@@ -23,7 +23,19 @@ pick-requires-6 : tie.Need-pick-requires-6
 pick-requires-6 c κs = tt
 
 returns : tie.Need-returns
-returns c = rw (c .before .pick5 .ensures, c .before .before .pick4 .ensures, c .before .before .before .pick3 .ensures, c .before .before .before .before .pick2 .ensures, c .before .before .before .before .before .pick .ensures) at (c .pick6 .ensures) ∙ header-fixed _ _ (c .before .before .before .before .before .before .pre)
+returns c =
+    let at-pick3 = c .before .before .before in
+    let at-pick2 = at-pick3 .before in
+    let at-pick = at-pick2 .before in
+    let start = at-pick .before in
+    rw (
+      c .before .pick5 .ensures,
+      c .before .before .pick4 .ensures,
+      at-pick3 .pick3 .ensures,
+      at-pick2 .pick2 .ensures,
+      at-pick .pick .ensures,
+    )
+    at (c .pick6 .ensures) ∙ header-fixed _ _ (start .pre)
 
 pub header-part-spec : {M : Type 1} → statement M
 header-part-spec =

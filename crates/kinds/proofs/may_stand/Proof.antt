@@ -18,13 +18,40 @@ is-unread-requires : tie.Need-is-unread-requires
 is-unread-requires c κs = tt
 
 returns-2 : tie.Need-returns-2
-returns-2 c = simp (stands (c .before .before .before .before .args .dim) (c .before .before .before .before .args .under) (c .before .before .before .before .args .t) (sym (c .before .before .before .is-header .ensures) ∙ c .before .before .if1 .left), sym (c .before .is-unread .ensures), c .if2 .taken)
+returns-2 c =
+    let at-is-header = c .before .before .before in
+    let start = at-is-header .before in
+    simp (
+      stands (start .args .dim) (start .args .under) (start .args .t)
+          (sym (at-is-header .is-header .ensures) ∙ c .before .before .if1 .left),
+      sym (c .before .is-unread .ensures),
+      c .if2
+          .taken,
+    )
 
 returns-3 : tie.Need-returns-3
-returns-3 c = sym (stands (c .before .before .before .before .before .args .dim) (c .before .before .before .before .before .args .under) (c .before .before .before .before .before .args .t) (sym (c .before .before .before .before .is-header .ensures) ∙ c .before .before .before .if1 .left) ∙ simp (sym (c .before .before .is-unread .ensures), c .before .if2 .left, c .if3 .taken))
+returns-3 c =
+    let at-if1 = c .before .before .before in
+    let at-is-header = at-if1 .before in
+    let start = at-is-header .before in
+    sym
+    (stands (start .args .dim) (start .args .under) (start .args .t)
+    (sym (at-is-header .is-header .ensures) ∙ at-if1 .if1 .left) ∙ simp
+    (sym (c .before .before .is-unread .ensures), c .before .if2 .left, c .if3 .taken))
 
 returns-4 : tie.Need-returns-4
-returns-4 c = simp (stands (c .before .before .before .before .before .args .dim) (c .before .before .before .before .before .args .under) (c .before .before .before .before .before .args .t) (sym (c .before .before .before .before .is-header .ensures) ∙ c .before .before .before .if1 .left), sym (c .before .before .is-unread .ensures), c .before .if2 .left, ne-eqb _ _ (c .if3 .left))
+returns-4 c =
+    let at-if1 = c .before .before .before in
+    let at-is-header = at-if1 .before in
+    let start = at-is-header .before in
+    simp (
+      stands (start .args .dim) (start .args .under) (start .args .t)
+          (sym (at-is-header .is-header .ensures) ∙ at-if1 .if1 .left),
+      sym (c .before .before .is-unread .ensures),
+      c .before
+          .if2 .left,
+      ne-eqb _ _ (c .if3 .left),
+    )
 
 pub may-stand-spec : {M : Type 1} → statement M
 may-stand-spec =

@@ -1,3 +1,4 @@
+-- Dimension 2 makes the definition's first test true; any other makes it false and leaves the test for 3, which is returned.
 use borrow.Author.Tests.{eq-eqb, ne-eqb}
 use Rattle.limits.proofs.dim_ok.Statement.{statement}
 use Rattle.limits.proofs.dim_ok.Tie as tie

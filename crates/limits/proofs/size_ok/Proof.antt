@@ -1,3 +1,4 @@
+-- An odd length makes the definition's first test false and an even one makes it true: what is left is the test that is returned.
 use borrow.Author.Tests.{eq-eqb, ne-eqb}
 use Rattle.limits.proofs.size_ok.Statement.{statement}
 use Rattle.limits.proofs.size_ok.Tie as tie

@@ -56,7 +56,8 @@ put-number-add-put-byte-2 t c = search needs
 
 put-number-put-byte-requires-2 : (t : ℕ) → put-number-lts.Need-put-byte-requires-2 (calls t) (put-number-at t) put-number.Post
 put-number-put-byte-requires-2 t c κs =
-    let test = c .before .before .before .before .before in
+    let start = c .before .before .before .before .before in
+    let test = start in
     omega (arith, length-tenth (test .before .before .args .n) (test .if1 .left) (omega arith))
 
 put-number-same-length-2 : (t : ℕ) → put-number-lts.Need-same-length-2 (calls t) (put-number-at t) put-number.Post

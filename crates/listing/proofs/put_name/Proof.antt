@@ -16,12 +16,14 @@ put-byte-requires c κs = search needs
 slice-aggregate-put-bytes : tie.Need-slice-aggregate-put-bytes
 slice-aggregate-put-bytes c =
     let space = c .before .before .before .before .before in
-    sym (length-take-le 6 (space .before .before .before .before .before .args .name .now) (omega arith))
+    let start = space .before .before .before .before .before in
+    sym (length-take-le 6 (start .args .name .now) (omega arith))
 
 put-bytes-requires : tie.Need-put-bytes-requires
 put-bytes-requires c κs =
     let space = c .before .before .before .before .before in
-    omega (arith, length-take-le 6 (space .before .before .before .before .before .args .name .now) (omega arith))
+    let start = space .before .before .before .before .before in
+    omega (arith, length-take-le 6 (start .args .name .now) (omega arith))
 
 same-length : tie.Need-same-length
 same-length c = search needs

@@ -14,7 +14,9 @@ same-length : tie.Need-same-length
 same-length c = search needs
 
 returns : tie.Need-returns
-returns c = rw (c .before .before .before .before .before .if1 .taken) (c .before .before .put-bytes .ensures, omega arith)
+returns c =
+    let at-if1 = c .before .before .before .before .before in
+    rw (at-if1 .if1 .taken) (c .before .before .put-bytes .ensures, omega arith)
 
 slice-aggregate-put-bytes-2 : tie.Need-slice-aggregate-put-bytes-2
 slice-aggregate-put-bytes-2 c = search needs
@@ -26,7 +28,9 @@ same-length-2 : tie.Need-same-length-2
 same-length-2 c = search needs
 
 returns-2 : tie.Need-returns-2
-returns-2 c = rw (c .before .before .before .before .before .if1 .left) (c .before .before .put-bytes2 .ensures, omega arith)
+returns-2 c =
+    let at-if1 = c .before .before .before .before .before in
+    rw (at-if1 .if1 .left) (c .before .before .put-bytes2 .ensures, omega arith)
 
 pub put-state-spec : {M : Type 1} → statement M
 put-state-spec =

@@ -1,8 +1,10 @@
+-- Three ways out, each a law of Ways: the fault found is the refusal, a journal without room for the record is 16, else the
+-- record is pushed with the old name as its payload and the name stored.
 use mathlib.Core.Path.{sym}
 use lib.Seq.{length-take-le}
 use Rattle.words.proofs.Laws.{lent-below}
-use Rattle.steps.proofs.Opened.{used-within, jused-within}
-use Rattle.steps.proofs.Steps.{answered}
+use Rattle.opening.proofs.OpenSession.{used-within, jused-within}
+use Rattle.opening.proofs.Steps.{answered}
 use Rattle.marking.proofs.Ways.{rename-refused, rename-full, rename-done}
 use borrow.Author.Needs.{needs}
 use Rattle.marking.proofs.rename_opened.Statement.{statement}
@@ -24,10 +26,17 @@ same-length : tie.Need-same-length
 same-length c = search needs
 
 returns : tie.Need-returns
-returns c = answered ((c .refused .ensures)) (rename-refused _ _ _ _ _ _ _ ((c .before .before .before .before .before .before .pre)) (lent-below ((c .before .before .before .before .before .before .args .file .now)) ((c .before .before .before .before .before .slice-known .given))) _ _ _ _ ((c .before .before .rename-fault .ensures)) ((c .before .if1 .taken)))
+returns c =
+    let at-slice-known = c .before .before .before .before .before in
+    let start = at-slice-known .before in
+    answered (c .refused .ensures)
+    (rename-refused _ _ _ _ _ _ _ (start .pre) (lent-below (start .args .file .now) (at-slice-known .slice-known .given))
+    _ _ _ _ (c .before .before .rename-fault .ensures) (c .before .if1 .taken))
 
 sub-if2 : tie.Need-sub-if2
-sub-if2 c = jused-within ((c .before .before .before .before .before .pre))
+sub-if2 c =
+    let start = c .before .before .before .before .before in
+    jused-within (start .pre)
 
 refused-requires-2 : tie.Need-refused-requires-2
 refused-requires-2 c κs = search needs
@@ -36,13 +45,23 @@ same-length-2 : tie.Need-same-length-2
 same-length-2 c = search needs
 
 returns-2 : tie.Need-returns-2
-returns-2 c = answered ((c .refused2 .ensures)) (rename-full _ _ _ _ _ _ _ ((c .before .before .before .before .before .before .before .pre)) (lent-below ((c .before .before .before .before .before .before .before .args .file .now)) ((c .before .before .before .before .before .before .slice-known .given))) _ _ _ _ ((c .before .before .before .rename-fault .ensures)) ((c .before .before .if1 .left)) ((c .before .if2 .taken)))
+returns-2 c =
+    let at-rename-fault = c .before .before .before in
+    let at-slice-known = at-rename-fault .before .before .before in
+    let start = at-slice-known .before in
+    answered (c .refused2 .ensures)
+    (rename-full _ _ _ _ _ _ _ (start .pre) (lent-below (start .args .file .now) (at-slice-known .slice-known .given)) _
+    _ _ _ (at-rename-fault .rename-fault .ensures) (c .before .before .if1 .left) (c .before .if2 .taken))
 
 slice-reshare-prefix-cell-name : tie.Need-slice-reshare-prefix-cell-name
-slice-reshare-prefix-cell-name c = used-within ((c .before .before .before .before .before .before .pre))
+slice-reshare-prefix-cell-name c =
+    let start = c .before .before .before .before .before .before in
+    used-within (start .pre)
 
 slice-aggregate-cell-name : tie.Need-slice-aggregate-cell-name
-slice-aggregate-cell-name c = sym (length-take-le _ _ (used-within ((c .before .before .before .before .before .before .before .pre))))
+slice-aggregate-cell-name c =
+    let start = c .before .before .before .before .before .before .before in
+    sym (length-take-le _ _ (used-within (start .pre)))
 
 cell-name-requires : tie.Need-cell-name-requires
 cell-name-requires c κs = search needs
@@ -54,10 +73,14 @@ push-requires : tie.Need-push-requires
 push-requires c κs = search needs
 
 slice-relend-prefix-rename-cell : tie.Need-slice-relend-prefix-rename-cell
-slice-relend-prefix-rename-cell c = used-within ((c .before .before .before .before .before .before .before .before .before .before .before .before .before .pre))
+slice-relend-prefix-rename-cell c =
+    let start = c .before .before .before .before .before .before .before .before .before .before .before .before .before in
+    used-within (start .pre)
 
 slice-aggregate-rename-cell : tie.Need-slice-aggregate-rename-cell
-slice-aggregate-rename-cell c = sym (length-take-le _ _ (used-within ((c .before .before .before .before .before .before .before .before .before .before .before .before .before .before .pre))))
+slice-aggregate-rename-cell c =
+    let start = c .before .before .before .before .before .before .before .before .before .before .before .before .before .before in
+    sym (length-take-le _ _ (used-within (start .pre)))
 
 rename-cell-requires : tie.Need-rename-cell-requires
 rename-cell-requires c κs = search needs
@@ -72,7 +95,19 @@ same-length-4 : tie.Need-same-length-4
 same-length-4 c = search needs
 
 returns-3 : tie.Need-returns-3
-returns-3 c = rename-done _ _ _ _ _ _ _ ((c .before .before .before .before .before .before .before .before .before .before .before .before .before .before .before .before .before .pre)) (lent-below ((c .before .before .before .before .before .before .before .before .before .before .before .before .before .before .before .before .before .args .file .now)) ((c .before .before .before .before .before .before .before .before .before .before .before .before .before .before .before .before .slice-known .given))) _ _ _ _ ((c .before .before .before .before .before .before .before .before .before .before .before .before .before .rename-fault .ensures)) ((c .before .before .before .before .before .before .before .before .before .before .before .before .if1 .left)) ((c .before .before .before .before .before .before .before .before .before .before .before .if2 .left)) ((c .before .before .before .before .before .before .before .before .before .before .before .before .before .before .before .before .before .fits .first .fits)) ((c .before .before .before .before .before .before .before .before .before .before .before .before .before .before .before .before .before .fits .second .fits)) _ _ _ ((c .before .before .rename-cell .ensures)) ((c .before .before .before .before .before .before .before .before .before .cell-name .ensures)) ((c .before .before .before .before .before .before .push .ensures))
+returns-3 c =
+    let at-push = c .before .before .before .before .before .before in
+    let at-cell-name = at-push .before .before .before in
+    let at-if2 = at-cell-name .before .before in
+    let at-if1 = at-if2 .before in
+    let at-rename-fault = at-if1 .before in
+    let at-slice-known = at-rename-fault .before .before .before in
+    let at-fits = at-slice-known .before in
+    rename-done _ _ _ _ _ _ _ (at-fits .pre)
+    (lent-below (at-fits .args .file .now) (at-slice-known .slice-known .given)) _ _ _ _
+    (at-rename-fault .rename-fault .ensures) (at-if1 .if1 .left) (at-if2 .if2 .left) (at-fits .fits .first .fits)
+    (at-fits .fits .second .fits) _ _ _ (c .before .before .rename-cell .ensures) (at-cell-name .cell-name .ensures)
+    (at-push .push .ensures)
 
 pub rename-opened-spec : {M : Type 1} → statement M
 rename-opened-spec =

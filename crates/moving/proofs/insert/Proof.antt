@@ -1,7 +1,9 @@
+-- A piece of a wrong length is 1 (`not-lent`); what opening refuses is the call's refusal (`closed`); what it opens is what
+-- `insert_opened` asks for.
 use mathlib.Core.Path.{sym, _∙_}
 use borrow.Author.Tests.{not-true, not-false}
-use Rattle.steps.proofs.Opened.{opened-ready, opened-refused}
-use Rattle.steps.proofs.Steps.{answered, closed, not-lent}
+use Rattle.opening.proofs.OpenSession.{opened-ready, opened-refused}
+use Rattle.opening.proofs.Steps.{answered, closed, not-lent}
 use borrow.Author.Needs.{needs}
 use Rattle.moving.proofs.insert.Statement.{statement}
 use Rattle.moving.proofs.insert.Tie as tie
@@ -25,13 +27,28 @@ enum-known-marker : tie.Need-enum-known-marker
 enum-known-marker c = search needs
 
 insert-opened-requires : tie.Need-insert-opened-requires
-insert-opened-requires c κs = let o = opened-ready ((c .before .before .before .before .before .before .before .before .before .before .before .before .args .dim)) ((c .before .before .before .before .before .before .before .before .before .before .before .before .args .file .now)) ((c .before .before .before .before .before .before .before .before .before .before .before .before .args .used)) ((c .before .before .before .before .before .before .before .before .before .before .before .before .args .journal .now)) ((c .before .before .before .before .before .before .before .before .before .before .before .before .args .jused)) _ _ ((c .before .before .before .before .before .open-at .ensures)) _ _ ((c .before .before .before .marker .given .1)) in (o .0, (o .1, sym ((c .before .before .before .before .before .before .before .before .size-ok .ensures)) ∙ not-false _ ((c .before .before .before .before .before .before .before .if1 .left))))
+insert-opened-requires c κs =
+    let at-marker = c .before .before .before in
+    let at-open-at = at-marker .before .before in
+    let at-if1 = at-open-at .before .before in
+    let at-size-ok = at-if1 .before in
+    let start = at-size-ok .before .before .before .before in
+    let o = opened-ready (start .args .dim) (start .args .file .now) (start .args .used) (start .args .journal .now)
+    (start .args .jused) _ _ (at-open-at .open-at .ensures) _ _ (at-marker .marker .given .1) in
+    (o .0, (o .1, sym (at-size-ok .size-ok .ensures) ∙ not-false _ (at-if1 .if1 .left)))
 
 same-length : tie.Need-same-length
 same-length c = search needs
 
 returns-2 : tie.Need-returns-2
-returns-2 c = closed _ _ _ _ _ (sym ((c .before .before .before .before .before .before .size-ok .ensures)) ∙ not-false _ ((c .before .before .before .before .before .if1 .left))) (opened-refused ((c .before .before .before .before .before .before .before .before .before .before .args .dim)) ((c .before .before .before .before .before .before .before .before .before .before .args .file .now)) ((c .before .before .before .before .before .before .before .before .before .before .args .used)) ((c .before .before .before .before .before .before .before .before .before .before .args .journal .now)) ((c .before .before .before .before .before .before .before .before .before .before .args .jused)) _ _ ((c .before .before .before .open-at .ensures)) _ _ ((c .before .number .given .1)))
+returns-2 c =
+    let at-open-at = c .before .before .before in
+    let at-if1 = at-open-at .before .before in
+    let at-size-ok = at-if1 .before in
+    let start = at-size-ok .before .before .before .before in
+    closed _ _ _ _ _ (sym (at-size-ok .size-ok .ensures) ∙ not-false _ (at-if1 .if1 .left))
+    (opened-refused (start .args .dim) (start .args .file .now) (start .args .used) (start .args .journal .now)
+    (start .args .jused) _ _ (at-open-at .open-at .ensures) _ _ (c .before .number .given .1))
 
 same-length-2 : tie.Need-same-length-2
 same-length-2 c = search needs

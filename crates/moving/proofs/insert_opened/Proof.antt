@@ -1,8 +1,10 @@
+-- Four ways out, each a law of Ways: the fault found is the refusal, a file buffer without room for the piece is 15, a journal
+-- without room for the record is 16, else the piece goes in and the record is pushed.
 use mathlib.Core.Path.{sym, _∙_}
 use lib.Seq.{length-take-le}
 use Rattle.words.proofs.Laws.{lent-below}
-use Rattle.steps.proofs.Opened.{used-within, jused-within}
-use Rattle.steps.proofs.Steps.{answered}
+use Rattle.opening.proofs.OpenSession.{used-within, jused-within}
+use Rattle.opening.proofs.Steps.{answered}
 use Rattle.moving.proofs.Ways.{refusal-of, fine-of, insert-refused, insert-room, insert-full, insert-done}
 use borrow.Author.Needs.{needs}
 use Rattle.moving.proofs.insert_opened.Statement.{statement}
@@ -24,7 +26,9 @@ enum-told : tie.Need-enum-told
 enum-told c = search needs
 
 sub-if1 : tie.Need-sub-if1
-sub-if1 c = used-within ((c .before .before .before .before .before .before .before .pre .0))
+sub-if1 c =
+    let start = c .before .before .before .before .before .before .before in
+    used-within (start .pre .0)
 
 refused-requires : tie.Need-refused-requires
 refused-requires c κs = search needs
@@ -33,10 +37,22 @@ same-length : tie.Need-same-length
 same-length c = search needs
 
 returns : tie.Need-returns
-returns c = answered ((c .refused .ensures)) (insert-room _ _ _ _ _ _ _ ((c .before .before .before .before .before .before .before .before .before .pre .0)) (lent-below ((c .before .before .before .before .before .before .before .before .before .args .file .now)) ((c .before .before .before .before .before .before .before .before .slice-known .given))) _ ((c .before .before .before .before .before .before .before .before .before .pre .1 .0)) _ _ (lent-below ((c .before .before .before .before .before .before .before .before .before .args .piece .now)) ((c .before .before .before .before .before .before .shared-slice-known .given))) ((c .before .before .before .before .before .before .before .before .before .pre .1 .1)) (fine-of _ (sym ((c .before .before .before .before .insert-fault .ensures)) ∙ (c .before .before .enum-told .given .1))) ((c .before .if1 .taken)))
+returns c =
+    let at-insert-fault = c .before .before .before .before in
+    let at-shared-slice-known = at-insert-fault .before .before in
+    let at-slice-known = at-shared-slice-known .before .before in
+    let start = at-slice-known .before in
+    answered (c .refused .ensures)
+    (insert-room _ _ _ _ _ _ _ (start .pre .0) (lent-below (start .args .file .now) (at-slice-known .slice-known .given))
+    _ (start .pre .1 .0) _ _ (lent-below (start .args .piece .now) (at-shared-slice-known .shared-slice-known .given))
+    (start .pre .1 .1)
+    (fine-of _ (sym (at-insert-fault .insert-fault .ensures) ∙ (c .before .before .enum-told .given .1)))
+    (c .before .if1 .taken))
 
 sub-if2 : tie.Need-sub-if2
-sub-if2 c = jused-within ((c .before .before .before .before .before .before .before .before .pre .0))
+sub-if2 c =
+    let start = c .before .before .before .before .before .before .before .before in
+    jused-within (start .pre .0)
 
 refused-requires-2 : tie.Need-refused-requires-2
 refused-requires-2 c κs = search needs
@@ -45,7 +61,17 @@ same-length-2 : tie.Need-same-length-2
 same-length-2 c = search needs
 
 returns-2 : tie.Need-returns-2
-returns-2 c = answered ((c .refused2 .ensures)) (insert-full _ _ _ _ _ _ _ ((c .before .before .before .before .before .before .before .before .before .before .pre .0)) (lent-below ((c .before .before .before .before .before .before .before .before .before .before .args .file .now)) ((c .before .before .before .before .before .before .before .before .before .slice-known .given))) _ ((c .before .before .before .before .before .before .before .before .before .before .pre .1 .0)) _ _ (lent-below ((c .before .before .before .before .before .before .before .before .before .before .args .piece .now)) ((c .before .before .before .before .before .before .before .shared-slice-known .given))) ((c .before .before .before .before .before .before .before .before .before .before .pre .1 .1)) (fine-of _ (sym ((c .before .before .before .before .before .insert-fault .ensures)) ∙ (c .before .before .before .enum-told .given .1))) ((c .before .before .if1 .left)) ((c .before .if2 .taken)))
+returns-2 c =
+    let at-enum-told = c .before .before .before in
+    let at-insert-fault = at-enum-told .before .before in
+    let at-shared-slice-known = at-insert-fault .before .before in
+    let at-slice-known = at-shared-slice-known .before .before in
+    let start = at-slice-known .before in
+    answered (c .refused2 .ensures)
+    (insert-full _ _ _ _ _ _ _ (start .pre .0) (lent-below (start .args .file .now) (at-slice-known .slice-known .given))
+    _ (start .pre .1 .0) _ _ (lent-below (start .args .piece .now) (at-shared-slice-known .shared-slice-known .given))
+    (start .pre .1 .1) (fine-of _ (sym (at-insert-fault .insert-fault .ensures) ∙ (at-enum-told .enum-told .given .1)))
+    (c .before .before .if1 .left) (c .before .if2 .taken))
 
 header-number-requires : tie.Need-header-number-requires
 header-number-requires c κs = search needs
@@ -72,7 +98,15 @@ same-length-3 : tie.Need-same-length-3
 same-length-3 c = search needs
 
 returns-3 : tie.Need-returns-3
-returns-3 c = insert-refused _ _ _ _ _ _ _ ((c .before .before .before .before .before .before .before .before .pre .0)) (lent-below ((c .before .before .before .before .before .before .before .before .args .file .now)) ((c .before .before .before .before .before .before .before .slice-known .given))) _ ((c .before .before .before .before .before .before .before .before .pre .1 .0)) _ _ (lent-below ((c .before .before .before .before .before .before .before .before .args .piece .now)) ((c .before .before .before .before .before .shared-slice-known .given))) ((c .before .before .before .before .before .before .before .before .pre .1 .1)) _ _ (refusal-of _ _ _ (sym ((c .before .before .before .insert-fault .ensures)) ∙ (c .before .number .given .1)))
+returns-3 c =
+    let at-insert-fault = c .before .before .before in
+    let at-shared-slice-known = at-insert-fault .before .before in
+    let at-slice-known = at-shared-slice-known .before .before in
+    let start = at-slice-known .before in
+    insert-refused _ _ _ _ _ _ _ (start .pre .0)
+    (lent-below (start .args .file .now) (at-slice-known .slice-known .given)) _ (start .pre .1 .0) _ _
+    (lent-below (start .args .piece .now) (at-shared-slice-known .shared-slice-known .given)) (start .pre .1 .1) _ _
+    (refusal-of _ _ _ (sym (at-insert-fault .insert-fault .ensures) ∙ (c .before .number .given .1)))
 
 same-length-4 : tie.Need-same-length-4
 same-length-4 c = search needs
@@ -81,7 +115,21 @@ same-length-5 : tie.Need-same-length-5
 same-length-5 c = search needs
 
 returns-4 : tie.Need-returns-4
-returns-4 c = insert-done _ _ _ _ _ _ _ ((c .before .before .before .before .before .before .before .before .before .before .before .before .before .before .before .before .before .before .before .pre .0)) (lent-below ((c .before .before .before .before .before .before .before .before .before .before .before .before .before .before .before .before .before .before .before .args .file .now)) ((c .before .before .before .before .before .before .before .before .before .before .before .before .before .before .before .before .before .before .slice-known .given))) _ ((c .before .before .before .before .before .before .before .before .before .before .before .before .before .before .before .before .before .before .before .pre .1 .0)) _ _ (lent-below ((c .before .before .before .before .before .before .before .before .before .before .before .before .before .before .before .before .before .before .before .args .piece .now)) ((c .before .before .before .before .before .before .before .before .before .before .before .before .before .before .before .before .shared-slice-known .given))) ((c .before .before .before .before .before .before .before .before .before .before .before .before .before .before .before .before .before .before .before .pre .1 .1)) (fine-of _ (sym ((c .before .before .before .before .before .before .before .before .before .before .before .before .before .before .insert-fault .ensures)) ∙ (c .before .before .before .before .before .before .before .before .before .before .before .before .enum-told .given .1))) ((c .before .before .before .before .before .before .before .before .before .before .before .if1 .left)) ((c .before .before .before .before .before .before .before .before .before .before .if2 .left)) _ _ _ ((c .before .before .insert-piece .ensures)) ((c .before .before .before .before .before .before .before .before .header-number .ensures)) ((c .before .before .before .before .before .before .push .ensures))
+returns-4 c =
+    let at-push = c .before .before .before .before .before .before in
+    let at-header-number = at-push .before .before in
+    let at-if2 = at-header-number .before .before in
+    let at-if1 = at-if2 .before in
+    let at-enum-told = at-if1 .before in
+    let at-insert-fault = at-enum-told .before .before in
+    let at-shared-slice-known = at-insert-fault .before .before in
+    let at-slice-known = at-shared-slice-known .before .before in
+    let start = at-slice-known .before in
+    insert-done _ _ _ _ _ _ _ (start .pre .0) (lent-below (start .args .file .now) (at-slice-known .slice-known .given))
+    _ (start .pre .1 .0) _ _ (lent-below (start .args .piece .now) (at-shared-slice-known .shared-slice-known .given))
+    (start .pre .1 .1) (fine-of _ (sym (at-insert-fault .insert-fault .ensures) ∙ (at-enum-told .enum-told .given .1)))
+    (at-if1 .if1 .left) (at-if2 .if2 .left) _ _ _ (c .before .before .insert-piece .ensures)
+    (at-header-number .header-number .ensures) (at-push .push .ensures)
 
 pub insert-opened-spec : {M : Type 1} → statement M
 insert-opened-spec =

@@ -1,7 +1,8 @@
+-- No element at the place is 13 (`remove-absent`); one that is found is what `remove_found` asks for.
 use mathlib.Core.Path.{subst}
 use Rattle.words.proofs.Laws.{lent-below}
-use Rattle.steps.specs.Steps.{Open}
-use Rattle.steps.proofs.Steps.{answered}
+use Rattle.opening.specs.Steps.{Open}
+use Rattle.opening.proofs.Steps.{answered}
 use Rattle.moving.proofs.Ways.{remove-absent}
 use borrow.Author.Needs.{needs}
 use Rattle.moving.proofs.remove_opened.Statement.{statement}
@@ -17,10 +18,19 @@ enum-known-found : tie.Need-enum-known-found
 enum-known-found c = search needs
 
 remove-found-requires : tie.Need-remove-found-requires
-remove-found-requires c κs = record { depth = _; opened = subst (Open (c .before .before .before .before .before .before .before .args .dim) (c .before .before .before .before .before .before .before .args .file .now) (c .before .before .before .before .before .before .before .args .used) (c .before .before .before .before .before .before .before .args .journal .now) (c .before .before .before .before .before .before .before .args .jused) (c .before .before .before .before .before .before .before .args .place)) (c .before .before .before .found .given .1) (c .before .before .before .before .before .before .before .pre) }
+remove-found-requires c κs =
+    let at-found = c .before .before .before in
+    let start = at-found .before .before .before .before in
+    record
+    { depth = _; opened = subst (Open (start .args .dim) (start .args .file .now) (start .args .used) (start .args .journal .now) (start .args .jused) (start .args .place)) (at-found .found .given .1) (start .pre) }
 
 returns : tie.Need-returns
-returns c = answered (c .refused .ensures) (remove-absent _ _ _ _ _ _ _ (c .before .before .before .before .before .pre) (lent-below (c .before .before .before .before .before .args .file .now) (c .before .before .before .before .slice-known .given)) _ _ (c .before .enum-told .given .1))
+returns c =
+    let at-slice-known = c .before .before .before .before in
+    let start = at-slice-known .before in
+    answered (c .refused .ensures)
+    (remove-absent _ _ _ _ _ _ _ (start .pre) (lent-below (start .args .file .now) (at-slice-known .slice-known .given))
+    _ _ (c .before .enum-told .given .1))
 
 same-length : tie.Need-same-length
 same-length c = search needs

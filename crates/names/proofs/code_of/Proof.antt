@@ -37,8 +37,10 @@ returns-4 c =
 returns-5 : tie.Need-returns-5
 unfolding codeOf
 returns-5 c =
-    let b = c .before .before .before .before .before .args .letter in
-    let other = c .before .before .before .before .match .rest in
+    let at-match = c .before .before .before .before in
+    let start = at-match .before in
+    let b = start .args .letter in
+    let other = at-match .match .rest in
     simp (ne-eqb b 32 (other .0 .0 .1), inside 65 b 90 (omega arith) (omega arith))
 
 returns-6 : tie.Need-returns-6
@@ -55,9 +57,12 @@ returns-7 c =
 
 returns-8 : tie.Need-returns-8
 returns-8 c =
-    let b = c .before .before .before .before .before .args .letter in
-    let other = c .before .before .before .before .match .rest in
-    sym (code-none b (other .0 .0 .1) (other .0 .1) (other .1) (over 65 b 90 (omega arith)) (over 48 b 57 (omega arith)))
+    let at-match = c .before .before .before .before in
+    let start = at-match .before in
+    let b = start .args .letter in
+    let other = at-match .match .rest in
+    sym
+    (code-none b (other .0 .0 .1) (other .0 .1) (other .1) (over 65 b 90 (omega arith)) (over 48 b 57 (omega arith)))
 
 pub code-of-spec : {M : Type 1} → statement M
 code-of-spec =

@@ -27,14 +27,13 @@ shown-requires-6 c κs = search needs
 
 returns : tie.Need-returns
 returns c =
-    text-answer _ _ _ _ _ _ _ _ _
-    (c .before .before .before .before .before .before .text-length .ensures)
-    (c .before .before .before .before .before .shown .ensures)
-    (c .before .before .before .before .shown2 .ensures)
-    (c .before .before .before .shown3 .ensures)
-    (c .before .before .shown4 .ensures)
-    (c .before .shown5 .ensures)
-    (c .shown6 .ensures)
+    let at-shown3 = c .before .before .before in
+    let at-shown2 = at-shown3 .before in
+    let at-shown = at-shown2 .before in
+    let at-text-length = at-shown .before in
+    text-answer _ _ _ _ _ _ _ _ _ (at-text-length .text-length .ensures) (at-shown .shown .ensures)
+    (at-shown2 .shown2 .ensures) (at-shown3 .shown3 .ensures) (c .before .before .shown4 .ensures)
+    (c .before .shown5 .ensures) (c .shown6 .ensures)
 
 pub text-of-spec : {M : Type 1} → statement M
 text-of-spec =

@@ -20,18 +20,26 @@ returns-2 c =
 
 returns-3 : tie.Need-returns-3
 returns-3 c =
-    by-codes (c .before .before .before .before .before .if1 .left) (c .before .before .before .before .letters .ensures)
+    let at-letters = c .before .before .before .before in
+    let at-if1 = at-letters .before in
+    by-codes (at-if1 .if1 .left) (at-letters .letters .ensures)
     (simp (ne-eqb _ _ (c .before .before .if2 .left), eq-eqb _ _ (c .if3 .taken)))
 
 returns-4 : tie.Need-returns-4
 returns-4 c =
-    by-codes (c .before .before .before .before .before .before .before .if1 .left) (c .before .before .before .before .before .before .letters .ensures)
-    (simp (ne-eqb _ _ (c .before .before .before .before .if2 .left), ne-eqb _ _ (c .before .before .if3 .left), eq-eqb _ _ (c .if4 .taken)))
+    let at-if2 = c .before .before .before .before in
+    let at-letters = at-if2 .before .before in
+    let at-if1 = at-letters .before in
+    by-codes (at-if1 .if1 .left) (at-letters .letters .ensures)
+    (simp (ne-eqb _ _ (at-if2 .if2 .left), ne-eqb _ _ (c .before .before .if3 .left), eq-eqb _ _ (c .if4 .taken)))
 
 returns-5 : tie.Need-returns-5
 returns-5 c =
-    by-codes (c .before .before .before .before .before .before .before .if1 .left) (c .before .before .before .before .before .before .letters .ensures)
-    (simp (ne-eqb _ _ (c .before .before .before .before .if2 .left), ne-eqb _ _ (c .before .before .if3 .left), ne-eqb _ _ (c .if4 .left)))
+    let at-if2 = c .before .before .before .before in
+    let at-letters = at-if2 .before .before in
+    let at-if1 = at-letters .before in
+    by-codes (at-if1 .if1 .left) (at-letters .letters .ensures)
+    (simp (ne-eqb _ _ (at-if2 .if2 .left), ne-eqb _ _ (c .before .before .if3 .left), ne-eqb _ _ (c .if4 .left)))
 
 pub word-ok-spec : {M : Type 1} → statement M
 word-ok-spec =

@@ -26,7 +26,16 @@ ends-in-marker-requires : tie.Need-ends-in-marker-requires
 ends-in-marker-requires c κs = search needs
 
 returns-3 : tie.Need-returns-3
-returns-3 c = rw (sym (c .before .before .before .before .before .used-ok .ensures) ∙ not-false _ (c .before .before .before .before .if1 .left), sym (c .before .before .before .used-ok2 .ensures) ∙ not-false _ (c .before .before .if2 .left)) (c .ends-in-marker .ensures)
+returns-3 c =
+    let at-used-ok2 = c .before .before .before in
+    let at-if1 = at-used-ok2 .before in
+    let at-used-ok = at-if1 .before in
+    rw (
+      sym (at-used-ok .used-ok .ensures) ∙ not-false _ (at-if1 .if1 .left),
+      sym (at-used-ok2 .used-ok2 .ensures) ∙
+          not-false _ (c .before .before .if2 .left),
+    )
+    (c .ends-in-marker .ensures)
 
 pub buffers-ok-spec : {M : Type 1} → statement M
 buffers-ok-spec =

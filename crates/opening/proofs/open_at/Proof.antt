@@ -10,10 +10,19 @@ buffers-ok-requires : tie.Need-buffers-ok-requires
 buffers-ok-requires c κs = search needs
 
 slice-aggregate-open-file : tie.Need-slice-aggregate-open-file
-slice-aggregate-open-file c = sym (length-take-le _ _ (part-true (c .before .before .before .before .args .dim) (c .before .before .before .before .args .file .now) (c .before .before .before .before .args .used) (c .before .before .before .before .args .journal-len) (c .before .before .before .before .args .jused) (sym (c .before .before .buffers-ok .ensures) ∙ (c .before .if1 .taken)) .within))
+slice-aggregate-open-file c =
+    let start = c .before .before .before .before in
+    sym
+    (length-take-le _ _
+    (part-true (start .args .dim) (start .args .file .now) (start .args .used) (start .args .journal-len)
+    (start .args .jused) (sym (c .before .before .buffers-ok .ensures) ∙ (c .before .if1 .taken)) .within))
 
 open-file-requires : tie.Need-open-file-requires
-open-file-requires c κs = let p = part-true (c .before .before .before .before .args .dim) (c .before .before .before .before .args .file .now) (c .before .before .before .before .args .used) (c .before .before .before .before .args .journal-len) (c .before .before .before .before .args .jused) (sym (c .before .before .buffers-ok .ensures) ∙ (c .before .if1 .taken)) in (p .even, (p .two, p .small))
+open-file-requires c κs =
+    let start = c .before .before .before .before in
+    let p = part-true (start .args .dim) (start .args .file .now) (start .args .used) (start .args .journal-len)
+    (start .args .jused) (sym (c .before .before .buffers-ok .ensures) ∙ (c .before .if1 .taken)) in
+    (p .even, (p .two, p .small))
 
 returns : tie.Need-returns
 returns c = λ journal e. open-judged _ _ _ _ _ _ journal e (sym (c .before .before .before .buffers-ok .ensures) ∙ (c .before .before .if1 .taken)) _ (c .open-file .ensures)

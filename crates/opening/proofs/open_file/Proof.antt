@@ -18,13 +18,25 @@ enum-known-marker : tie.Need-enum-known-marker
 enum-known-marker c = search needs
 
 returns : tie.Need-returns
-returns c = opened-ready _ _ (c .before .before .before .before .before .before .pre .0) (c .before .before .before .before .before .before .pre .1 .1) _ _ _ (sym (c .before .before .before .before .placed-at .ensures) ∙ (c .before .before .marker .given .1)) (c .if1 .taken)
+returns c =
+    let at-placed-at = c .before .before .before .before in
+    let start = at-placed-at .before .before in
+    opened-ready _ _ (start .pre .0) (start .pre .1 .1) _ _ _
+    (sym (at-placed-at .placed-at .ensures) ∙ (c .before .before .marker .given .1)) (c .if1 .taken)
 
 returns-2 : tie.Need-returns-2
-returns-2 c = opened-refused _ _ (c .before .before .before .before .before .pre .0) (c .before .before .before .before .before .pre .1 .1) _ _ _ (sym (c .before .before .before .placed-at .ensures) ∙ (c .before .number .given .1))
+returns-2 c =
+    let at-placed-at = c .before .before .before in
+    let start = at-placed-at .before .before in
+    opened-refused _ _ (start .pre .0) (start .pre .1 .1) _ _ _
+    (sym (at-placed-at .placed-at .ensures) ∙ (c .before .number .given .1))
 
 returns-3 : tie.Need-returns-3
-returns-3 c = opened-early _ _ (c .before .before .before .before .before .before .pre .0) (c .before .before .before .before .before .before .pre .1 .1) _ _ _ (sym (c .before .before .before .before .placed-at .ensures) ∙ (c .before .before .marker .given .1)) (c .if1 .left)
+returns-3 c =
+    let at-placed-at = c .before .before .before .before in
+    let start = at-placed-at .before .before in
+    opened-early _ _ (start .pre .0) (start .pre .1 .1) _ _ _
+    (sym (at-placed-at .placed-at .ensures) ∙ (c .before .before .marker .given .1)) (c .if1 .left)
 
 pub open-file-spec : {M : Type 1} → statement M
 open-file-spec =

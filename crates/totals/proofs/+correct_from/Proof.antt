@@ -76,20 +76,27 @@ correct-from-same-length-2 t c = c .before .before .correct-header .kept .0
 
 correct-from-returns-3 : (t : ℕ) → correct-from-lts.Need-returns-3 (calls t) (correct-from-at t) correct-from.Post
 correct-from-returns-3 t c =
-    c .before .before .correct-header .ensures
-    ∙ sym (totals-itself _ _ _ _ _ _ (c .before .before .before .before .before .before .before .before .if1 .left)
-    (sym (c .before .before .before .before .before .before .find-holder .ensures) ∙ c .before .before .before .before .enum-told2 .given .1))
+    let at-enum-told2 = c .before .before .before .before in
+    let at-find-holder = at-enum-told2 .before .before in
+    let at-if1 = at-find-holder .before .before in
+    c .before .before .correct-header .ensures ∙ sym
+    (totals-itself _ _ _ _ _ _ (at-if1 .if1 .left)
+    (sym (at-find-holder .find-holder .ensures) ∙ at-enum-told2 .enum-told2 .given .1))
 
 correct-from-same-length-3 : (t : ℕ) → correct-from-lts.Need-same-length-3 (calls t) (correct-from-at t) correct-from.Post
 correct-from-same-length-3 t c =
-    c .before .before .correct-from .kept .0
-    ∙ c .before .before .before .before .before .before .correct-header2 .kept .0
+    let at-correct-header2 = c .before .before .before .before .before .before in
+    c .before .before .correct-from .kept .0 ∙ at-correct-header2 .correct-header2 .kept .0
 
 correct-from-returns-4 : (t : ℕ) → correct-from-lts.Need-returns-4 (calls t) (correct-from-at t) correct-from.Post
 correct-from-returns-4 t c =
-    (rw (c .before .before .before .before .before .before .correct-header2 .ensures) at (c .before .before .correct-from .ensures))
-    ∙ sym (totals-inside _ _ _ _ _ _ (c .before .before .before .before .before .before .before .before .before .before .before .before .before .if1 .left) _ _
-    (sym (c .before .before .before .before .before .before .before .before .before .before .before .find-holder .ensures) ∙ c .before .before .before .before .before .before .before .before .before .place .given .1))
+    let at-correct-header2 = c .before .before .before .before .before .before in
+    let at-place = at-correct-header2 .before .before .before in
+    let at-find-holder = at-place .before .before in
+    let at-if1 = at-find-holder .before .before in
+    (rw (at-correct-header2 .correct-header2 .ensures) at (c .before .before .correct-from .ensures)) ∙ sym
+    (totals-inside _ _ _ _ _ _ (at-if1 .if1 .left) _ _
+    (sym (at-find-holder .find-holder .ensures) ∙ at-place .place .given .1))
 
 pub +correct-from-spec : {M : Type 1} → statement M
 +correct-from-spec = close μ-correct-from λ t. correct-from-lts.spec (calls t)

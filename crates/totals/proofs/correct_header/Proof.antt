@@ -30,21 +30,26 @@ same-length c = search needs
 
 returns : tie.Need-returns
 returns c =
-    c .before .before .move-word2 .ensures
-    ∙ ap (wordMoved _ 1 _) (c .before .before .before .before .before .before .before .before .move-word .ensures)
-    ∙ sym (put-counted _ _ _ _ _ (c .before .before .before .before .before .if1 .taken)
-    (ap isCounted (sym (c .before .before .before .before .before .before .before .before .before .before .before .type-at .ensures))
-    ∙ sym (c .before .before .before .before .before .before .before .before .before .before .is-counted .ensures) ∙ c .before .before .before .before .if2 .taken))
+    let at-if2 = c .before .before .before .before in
+    let at-if1 = at-if2 .before in
+    let at-move-word = at-if1 .before .before .before in
+    let at-is-counted = at-move-word .before .before in
+    let at-type-at = at-is-counted .before in
+    c .before .before .move-word2 .ensures ∙ ap (wordMoved _ 1 _) (at-move-word .move-word .ensures) ∙ sym
+    (put-counted _ _ _ _ _ (at-if1 .if1 .taken)
+    (ap isCounted (sym (at-type-at .type-at .ensures)) ∙ sym (at-is-counted .is-counted .ensures) ∙ at-if2 .if2 .taken))
 
 same-length-2 : tie.Need-same-length-2
 same-length-2 c = search needs
 
 returns-2 : tie.Need-returns-2
 returns-2 c =
-    c .before .before .before .before .move-word .ensures
-    ∙ sym (put-uncounted _ _ _ _ _ (c .before .if1 .taken)
-    (ap isCounted (sym (c .before .before .before .before .before .before .before .type-at .ensures))
-    ∙ sym (c .before .before .before .before .before .before .is-counted .ensures) ∙ c .if2 .left))
+    let at-move-word = c .before .before .before .before in
+    let at-is-counted = at-move-word .before .before in
+    let at-type-at = at-is-counted .before in
+    at-move-word .move-word .ensures ∙ sym
+    (put-uncounted _ _ _ _ _ (c .before .if1 .taken)
+    (ap isCounted (sym (at-type-at .type-at .ensures)) ∙ sym (at-is-counted .is-counted .ensures) ∙ c .if2 .left))
 
 same-length-3 : tie.Need-same-length-3
 same-length-3 c = search needs

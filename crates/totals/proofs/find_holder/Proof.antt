@@ -33,7 +33,10 @@ add-here : tie.Need-add-here Inv-loop μ-loop
 add-here c = search needs
 
 loop-less : tie.Need-loop-less Inv-loop μ-loop
-loop-less c = omega (arith, words-two (words (c .before .before .before .before .before .args .file .now)) (c .before .before .before .loop .here))
+loop-less c =
+    let at-loop = c .before .before .before in
+    let start = at-loop .before .before in
+    omega (arith, words-two (words (start .args .file .now)) (at-loop .loop .here))
 
 loop-again : tie.Need-loop-again Inv-loop μ-loop
 loop-again c = c .before .before .before .loop .inv ∙ rw (c .before .extent-words .ensures) (holder-past _ _ _ (omega arith))

@@ -26,9 +26,12 @@ same-length c = search needs
 returns : tie.Need-returns
 unfolding wordMoved
 returns c =
-    let a = c .before .before .before .before .before .before .before .before .args in
-    c .before .before .put-word .ensures
-    ∙ ap (putWord (a .file .now) (a .i)) (c .before .before .before .moved-word .ensures ∙ ap (λ w. moved (a .up) (a .n) w % 65536) (c .before .before .before .before .before .word .ensures .is))
+    let at-moved-word = c .before .before .before in
+    let at-word = at-moved-word .before .before in
+    let start = at-word .before .before .before in
+    let a = start .args in
+    c .before .before .put-word .ensures ∙ ap (putWord (a .file .now) (a .i))
+    (at-moved-word .moved-word .ensures ∙ ap (λ w. moved (a .up) (a .n) w % 65536) (at-word .word .ensures .is))
 
 pub move-word-spec : {M : Type 1} → statement M
 move-word-spec =

@@ -40,17 +40,23 @@ has-room-requires c κs = search needs
 
 returns-3 : tie.Need-returns-3 Inv-loop μ-loop
 returns-3 c =
-    sym (c .before .before .before .before .before .before .loop .inv
-    ∙ room-itself _ _ _ _ _ (c .before .before .before .before .before .loop-test .taken)
-    (sym (c .before .before .before .before .find-holder .ensures) ∙ c .before .before .enum-told2 .given .1)
-    ∙ room-fine _ _ _ _ (sym (c .before .has-room .ensures) ∙ c .if2 .taken))
+    let at-find-holder = c .before .before .before .before in
+    let at-loop-test = at-find-holder .before in
+    let at-loop = at-loop-test .before in
+    sym
+    (at-loop .loop .inv ∙ room-itself _ _ _ _ _ (at-loop-test .loop-test .taken)
+    (sym (at-find-holder .find-holder .ensures) ∙ c .before .before .enum-told2 .given .1) ∙ room-fine _ _ _ _
+    (sym (c .before .has-room .ensures) ∙ c .if2 .taken))
 
 returns-4 : tie.Need-returns-4 Inv-loop μ-loop
 returns-4 c =
-    sym (c .before .before .before .before .before .before .loop .inv
-    ∙ room-itself _ _ _ _ _ (c .before .before .before .before .before .loop-test .taken)
-    (sym (c .before .before .before .before .find-holder .ensures) ∙ c .before .before .enum-told2 .given .1)
-    ∙ room-full _ _ _ _ (sym (c .before .has-room .ensures) ∙ c .if2 .left))
+    let at-find-holder = c .before .before .before .before in
+    let at-loop-test = at-find-holder .before in
+    let at-loop = at-loop-test .before in
+    sym
+    (at-loop .loop .inv ∙ room-itself _ _ _ _ _ (at-loop-test .loop-test .taken)
+    (sym (at-find-holder .find-holder .ensures) ∙ c .before .before .enum-told2 .given .1) ∙ room-full _ _ _ _
+    (sym (c .before .has-room .ensures) ∙ c .if2 .left))
 
 enum-known-place : tie.Need-enum-known-place Inv-loop μ-loop
 enum-known-place c = search needs
@@ -68,17 +74,24 @@ loop-less c = search needs
 
 loop-again : tie.Need-loop-again Inv-loop μ-loop
 loop-again c =
-    c .before .before .before .before .before .before .before .loop .inv
-    ∙ room-inside _ _ _ _ _ (c .before .before .before .before .before .before .loop-test .taken) _ _
-    (sym (c .before .before .before .before .before .find-holder .ensures) ∙ c .before .before .before .place .given .1)
-    ∙ room-fine _ _ _ _ (sym (c .before .has-room2 .ensures) ∙ c .if3 .taken)
+    let at-place = c .before .before .before in
+    let at-find-holder = at-place .before .before in
+    let at-loop-test = at-find-holder .before in
+    let at-loop = at-loop-test .before in
+    at-loop .loop .inv ∙ room-inside _ _ _ _ _ (at-loop-test .loop-test .taken) _ _
+    (sym (at-find-holder .find-holder .ensures) ∙ at-place .place .given .1) ∙ room-fine _ _ _ _
+    (sym (c .before .has-room2 .ensures) ∙ c .if3 .taken)
 
 returns-5 : tie.Need-returns-5 Inv-loop μ-loop
 returns-5 c =
-    sym (c .before .before .before .before .before .before .before .loop .inv
-    ∙ room-inside _ _ _ _ _ (c .before .before .before .before .before .before .loop-test .taken) _ _
-    (sym (c .before .before .before .before .before .find-holder .ensures) ∙ c .before .before .before .place .given .1)
-    ∙ room-full _ _ _ _ (sym (c .before .has-room2 .ensures) ∙ c .if3 .left))
+    let at-place = c .before .before .before in
+    let at-find-holder = at-place .before .before in
+    let at-loop-test = at-find-holder .before in
+    let at-loop = at-loop-test .before in
+    sym
+    (at-loop .loop .inv ∙ room-inside _ _ _ _ _ (at-loop-test .loop-test .taken) _ _
+    (sym (at-find-holder .find-holder .ensures) ∙ at-place .place .given .1) ∙ room-full _ _ _ _
+    (sym (c .before .has-room2 .ensures) ∙ c .if3 .left))
 
 returns-6 : tie.Need-returns-6 Inv-loop μ-loop
 returns-6 c = sym (c .before .loop .inv ∙ room-none _ _ _ _ _ (omega arith))

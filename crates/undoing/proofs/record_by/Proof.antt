@@ -1,3 +1,4 @@
+-- A used length inside the journal has its last record read; one beyond it contradicts what the promise supposes.
 use mathlib.Core.Path.{sym}
 use native.Mathlib.Omega.{arith}
 use lib.Seq.{length-take-le}

@@ -1,6 +1,8 @@
+-- The record is read before opening, so that its place is found there; what opening refuses is the call's refusal (`closed`),
+-- what it opens and the record are what `undo_opened` asks for.
 use mathlib.Core.Path.{refl}
-use Rattle.steps.proofs.Opened.{opened-ready, opened-refused, open-by, jused-within}
-use Rattle.steps.proofs.Steps.{closed}
+use Rattle.opening.proofs.OpenSession.{opened-ready, opened-refused, open-by, jused-within}
+use Rattle.opening.proofs.Steps.{closed}
 use borrow.Author.Needs.{needs}
 use Rattle.undoing.proofs.undo.Statement.{statement}
 use Rattle.undoing.proofs.undo.Tie as tie
@@ -21,14 +23,25 @@ enum-known-marker : tie.Need-enum-known-marker
 enum-known-marker c = search needs
 
 undo-opened-requires : tie.Need-undo-opened-requires
-undo-opened-requires c κs = let o = opened-ready (c .before .before .before .before .before .before .before .before .before .before .args .dim) (c .before .before .before .before .before .before .before .before .before .before .args .file .now) (c .before .before .before .before .before .before .before .before .before .before .args .used) (c .before .before .before .before .before .before .before .before .before .before .args .journal .now) (c .before .before .before .before .before .before .before .before .before .before .args .jused) _ _ (c .before .before .before .before .open-at .ensures) _ _ (c .before .before .marker .given .1) in
-    (open-by (c .before .before .before .before .before .before .before .before .before .before .args .dim) (c .before .before .before .before .before .before .before .before .before .before .args .file .now) (c .before .before .before .before .before .before .before .before .before .before .args .used) (c .before .before .before .before .before .before .before .before .before .before .args .journal .now) (c .before .before .before .before .before .before .before .before .before .before .args .jused) (c .before .before .before .before .before .before .place-in .ensures) (o .0), (o .1, (c .before .before .before .before .before .before .before .record-by .ensures) (jused-within (o .0))))
+undo-opened-requires c κs =
+    let at-open-at = c .before .before .before .before in
+    let at-place-in = at-open-at .before .before in
+    let at-record-by = at-place-in .before in
+    let start = at-record-by .before .before .before in
+    let o = opened-ready (start .args .dim) (start .args .file .now) (start .args .used) (start .args .journal .now)
+    (start .args .jused) _ _ (at-open-at .open-at .ensures) _ _ (c .before .before .marker .given .1) in
+    (open-by (start .args .dim) (start .args .file .now) (start .args .used) (start .args .journal .now) (start .args .jused) (at-place-in .place-in .ensures) (o .0), (o .1, (at-record-by .record-by .ensures) (jused-within (o .0))))
 
 same-length : tie.Need-same-length
 same-length c = search needs
 
 returns : tie.Need-returns
-returns c = closed _ _ _ _ _ refl (opened-refused (c .before .before .before .before .before .before .before .before .before .args .dim) (c .before .before .before .before .before .before .before .before .before .args .file .now) (c .before .before .before .before .before .before .before .before .before .args .used) (c .before .before .before .before .before .before .before .before .before .args .journal .now) (c .before .before .before .before .before .before .before .before .before .args .jused) _ _ (c .before .before .before .open-at .ensures) _ _ (c .before .number .given .1))
+returns c =
+    let at-open-at = c .before .before .before in
+    let start = at-open-at .before .before .before .before .before .before in
+    closed _ _ _ _ _ refl
+    (opened-refused (start .args .dim) (start .args .file .now) (start .args .used) (start .args .journal .now)
+    (start .args .jused) _ _ (at-open-at .open-at .ensures) _ _ (c .before .number .given .1))
 
 same-length-2 : tie.Need-same-length-2
 same-length-2 c = search needs

@@ -1,3 +1,5 @@
+-- Two ways to 19, nothing at the place or an element under another header; else the extent, which lies in the used file
+-- (`in-inside`), goes out (Reversals).
 use native.Mathlib.Omega.{arith}
 use borrow.Author.Tests.{not-true, not-false}
 use Rattle.words.proofs.Laws.{lent-below}
@@ -26,28 +28,76 @@ refused-requires-2 : tie.Need-refused-requires-2
 refused-requires-2 c κs = search needs
 
 returns : tie.Need-returns
-returns c = answered-back (c .refused2 .ensures) (in-refused _ _ _ _ _ (c .before .before .before .before .before .before .before .before .pre) (lent-below (c .before .before .before .before .before .before .before .before .args .file .now) (c .before .before .before .before .before .before .before .slice-known .given)) _ (c .before .before .before .before .before .before .before .before .args .header) _ _ _ _ (c .before .before .before .before .before .found .given .1) (c .before .before .before .header-at .ensures) _ (c .before .before .same-above .ensures) (not-true _ (c .before .if1 .taken)))
+returns c =
+    let at-header-at = c .before .before .before in
+    let at-found = at-header-at .before .before in
+    let at-slice-known = at-found .before .before in
+    let start = at-slice-known .before in
+    answered-back (c .refused2 .ensures)
+    (in-refused _ _ _ _ _ (start .pre) (lent-below (start .args .file .now) (at-slice-known .slice-known .given)) _
+    (start .args .header) _ _ _ _ (at-found .found .given .1) (at-header-at .header-at .ensures) _
+    (c .before .before .same-above .ensures) (not-true _ (c .before .if1 .taken)))
 
 sub-n : tie.Need-sub-n
-sub-n c = omega (arith, in-inside _ _ _ _ _ (c .before .before .before .before .before .before .before .pre) (lent-below (c .before .before .before .before .before .before .before .args .file .now) (c .before .before .before .before .before .before .slice-known .given)) (c .before .before .before .before .before .before .before .args .before) _ _ _ ((c .before .before .before .before .found .given .1)) .0)
+sub-n c =
+    let at-found = c .before .before .before .before in
+    let at-slice-known = at-found .before .before in
+    let start = at-slice-known .before in
+    omega (
+      arith,
+      in-inside _ _ _ _ _ (start .pre) (lent-below (start .args .file .now) (at-slice-known .slice-known .given))
+          (start .args .before) _ _ _ (at-found .found .given .1) .0,
+    )
 
 remove-extent-requires : tie.Need-remove-extent-requires
 remove-extent-requires c κs = search needs
 
 mul-t18 : tie.Need-mul-t18
-mul-t18 c = omega (arith, in-inside _ _ _ _ _ (c .before .before .before .before .before .before .before .before .before .before .before .pre) (lent-below (c .before .before .before .before .before .before .before .before .before .before .before .args .file .now) (c .before .before .before .before .before .before .before .before .before .before .slice-known .given)) (c .before .before .before .before .before .before .before .before .before .before .before .args .before) _ _ _ ((c .before .before .before .before .before .before .before .before .found .given .1)) .1, (c .before .before .before .before .before .before .before .before .before .before .before .fits .used .fits))
+mul-t18 c =
+    let at-found = c .before .before .before .before .before .before .before .before in
+    let at-slice-known = at-found .before .before in
+    let at-fits = at-slice-known .before in
+    omega (
+      arith,
+      in-inside _ _ _ _ _ (at-fits .pre)
+          (lent-below (at-fits .args .file .now) (at-slice-known .slice-known .given)) (at-fits .args .before) _ _ _
+          (at-found .found .given .1) .1,
+      (at-fits .fits .used .fits),
+    )
 
 sub-t19 : tie.Need-sub-t19
-sub-t19 c = omega (arith, in-inside _ _ _ _ _ (c .before .before .before .before .before .before .before .before .before .before .before .pre) (lent-below (c .before .before .before .before .before .before .before .before .before .before .before .args .file .now) (c .before .before .before .before .before .before .before .before .before .before .slice-known .given)) (c .before .before .before .before .before .before .before .before .before .before .before .args .before) _ _ _ ((c .before .before .before .before .before .before .before .before .found .given .1)) .1)
+sub-t19 c =
+    let at-found = c .before .before .before .before .before .before .before .before in
+    let at-slice-known = at-found .before .before in
+    let start = at-slice-known .before in
+    omega (
+      arith,
+      in-inside _ _ _ _ _ (start .pre) (lent-below (start .args .file .now) (at-slice-known .slice-known .given))
+          (start .args .before) _ _ _ (at-found .found .given .1) .1,
+    )
 
 returns-2 : tie.Need-returns-2
-returns-2 c = answered-back (c .refused .ensures) (in-absent _ _ _ _ _ (c .before .before .before .before .pre) (lent-below (c .before .before .before .before .args .file .now) (c .before .before .before .slice-known .given)) _ (c .before .before .before .before .args .header) _ _ (c .before .enum-told .given .1))
+returns-2 c =
+    let at-slice-known = c .before .before .before in
+    let start = at-slice-known .before in
+    answered-back (c .refused .ensures)
+    (in-absent _ _ _ _ _ (start .pre) (lent-below (start .args .file .now) (at-slice-known .slice-known .given)) _
+    (start .args .header) _ _ (c .before .enum-told .given .1))
 
 same-length : tie.Need-same-length
 same-length c = search needs
 
 returns-3 : tie.Need-returns-3
-returns-3 c = in-done _ _ _ _ _ (c .before .before .before .before .before .before .before .before .before .before .before .pre) (lent-below (c .before .before .before .before .before .before .before .before .before .before .before .args .file .now) (c .before .before .before .before .before .before .before .before .before .before .slice-known .given)) _ (c .before .before .before .before .before .before .before .before .before .before .before .args .header) _ _ _ _ (c .before .before .before .before .before .before .before .before .found .given .1) (c .before .before .before .before .before .before .header-at .ensures) _ (c .before .before .before .before .before .same-above .ensures) (not-false _ (c .before .before .before .before .if1 .left)) _ (c .before .before .remove-extent .ensures)
+returns-3 c =
+    let at-if1 = c .before .before .before .before in
+    let at-same-above = at-if1 .before in
+    let at-header-at = at-same-above .before in
+    let at-found = at-header-at .before .before in
+    let at-slice-known = at-found .before .before in
+    let start = at-slice-known .before in
+    in-done _ _ _ _ _ (start .pre) (lent-below (start .args .file .now) (at-slice-known .slice-known .given)) _
+    (start .args .header) _ _ _ _ (at-found .found .given .1) (at-header-at .header-at .ensures) _
+    (at-same-above .same-above .ensures) (not-false _ (at-if1 .if1 .left)) _ (c .before .before .remove-extent .ensures)
 
 pub undo-inserted-spec : {M : Type 1} → statement M
 undo-inserted-spec =

@@ -1,9 +1,11 @@
+-- An empty journal is 17 and a bad record 19; any other is the reversal of its kind, with the bounds that the record's words
+-- have (Reversals, the laws `read-`).
 use mathlib.Core.Path.{ap}
 use native.Mathlib.Omega.{arith}
 use Rattle.undoing.specs.Undoing.{placeIn}
 use Rattle.undoing.proofs.Ways.{open-file}
-use Rattle.steps.proofs.Opened.{journal-most}
-use Rattle.steps.proofs.Steps.{answered}
+use Rattle.opening.proofs.OpenSession.{journal-most}
+use Rattle.opening.proofs.Steps.{answered}
 use Rattle.undoing.proofs.Ways.{undo-nothing}
 use Rattle.undoing.proofs.Reversals.{read-bad, read-flag, read-name, read-renamed, read-inserted, read-within, read-even, read-removed}
 use borrow.Author.Needs.{needs}
@@ -26,34 +28,65 @@ enum-known-last : tie.Need-enum-known-last
 enum-known-last c = search needs
 
 undo-flag-requires : tie.Need-undo-flag-requires
-undo-flag-requires c κs = (open-file (c .before .before .before .before .before .before .before .args .dim) (c .before .before .before .before .before .before .before .args .file .now) (c .before .before .before .before .before .before .before .args .used) (c .before .before .before .before .before .before .before .args .journal .now) (c .before .before .before .before .before .before .before .args .jused) _ _ _ (ap placeIn (c .before .before .last .given .1)) (c .before .before .before .before .before .before .before .pre .0), (c .before .before .before .before .before .before .before .pre .1 .0))
+undo-flag-requires c κs =
+    let start = c .before .before .before .before .before .before .before in
+    (open-file (start .args .dim) (start .args .file .now) (start .args .used) (start .args .journal .now) (start .args .jused) _ _ _ (ap placeIn (c .before .before .last .given .1)) (start .pre .0), (start .pre .1 .0))
 
 enum-known-last-2 : tie.Need-enum-known-last-2
 enum-known-last-2 c = search needs
 
 cast-undo-renamed : tie.Need-cast-undo-renamed
-cast-undo-renamed c = record { fits = read-name _ _ _ _ _ (c .before .before .before .before .before .before .before .pre .0 .ready) (c .before .before .before .before .if1 .left) _ (c .before .before .before .before .before .before .before .pre .1 .1) _ _ _ _ ((c .before .before .last2 .given .1)) .0 }
+cast-undo-renamed c =
+    let at-if1 = c .before .before .before .before in
+    let start = at-if1 .before .before .before in
+    record
+    { fits = read-name _ _ _ _ _ (start .pre .0 .ready) (at-if1 .if1 .left) _ (start .pre .1 .1) _ _ _ _ (c .before .before .last2 .given .1) .0 }
 
 cast-undo-renamed-2 : tie.Need-cast-undo-renamed-2
-cast-undo-renamed-2 c = record { fits = read-name _ _ _ _ _ (c .before .before .before .before .before .before .before .pre .0 .ready) (c .before .before .before .before .if1 .left) _ (c .before .before .before .before .before .before .before .pre .1 .1) _ _ _ _ ((c .before .before .last2 .given .1)) .1 }
+cast-undo-renamed-2 c =
+    let at-if1 = c .before .before .before .before in
+    let start = at-if1 .before .before .before in
+    record
+    { fits = read-name _ _ _ _ _ (start .pre .0 .ready) (at-if1 .if1 .left) _ (start .pre .1 .1) _ _ _ _ (c .before .before .last2 .given .1) .1 }
 
 undo-renamed-requires : tie.Need-undo-renamed-requires
-undo-renamed-requires c κs = (open-file (c .before .before .before .before .before .before .before .args .dim) (c .before .before .before .before .before .before .before .args .file .now) (c .before .before .before .before .before .before .before .args .used) (c .before .before .before .before .before .before .before .args .journal .now) (c .before .before .before .before .before .before .before .args .jused) _ _ _ (ap placeIn (c .before .before .last2 .given .1)) (c .before .before .before .before .before .before .before .pre .0), (c .before .before .before .before .before .before .before .pre .1 .0))
+undo-renamed-requires c κs =
+    let start = c .before .before .before .before .before .before .before in
+    (open-file (start .args .dim) (start .args .file .now) (start .args .used) (start .args .journal .now) (start .args .jused) _ _ _ (ap placeIn (c .before .before .last2 .given .1)) (start .pre .0), (start .pre .1 .0))
 
 enum-known-last-3 : tie.Need-enum-known-last-3
 enum-known-last-3 c = search needs
 
 undo-inserted-requires : tie.Need-undo-inserted-requires
-undo-inserted-requires c κs = open-file (c .before .before .before .before .before .before .before .args .dim) (c .before .before .before .before .before .before .before .args .file .now) (c .before .before .before .before .before .before .before .args .used) (c .before .before .before .before .before .before .before .args .journal .now) (c .before .before .before .before .before .before .before .args .jused) _ _ _ (ap placeIn (c .before .before .last3 .given .1)) (c .before .before .before .before .before .before .before .pre .0)
+undo-inserted-requires c κs =
+    let start = c .before .before .before .before .before .before .before in
+    open-file (start .args .dim) (start .args .file .now) (start .args .used) (start .args .journal .now)
+    (start .args .jused) _ _ _ (ap placeIn (c .before .before .last3 .given .1)) (start .pre .0)
 
 enum-known-last-4 : tie.Need-enum-known-last-4
 enum-known-last-4 c = search needs
 
 mul-undo-removed : tie.Need-mul-undo-removed
-mul-undo-removed c = omega (arith, read-within _ _ _ _ _ (c .before .before .before .before .before .before .before .pre .0 .ready) (c .before .before .before .before .if1 .left) _ (c .before .before .before .before .before .before .before .pre .1 .1) _ _ _ _ (c .before .before .last4 .given .1), journal-most (c .before .before .before .before .before .before .before .pre .0))
+mul-undo-removed c =
+    let at-if1 = c .before .before .before .before in
+    let start = at-if1 .before .before .before in
+    omega (
+      arith,
+      read-within _ _ _ _ _ (start .pre .0 .ready) (at-if1 .if1 .left) _ (start .pre .1 .1) _ _ _ _
+          (c .before .before .last4 .given .1),
+      journal-most (start .pre .0),
+    )
 
 add-undo-removed : tie.Need-add-undo-removed
-add-undo-removed c = omega (arith, read-within _ _ _ _ _ (c .before .before .before .before .before .before .before .pre .0 .ready) (c .before .before .before .before .if1 .left) _ (c .before .before .before .before .before .before .before .pre .1 .1) _ _ _ _ (c .before .before .last4 .given .1), journal-most (c .before .before .before .before .before .before .before .pre .0))
+add-undo-removed c =
+    let at-if1 = c .before .before .before .before in
+    let start = at-if1 .before .before .before in
+    omega (
+      arith,
+      read-within _ _ _ _ _ (start .pre .0 .ready) (at-if1 .if1 .left) _ (start .pre .1 .1) _ _ _ _
+          (c .before .before .last4 .given .1),
+      journal-most (start .pre .0),
+    )
 
 sub-undo-removed : tie.Need-sub-undo-removed
 sub-undo-removed c = search needs
@@ -62,37 +95,71 @@ part-undo-removed-start : tie.Need-part-undo-removed-start
 part-undo-removed-start c = search needs
 
 part-undo-removed-end : tie.Need-part-undo-removed-end
-part-undo-removed-end c = read-within _ _ _ _ _ (c .before .before .before .before .before .before .before .pre .0 .ready) (c .before .before .before .before .if1 .left) _ (c .before .before .before .before .before .before .before .pre .1 .1) _ _ _ _ (c .before .before .last4 .given .1)
+part-undo-removed-end c =
+    let at-if1 = c .before .before .before .before in
+    let start = at-if1 .before .before .before in
+    read-within _ _ _ _ _ (start .pre .0 .ready) (at-if1 .if1 .left) _ (start .pre .1 .1) _ _ _ _
+    (c .before .before .last4 .given .1)
 
 undo-removed-requires : tie.Need-undo-removed-requires
-undo-removed-requires c κs = (open-file (c .before .before .before .before .before .before .before .before .args .dim) (c .before .before .before .before .before .before .before .before .args .file .now) (c .before .before .before .before .before .before .before .before .args .used) (c .before .before .before .before .before .before .before .before .args .journal .now) (c .before .before .before .before .before .before .before .before .args .jused) _ _ _ (ap placeIn (c .before .before .before .last4 .given .1)) (c .before .before .before .before .before .before .before .before .pre .0), ((c .before .before .before .before .before .before .before .before .pre .1 .0), read-even _ _ _ _ _ (c .before .before .before .before .before .before .before .before .pre .0 .ready) (c .before .before .before .before .before .if1 .left) _ (c .before .before .before .before .before .before .before .before .pre .1 .1) _ _ _ _ (c .before .before .before .last4 .given .1)))
+undo-removed-requires c κs =
+    let at-last4 = c .before .before .before in
+    let at-if1 = at-last4 .before .before in
+    let start = at-if1 .before .before .before in (
+      open-file (start .args .dim) (start .args .file .now) (start .args .used) (start .args .journal .now) (start .args .jused) _ _ _ (ap placeIn (at-last4 .last4 .given .1)) (start .pre .0),
+      (start .pre .1 .0, read-even _ _ _ _ _ (start .pre .0 .ready) (at-if1 .if1 .left) _ (start .pre .1 .1) _ _ _ _ (at-last4 .last4 .given .1)),
+    )
 
 returns-2 : tie.Need-returns-2
-returns-2 c = answered (c .refused2 .ensures) (read-bad _ _ _ _ _ (c .before .before .before .before .before .before .pre .0 .ready) (c .before .before .before .if1 .left) _ (c .before .before .before .before .before .before .pre .1 .1) (c .before .enum-told .given .1))
+returns-2 c =
+    let at-if1 = c .before .before .before in
+    let start = at-if1 .before .before .before in
+    answered (c .refused2 .ensures)
+    (read-bad _ _ _ _ _ (start .pre .0 .ready) (at-if1 .if1 .left) _ (start .pre .1 .1) (c .before .enum-told .given .1))
 
 same-length : tie.Need-same-length
 same-length c = search needs
 
 returns-3 : tie.Need-returns-3
-returns-3 c = read-flag _ _ _ _ _ (c .before .before .before .before .before .before .before .before .before .before .pre .0 .ready) (c .before .before .before .before .before .before .before .if1 .left) _ (c .before .before .before .before .before .before .before .before .before .before .pre .1 .1) _ _ (c .before .before .before .before .before .last .given .1) _ _ (c .before .before .undo-flag .ensures)
+returns-3 c =
+    let at-last = c .before .before .before .before .before in
+    let at-if1 = at-last .before .before in
+    let start = at-if1 .before .before .before in
+    read-flag _ _ _ _ _ (start .pre .0 .ready) (at-if1 .if1 .left) _ (start .pre .1 .1) _ _ (at-last .last .given .1) _
+    _ (c .before .before .undo-flag .ensures)
 
 same-length-2 : tie.Need-same-length-2
 same-length-2 c = search needs
 
 returns-4 : tie.Need-returns-4
-returns-4 c = read-renamed _ _ _ _ _ (c .before .before .before .before .before .before .before .before .before .before .pre .0 .ready) (c .before .before .before .before .before .before .before .if1 .left) _ (c .before .before .before .before .before .before .before .before .before .before .pre .1 .1) _ _ _ _ (c .before .before .before .before .before .last2 .given .1) _ _ (c .before .before .undo-renamed .ensures)
+returns-4 c =
+    let at-last2 = c .before .before .before .before .before in
+    let at-if1 = at-last2 .before .before in
+    let start = at-if1 .before .before .before in
+    read-renamed _ _ _ _ _ (start .pre .0 .ready) (at-if1 .if1 .left) _ (start .pre .1 .1) _ _ _ _
+    (at-last2 .last2 .given .1) _ _ (c .before .before .undo-renamed .ensures)
 
 same-length-3 : tie.Need-same-length-3
 same-length-3 c = search needs
 
 returns-5 : tie.Need-returns-5
-returns-5 c = read-inserted _ _ _ _ _ (c .before .before .before .before .before .before .before .before .before .before .pre .0 .ready) (c .before .before .before .before .before .before .before .if1 .left) _ (c .before .before .before .before .before .before .before .before .before .before .pre .1 .1) _ _ _ (c .before .before .before .before .before .last3 .given .1) _ _ (c .before .before .undo-inserted .ensures)
+returns-5 c =
+    let at-last3 = c .before .before .before .before .before in
+    let at-if1 = at-last3 .before .before in
+    let start = at-if1 .before .before .before in
+    read-inserted _ _ _ _ _ (start .pre .0 .ready) (at-if1 .if1 .left) _ (start .pre .1 .1) _ _ _
+    (at-last3 .last3 .given .1) _ _ (c .before .before .undo-inserted .ensures)
 
 same-length-4 : tie.Need-same-length-4
 same-length-4 c = search needs
 
 returns-6 : tie.Need-returns-6
-returns-6 c = read-removed _ _ _ _ _ (c .before .before .before .before .before .before .before .before .before .before .before .pre .0 .ready) (c .before .before .before .before .before .before .before .before .if1 .left) _ (c .before .before .before .before .before .before .before .before .before .before .before .pre .1 .1) _ _ _ _ (c .before .before .before .before .before .before .last4 .given .1) _ _ (c .before .before .undo-removed .ensures)
+returns-6 c =
+    let at-last4 = c .before .before .before .before .before .before in
+    let at-if1 = at-last4 .before .before in
+    let start = at-if1 .before .before .before in
+    read-removed _ _ _ _ _ (start .pre .0 .ready) (at-if1 .if1 .left) _ (start .pre .1 .1) _ _ _ _
+    (at-last4 .last4 .given .1) _ _ (c .before .before .undo-removed .ensures)
 
 pub undo-opened-spec : {M : Type 1} → statement M
 undo-opened-spec =

@@ -1,3 +1,5 @@
+-- Three ways out, each a law of Reversals: an insert that is not allowed is 19, a file buffer without room for the removed
+-- words is 15, else they go in again.
 use mathlib.Core.Path.{sym, _∙_}
 use lib.Seq.{length-take-le}
 use borrow.Author.Tests.{not-true, not-false}
@@ -27,7 +29,15 @@ same-length : tie.Need-same-length
 same-length c = search needs
 
 returns : tie.Need-returns
-returns c = answered-back ((c .refused .ensures)) (out-refused _ _ _ _ _ ((c .before .before .before .before .before .before .before .pre .0)) (lent-below ((c .before .before .before .before .before .before .before .args .file .now)) ((c .before .before .before .before .before .before .slice-known .given))) _ _ ((c .before .before .before .before .before .before .before .pre .1 .0)) ((c .before .before .before .before .before .before .before .args .header)) ((c .before .before .before .before .before .before .before .args .piece .now)) ((c .before .before .before .before .before .before .before .pre .1 .1)) _ ((c .before .before .before .before .header-at .ensures)) (sym ((c .before .before .reversible .ensures)) ∙ not-true _ ((c .before .if1 .taken))))
+returns c =
+    let at-header-at = c .before .before .before .before in
+    let at-slice-known = at-header-at .before .before in
+    let start = at-slice-known .before in
+    answered-back (c .refused .ensures)
+    (out-refused _ _ _ _ _ (start .pre .0) (lent-below (start .args .file .now) (at-slice-known .slice-known .given)) _ _
+    (start .pre .1 .0) (start .args .header) (start .args .piece .now) (start .pre .1 .1) _
+    (at-header-at .header-at .ensures)
+    (sym (c .before .before .reversible .ensures) ∙ not-true _ (c .before .if1 .taken)))
 
 sub-if2 : tie.Need-sub-if2
 sub-if2 c = search needs
@@ -39,7 +49,16 @@ same-length-2 : tie.Need-same-length-2
 same-length-2 c = search needs
 
 returns-2 : tie.Need-returns-2
-returns-2 c = answered-back ((c .refused2 .ensures)) (out-room _ _ _ _ _ ((c .before .before .before .before .before .before .before .before .pre .0)) (lent-below ((c .before .before .before .before .before .before .before .before .args .file .now)) ((c .before .before .before .before .before .before .before .slice-known .given))) _ _ ((c .before .before .before .before .before .before .before .before .pre .1 .0)) ((c .before .before .before .before .before .before .before .before .args .header)) ((c .before .before .before .before .before .before .before .before .args .piece .now)) ((c .before .before .before .before .before .before .before .before .pre .1 .1)) _ ((c .before .before .before .before .before .header-at .ensures)) (sym ((c .before .before .before .reversible .ensures)) ∙ not-false _ ((c .before .before .if1 .left))) ((c .before .if2 .taken)))
+returns-2 c =
+    let at-reversible = c .before .before .before in
+    let at-header-at = at-reversible .before .before in
+    let at-slice-known = at-header-at .before .before in
+    let start = at-slice-known .before in
+    answered-back (c .refused2 .ensures)
+    (out-room _ _ _ _ _ (start .pre .0) (lent-below (start .args .file .now) (at-slice-known .slice-known .given)) _ _
+    (start .pre .1 .0) (start .args .header) (start .args .piece .now) (start .pre .1 .1) _
+    (at-header-at .header-at .ensures)
+    (sym (at-reversible .reversible .ensures) ∙ not-false _ (c .before .before .if1 .left)) (c .before .if2 .taken))
 
 insert-piece-requires : tie.Need-insert-piece-requires
 insert-piece-requires c κs = search needs
@@ -51,7 +70,17 @@ same-length-3 : tie.Need-same-length-3
 same-length-3 c = search needs
 
 returns-3 : tie.Need-returns-3
-returns-3 c = out-done _ _ _ _ _ ((c .before .before .before .before .before .before .before .before .before .before .before .pre .0)) (lent-below ((c .before .before .before .before .before .before .before .before .before .before .before .args .file .now)) ((c .before .before .before .before .before .before .before .before .before .before .slice-known .given))) _ _ ((c .before .before .before .before .before .before .before .before .before .before .before .pre .1 .0)) ((c .before .before .before .before .before .before .before .before .before .before .before .args .header)) ((c .before .before .before .before .before .before .before .before .before .before .before .args .piece .now)) ((c .before .before .before .before .before .before .before .before .before .before .before .pre .1 .1)) _ ((c .before .before .before .before .before .before .before .before .header-at .ensures)) (sym ((c .before .before .before .before .before .before .reversible .ensures)) ∙ not-false _ ((c .before .before .before .before .before .if1 .left))) ((c .before .before .before .before .if2 .left)) _ ((c .before .before .insert-piece .ensures))
+returns-3 c =
+    let at-if2 = c .before .before .before .before in
+    let at-if1 = at-if2 .before in
+    let at-reversible = at-if1 .before in
+    let at-header-at = at-reversible .before .before in
+    let at-slice-known = at-header-at .before .before in
+    let start = at-slice-known .before in
+    out-done _ _ _ _ _ (start .pre .0) (lent-below (start .args .file .now) (at-slice-known .slice-known .given)) _ _
+    (start .pre .1 .0) (start .args .header) (start .args .piece .now) (start .pre .1 .1) _
+    (at-header-at .header-at .ensures) (sym (at-reversible .reversible .ensures) ∙ not-false _ (at-if1 .if1 .left))
+    (at-if2 .if2 .left) _ (c .before .before .insert-piece .ensures)
 
 pub undo-removed-spec : {M : Type 1} → statement M
 undo-removed-spec =

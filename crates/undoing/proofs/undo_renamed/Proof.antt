@@ -1,3 +1,4 @@
+-- Two ways out, each a law of Reversals: a rename that is not allowed is 19, else the two old words are stored again.
 use mathlib.Core.Path.{sym, _∙_}
 use lib.Seq.{length-take-le}
 use borrow.Author.Tests.{not-true, not-false}
@@ -30,13 +31,23 @@ same-length : tie.Need-same-length
 same-length c = search needs
 
 returns : tie.Need-returns
-returns c = answered-back ((c .refused .ensures)) (name-refused _ _ _ _ _ ((c .before .before .before .before .before .before .before .pre .0)) (lent-below ((c .before .before .before .before .before .before .before .args .file .now)) ((c .before .before .before .before .before .before .slice-known .given))) _ _ ((c .before .before .before .before .before .before .before .pre .1)) _ _ ((c .before .before .before .before .before .before .before .fits .first .fits)) ((c .before .before .before .before .before .before .before .fits .second .fits)) _ ((c .before .before .before .before .before .name-bytes .ensures)) (sym ((c .before .before .reversible .ensures)) ∙ not-true _ ((c .before .if1 .taken))))
+returns c =
+    let at-name-bytes = c .before .before .before .before .before in
+    let at-slice-known = at-name-bytes .before in
+    let at-fits = at-slice-known .before in
+    answered-back (c .refused .ensures)
+    (name-refused _ _ _ _ _ (at-fits .pre .0)
+    (lent-below (at-fits .args .file .now) (at-slice-known .slice-known .given)) _ _ (at-fits .pre .1) _ _
+    (at-fits .fits .first .fits) (at-fits .fits .second .fits) _ (at-name-bytes .name-bytes .ensures)
+    (sym (c .before .before .reversible .ensures) ∙ not-true _ (c .before .if1 .taken)))
 
 slice-relend-prefix-rename-cell : tie.Need-slice-relend-prefix-rename-cell
 slice-relend-prefix-rename-cell c = search needs
 
 slice-aggregate-rename-cell : tie.Need-slice-aggregate-rename-cell
-slice-aggregate-rename-cell c = sym (length-take-le _ _ ((c .before .before .before .before .before .before .before .pre .0 .within)))
+slice-aggregate-rename-cell c =
+    let start = c .before .before .before .before .before .before .before in
+    sym (length-take-le _ _ (start .pre .0 .within))
 
 rename-cell-requires : tie.Need-rename-cell-requires
 rename-cell-requires c κs = search needs
@@ -45,7 +56,16 @@ same-length-2 : tie.Need-same-length-2
 same-length-2 c = search needs
 
 returns-2 : tie.Need-returns-2
-returns-2 c = name-done _ _ _ _ _ ((c .before .before .before .before .before .before .before .before .before .before .pre .0)) (lent-below ((c .before .before .before .before .before .before .before .before .before .before .args .file .now)) ((c .before .before .before .before .before .before .before .before .before .slice-known .given))) _ _ ((c .before .before .before .before .before .before .before .before .before .before .pre .1)) _ _ ((c .before .before .before .before .before .before .before .before .before .before .fits .first .fits)) ((c .before .before .before .before .before .before .before .before .before .before .fits .second .fits)) _ ((c .before .before .before .before .before .before .before .before .name-bytes .ensures)) (sym ((c .before .before .before .before .before .reversible .ensures)) ∙ not-false _ ((c .before .before .before .before .if1 .left))) _ ((c .before .before .rename-cell .ensures))
+returns-2 c =
+    let at-if1 = c .before .before .before .before in
+    let at-reversible = at-if1 .before in
+    let at-name-bytes = at-reversible .before .before .before in
+    let at-slice-known = at-name-bytes .before in
+    let at-fits = at-slice-known .before in
+    name-done _ _ _ _ _ (at-fits .pre .0) (lent-below (at-fits .args .file .now) (at-slice-known .slice-known .given)) _
+    _ (at-fits .pre .1) _ _ (at-fits .fits .first .fits) (at-fits .fits .second .fits) _
+    (at-name-bytes .name-bytes .ensures) (sym (at-reversible .reversible .ensures) ∙ not-false _ (at-if1 .if1 .left)) _
+    (c .before .before .rename-cell .ensures)
 
 pub undo-renamed-spec : {M : Type 1} → statement M
 undo-renamed-spec =

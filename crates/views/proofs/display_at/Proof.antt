@@ -38,7 +38,19 @@ word-requires-4 c κs = search needs
 
 returns : tie.Need-returns
 unfolding displayOf
-returns c = rw ((c .before .before .before .word .ensures .is), (c .before .before .word2 .ensures .is), (c .before .word3 .ensures .is), (c .word4 .ensures .is), ap isLinked (sym (c .before .before .before .before .before .before .type-at .ensures)) ∙ sym (c .before .before .before .before .before .is-linked .ensures) ∙ (c .before .before .before .before .if1 .taken))
+returns c =
+    let at-word = c .before .before .before in
+    let at-if1 = at-word .before in
+    let at-is-linked = at-if1 .before in
+    let at-type-at = at-is-linked .before in
+    rw (
+      (at-word .word .ensures .is),
+      (c .before .before .word2 .ensures .is),
+      (c .before .word3 .ensures .is),
+      (c .word4 .ensures .is),
+      ap isLinked (sym (at-type-at .type-at .ensures)) ∙ sym (at-is-linked .is-linked .ensures) ∙
+          (at-if1 .if1 .taken),
+    )
 
 returns-2 : tie.Need-returns-2
 unfolding displayOf

@@ -54,7 +54,34 @@ number-if-requires-3 c κs = search needs
 
 returns : tie.Need-returns
 unfolding elementView
-returns c = rw ((c .before .before .before .before .before .before .before .before .before .before .before .before .before .word .ensures .is), (c .before .before .before .before .before .before .before .before .before .before .size-at .ensures), (c .before .before .before .before .before .before .before .before .before .range-at .ensures), (c .before .before .before .before .before .before .before .before .display-at .ensures), (c .before .before .before .before .before .name-at .ensures), (c .before .before .before .before .before .before .number-if .ensures), (c .before .before .before .number-if2 .ensures), (c .number-if3 .ensures), (c .before .before .before .before .before .before .before .is-pointed .ensures), (c .before .before .before .before .is-header .ensures), (c .before .before .is-counted .ensures), (c .before .before .before .before .before .before .before .before .before .before .before .word2 .ensures .is), (c .before .word3 .ensures .is), (c .before .before .before .before .before .before .before .before .before .before .before .before .type-at .ensures))
+returns c =
+    let at-number-if2 = c .before .before .before in
+    let at-is-header = at-number-if2 .before in
+    let at-name-at = at-is-header .before in
+    let at-number-if = at-name-at .before in
+    let at-is-pointed = at-number-if .before in
+    let at-display-at = at-is-pointed .before in
+    let at-range-at = at-display-at .before in
+    let at-size-at = at-range-at .before in
+    let at-word2 = at-size-at .before in
+    let at-type-at = at-word2 .before in
+    let at-word = at-type-at .before in
+    rw (
+      (at-word .word .ensures .is),
+      (at-size-at .size-at .ensures),
+      (at-range-at .range-at .ensures),
+      (at-display-at .display-at .ensures),
+      (at-name-at .name-at .ensures),
+      (at-number-if .number-if .ensures),
+      (at-number-if2 .number-if2 .ensures),
+      (c .number-if3 .ensures),
+      (at-is-pointed .is-pointed .ensures),
+      (at-is-header .is-header .ensures),
+      (c .before .before .is-counted .ensures),
+      (at-word2 .word2 .ensures .is),
+      (c .before .word3 .ensures .is),
+      (at-type-at .type-at .ensures),
+    )
 
 pub element-at-spec : {M : Type 1} → statement M
 element-at-spec =

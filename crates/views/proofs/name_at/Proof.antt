@@ -26,9 +26,17 @@ word-requires-2 c κs = search needs
 returns : tie.Need-returns
 unfolding nameWords
 returns c =
-    let at = c .before .before .before .before .before .args .at in
+    let at-type-at = c .before .before .before in
+    let start = at-type-at .before .before in
+    let at = start .args .at in
     let e : at + 16 + 1 ≡ at + 17 = omega arith in
-    rw ((c .before .word .ensures .is), (c .word2 .ensures .is), ← e, eq-eqb _ 1 (sym (c .before .before .before .type-at .ensures) ∙ (c .before .before .if1 .taken)))
+    rw (
+      (c .before .word .ensures .is),
+      (c .word2 .ensures .is),
+      ← e,
+      eq-eqb _ 1
+          (sym (at-type-at .type-at .ensures) ∙ (c .before .before .if1 .taken)),
+    )
 
 add-word-3 : tie.Need-add-word-3
 add-word-3 c = search needs
@@ -45,9 +53,20 @@ word-requires-4 c κs = search needs
 returns-2 : tie.Need-returns-2
 unfolding nameWords
 returns-2 c =
-    let at = c .before .before .before .before .before .before .args .at in
+    let at-if1 = c .before .before .before in
+    let at-type-at = at-if1 .before in
+    let start = at-type-at .before .before in
+    let at = start .args .at in
     let e : at + 19 + 1 ≡ at + 20 = omega arith in
-    rw ((c .before .word3 .ensures .is), (c .word4 .ensures .is), ← e, ne-eqb _ 1 (rw (c .before .before .before .before .type-at .ensures) at (c .before .before .before .if1 .left)), eq-eqb _ 2 (sym (c .before .before .before .before .type-at .ensures) ∙ (c .before .before .if2 .taken)))
+    rw (
+      (c .before .word3 .ensures .is),
+      (c .word4 .ensures .is),
+      ← e,
+      ne-eqb _ 1
+          (rw (at-type-at .type-at .ensures) at (at-if1 .if1 .left)),
+      eq-eqb _ 2
+          (sym (at-type-at .type-at .ensures) ∙ (c .before .before .if2 .taken)),
+    )
 
 returns-3 : tie.Need-returns-3
 unfolding nameWords

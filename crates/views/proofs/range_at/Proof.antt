@@ -50,7 +50,22 @@ long-requires-6 c κs = search needs
 
 returns-2 : tie.Need-returns-2
 unfolding rangeOf
-returns-2 c = rw ((c .before .before .before .before .before .long .ensures .is), (c .before .before .before .before .long2 .ensures .is), (c .before .before .before .long3 .ensures .is), (c .before .before .long4 .ensures .is), (c .before .long5 .ensures .is), (c .long6 .ensures .is), le-leb 14 _ (rw (c .before .before .before .before .before .before .before .size-at .ensures) at (c .before .before .before .before .before .before .if1 .left)))
+returns-2 c =
+    let at-long3 = c .before .before .before in
+    let at-long2 = at-long3 .before in
+    let at-long = at-long2 .before in
+    let at-if1 = at-long .before in
+    let at-size-at = at-if1 .before in
+    rw (
+      (at-long .long .ensures .is),
+      (at-long2 .long2 .ensures .is),
+      (at-long3 .long3 .ensures .is),
+      (c .before .before .long4 .ensures .is),
+      (c .before .long5 .ensures .is),
+      (c .long6 .ensures .is),
+      le-leb 14 _
+          (rw (at-size-at .size-at .ensures) at (at-if1 .if1 .left)),
+    )
 
 pub range-at-spec : {M : Type 1} → statement M
 range-at-spec =

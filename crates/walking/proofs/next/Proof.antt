@@ -29,9 +29,10 @@ extent-at-requires c κs = search needs
 
 add-ends : tie.Need-add-ends
 add-ends c =
-    let start = c .before .before .before .before .before .before .before in
+    let at-shared-slice-known = c .before .before .before .before .before .before in
+    let start = at-shared-slice-known .before in
     let file = start .args .file .now in
-    omega (arith, c .extent-at .ensures, words-below file (lent-below file (c .before .before .before .before .before .before .shared-slice-known .given)) (start .args .w .place + 18))
+    omega (arith, c .extent-at .ensures, words-below file (lent-below file (at-shared-slice-known .shared-slice-known .given)) (start .args .w .place + 18))
 
 add-ends-2 : tie.Need-add-ends-2
 add-ends-2 c = omega (arith, opens-shallow _ _ _ (sym (c .before .before .opens-list .ensures) ∙ c .before .if2 .taken))
@@ -47,9 +48,10 @@ add-t11 c = omega (arith, opens-shallow _ _ _ (sym (c .before .before .opens-lis
 
 returns-2 : tie.Need-returns-2
 returns-2 c =
-    let start = c .before .before .before .before .before .before .before in
+    let at-if1 = c .before .before .before .before .before in
+    let start = at-if1 .before .before in
     rw (c .before .before .before .size-at .ensures, c .extent-at .ensures)
-    (next-by _ (start .args .w) _ (omega (arith, length-words (start .args .file .now), c .before .before .before .before .before .if1 .left))
+    (next-by _ (start .args .w) _ (omega (arith, length-words (start .args .file .now), at-if1 .if1 .left))
     (sym (c .before .before .opens-list .ensures) ∙ c .before .if2 .taken))
 
 closed-to-requires : tie.Need-closed-to-requires
@@ -57,9 +59,10 @@ closed-to-requires c κs = search needs
 
 returns-3 : tie.Need-returns-3
 returns-3 c =
-    let start = c .before .before .before .before .before .before .before in
+    let at-if1 = c .before .before .before .before .before in
+    let start = at-if1 .before .before in
     rw (c .closed-to .ensures, c .before .before .before .size-at .ensures)
-    (next-by _ (start .args .w) _ (omega (arith, length-words (start .args .file .now), c .before .before .before .before .before .if1 .left))
+    (next-by _ (start .args .w) _ (omega (arith, length-words (start .args .file .now), at-if1 .if1 .left))
     (sym (c .before .before .opens-list .ensures) ∙ c .before .if2 .left))
 
 pub next-spec : {M : Type 1} → statement M

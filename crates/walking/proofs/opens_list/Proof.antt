@@ -23,9 +23,13 @@ extent-at-requires c κs = search needs
 
 returns-2 : tie.Need-returns-2
 returns-2 c =
+    let at-is-header = c .before .before .before in
+    let at-type-at = at-is-header .before in
+    let at-if1 = at-type-at .before in
     rw (c .before .size-at .ensures, c .extent-at .ensures)
-    (opens-by _ _ _ _ (c .before .before .before .before .before .if1 .left)
-    (sym (ap isHeader (c .before .before .before .before .type-at .ensures)) ∙ sym (c .before .before .before .is-header .ensures) ∙ c .before .before .if2 .taken))
+    (opens-by _ _ _ _ (at-if1 .if1 .left)
+    (sym (ap isHeader (at-type-at .type-at .ensures)) ∙ sym (at-is-header .is-header .ensures) ∙ c .before .before .if2
+    .taken))
 
 returns-3 : tie.Need-returns-3
 returns-3 c =

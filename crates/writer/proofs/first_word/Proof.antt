@@ -1,3 +1,4 @@
+-- Each bit is at most 1 (`bit-small`), the level below 64 and the type below 128, so that no sum wraps and it is the definition's.
 use native.Mathlib.Omega.{arith}
 use Rattle.fields.specs.Words.{firstWord}
 use Rattle.fields.proofs.Element.{bit-small}

@@ -1,3 +1,4 @@
+-- The test for a type with N decides which of the two places the definition gives.
 use mathlib.Core.Path.{refl, sym, _∙_}
 use borrow.Author.Needs.{needs}
 use Rattle.writer.proofs.points_place.Statement.{statement}

@@ -1,3 +1,4 @@
+-- A type with N has that word laid at 18 (`laid-word`); any other has nothing laid (`laid-none`).
 use mathlib.Core.Path.{sym, _∙_}
 use native.Mathlib.Omega.{arith}
 use Rattle.writer.proofs.Stores.{laid-none, laid-word}
@@ -19,8 +20,9 @@ same-length c = search needs
 
 returns : tie.Need-returns
 returns c =
-    let start = c .before .before .before .before .before .before .before in
-    rw (sym (c .before .before .before .before .before .is-pointed .ensures) ∙ c .before .before .before .before .if1 .taken)
+    let at-is-pointed = c .before .before .before .before .before in
+    let start = at-is-pointed .before .before in
+    rw (sym (at-is-pointed .is-pointed .ensures) ∙ c .before .before .before .before .if1 .taken)
     (c .before .before .put-word .ensures ∙ laid-word (start .args .out .now) 18 (start .args .n) (omega (arith, start .pre .0)))
 
 returns-2 : tie.Need-returns-2

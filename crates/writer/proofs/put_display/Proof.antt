@@ -22,25 +22,37 @@ add-symbology-2 : tie.Need-add-symbology-2
 add-symbology-2 c = let b = bounds _ ((c .before .before .before .before .pre .1)) in omega arith
 
 cast-put-word : tie.Need-cast-put-word
-cast-put-word c = let b = bounds _ ((c .before .before .before .before .before .before .pre .1)) in omega (arith, b .words)
+cast-put-word c =
+    let start = c .before .before .before .before .before .before in
+    let b = bounds _ (start .pre .1) in
+    omega (arith, b .words)
 
 put-word-requires : tie.Need-put-word-requires
 put-word-requires c κs = search needs
 
 cast-put-word-2 : tie.Need-cast-put-word-2
-cast-put-word-2 c = let b = bounds _ ((c .before .before .before .before .before .before .before .before .before .before .before .pre .1)) in omega (arith, b .words)
+cast-put-word-2 c =
+    let start = c .before .before .before .before .before .before .before .before .before .before .before in
+    let b = bounds _ (start .pre .1) in
+    omega (arith, b .words)
 
 put-word-requires-2 : tie.Need-put-word-requires-2
 put-word-requires-2 c κs = search needs
 
 cast-put-word-3 : tie.Need-cast-put-word-3
-cast-put-word-3 c = let b = bounds _ ((c .before .before .before .before .before .before .before .before .before .before .before .before .before .before .before .before .pre .1)) in omega (arith, b .words)
+cast-put-word-3 c =
+    let start = c .before .before .before .before .before .before .before .before .before .before .before .before .before .before .before .before in
+    let b = bounds _ (start .pre .1) in
+    omega (arith, b .words)
 
 put-word-requires-3 : tie.Need-put-word-requires-3
 put-word-requires-3 c κs = search needs
 
 cast-put-word-4 : tie.Need-cast-put-word-4
-cast-put-word-4 c = let b = bounds _ ((c .before .before .before .before .before .before .before .before .before .before .before .before .before .before .before .before .before .before .before .before .pre .1)) in omega (arith, b .style, b .weight, b .colour)
+cast-put-word-4 c =
+    let start = c .before .before .before .before .before .before .before .before .before .before .before .before .before .before .before .before .before .before .before .before in
+    let b = bounds _ (start .pre .1) in
+    omega (arith, b .style, b .weight, b .colour)
 
 put-word-requires-4 : tie.Need-put-word-requires-4
 put-word-requires-4 c κs = search needs

@@ -34,22 +34,48 @@ put-header-requires c κs =
     ((omega (arith, w .fits), (omega arith, omega (arith, w .size))), (w .call .kind, w .call .fields))
 
 div-put-count : tie.Need-div-put-count
-div-put-count c = omega (arith, dim-some (writable (c .before .before .before .before .before .before .before .before .pre) .call))
+div-put-count c =
+    let start = c .before .before .before .before .before .before .before .before in
+    omega (arith, dim-some (writable (start .pre) .call))
 
 put-count-requires : tie.Need-put-count-requires
 put-count-requires c κs =
-    let w = writable (c .before .before .before .before .before .before .before .before .pre) in
-    (omega (arith, c .before .before .before .put-header .kept, count-room w .0, w .fits), omega (arith, count-room w .1))
+    let at-put-header = c .before .before .before in
+    let start = at-put-header .before .before .before .before .before in
+    let w = writable (start .pre) in
+    (omega (arith, at-put-header .put-header .kept, count-room w .0, w .fits), omega (arith, count-room w .1))
 
 put-points-requires : tie.Need-put-points-requires
 put-points-requires c κs =
-    let w = writable (c .before .before .before .before .before .before .before .before .before .before .before .before .pre) in
-    omega (arith, points-end w (c .before .before .before .before .before .before .before .before .before .points-place .result) (c .before .before .before .before .before .before .before .before .before .points-place .ensures), w .fits, c .before .before .before .before .before .before .before .put-header .kept, c .before .before .before .put-count .kept)
+    let at-put-count = c .before .before .before in
+    let at-put-header = at-put-count .before .before .before .before in
+    let at-points-place = at-put-header .before .before in
+    let start = at-points-place .before .before .before in
+    let w = writable (start .pre) in
+    omega (
+      arith,
+      points-end w (at-points-place .points-place .result) (at-points-place .points-place .ensures),
+      w .fits,
+      at-put-header .put-header .kept,
+      at-put-count .put-count .kept,
+    )
 
 put-tail-requires : tie.Need-put-tail-requires
 put-tail-requires c κs =
-    let w = writable (c .before .before .before .before .before .before .before .before .before .before .before .before .before .before .before .before .pre) in
-    omega (arith, points-end w (c .before .before .before .before .before .before .before .before .before .before .before .before .before .points-place .result) (c .before .before .before .before .before .before .before .before .before .before .before .before .before .points-place .ensures), w .fits, c .before .before .before .before .before .before .before .before .before .before .before .put-header .kept, c .before .before .before .before .before .before .before .put-count .kept, c .before .before .before .put-points .kept)
+    let at-put-points = c .before .before .before in
+    let at-put-count = at-put-points .before .before .before .before in
+    let at-put-header = at-put-count .before .before .before .before in
+    let at-points-place = at-put-header .before .before in
+    let start = at-points-place .before .before .before in
+    let w = writable (start .pre) in
+    omega (
+      arith,
+      points-end w (at-points-place .points-place .result) (at-points-place .points-place .ensures),
+      w .fits,
+      at-put-header .put-header .kept,
+      at-put-count .put-count .kept,
+      at-put-points .put-points .kept,
+    )
 
 same-length : tie.Need-same-length
 same-length c = search needs

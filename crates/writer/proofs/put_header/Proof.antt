@@ -41,11 +41,17 @@ same-length c = search needs
 
 returns : tie.Need-returns
 returns c =
-    let start = c .before .before .before .before .before .before .before .before .before .before .before .before .before .before .before .before .before .before in
+    let at-put-range = c .before .before .before .before .before .before in
+    let at-put-word2 = at-put-range .before .before .before .before in
+    let at-put-word = at-put-word2 .before .before .before .before in
+    let at-first-word = at-put-word .before in
+    let start = at-first-word .before .before .before in
+    let start = start in
     let f = start .args .fields in
-    let one = c .before .before .before .before .before .before .before .before .before .before .before .before .before .before .put-word .ensures ∙ ap (putWord (start .args .out .now) 0) (c .before .before .before .before .before .before .before .before .before .before .before .before .before .before .before .first-word .ensures) in
-    let two = c .before .before .before .before .before .before .before .before .before .before .put-word2 .ensures ∙ ap (λ x. putWord x 1 (start .args .size - 2)) one in
-    let range = c .before .before .before .before .before .before .put-range .ensures ∙ ap (λ x. laid x 2 (longs (rangeLongs f))) two in
+    let one = at-put-word .put-word .ensures ∙ ap (putWord (start .args .out .now) 0)
+    (at-first-word .first-word .ensures) in
+    let two = at-put-word2 .put-word2 .ensures ∙ ap (λ x. putWord x 1 (start .args .size - 2)) one in
+    let range = at-put-range .put-range .ensures ∙ ap (λ x. laid x 2 (longs (rangeLongs f))) two in
     let display = c .before .before .put-display .ensures ∙ ap (λ x. laid x 14 (displayWords f)) range in
     display ∙ header-laid (start .args .out .now) f (start .args .size) (start .pre .0 .0)
 

@@ -1,3 +1,4 @@
+-- The invariant: the longs of the first k coordinates are laid from `at` on. A turn lays one long more (`next-point`).
 use lib.IntN.{pos}
 use mir.Syntax.{w32}
 use mir.ValLaws.{toZ-ofZ}
@@ -41,19 +42,41 @@ put-signed-long-requires : tie.Need-put-signed-long-requires Inv-loop μ-loop
 put-signed-long-requires c κs = search needs
 
 add-k : tie.Need-add-k Inv-loop μ-loop
-add-k c = omega (arith, (c .before .before .before .before .before .before .before .before .good))
+add-k c =
+    let start = c .before .before .before .before .before .before .before .before in
+    omega (arith, (start .good))
 
 loop-less : tie.Need-loop-less Inv-loop μ-loop
 loop-less c = omega arith
 
 loop-again : tie.Need-loop-again Inv-loop μ-loop
-loop-again c = (omega (arith, (c .before .before .before .before .before .loop-test .taken)), (((c .before .before .put-signed-long .kept .0)) ∙ ((c .before .before .before .before .before .before .loop .inv .1 .0)), ((c .before .before .put-signed-long .ensures)) ∙ ap (λ z. putLong ((c .before .before .before .before .before .before .loop .out)) (((c .before .before .before .before .before .before .before .before .args .at)) + 2 * ((c .before .before .before .before .before .before .loop .k))) (unsigned z)) (toZ-ofZ w32 (getD ((c .before .before .before .before .before .before .before .before .args .points .now)) ((c .before .before .before .before .before .before .loop .k)) (pos 0)) (record { sfits = (c .before .before .before .put-signed-long-arg2 .given) })) ∙ next-point ((c .before .before .before .before .before .before .before .before .args .out .now)) ((c .before .before .before .before .before .before .loop .out)) ((c .before .before .before .before .before .before .before .before .args .at)) ((c .before .before .before .before .before .before .loop .k)) ((c .before .before .before .before .before .before .before .before .args .points .now)) ((c .before .before .before .before .before .loop-test .taken)) ((c .before .before .before .before .before .before .before .before .pre)) ((c .before .before .before .before .before .before .loop .inv .1 .1))))
+loop-again c =
+    let at-put-signed-long-arg2 = c .before .before .before in
+    let at-loop-test = at-put-signed-long-arg2 .before .before in
+    let at-loop = at-loop-test .before in
+    let start = at-loop .before .before in
+    let out = at-loop .loop .out in
+    let k = at-loop .loop .k in
+    let points = start .args .points .now in (
+      omega (arith, at-loop-test .loop-test .taken),
+      (
+        c .before .before .put-signed-long .kept .0 ∙ at-loop .loop .inv .1 .0,
+        c .before .before .put-signed-long .ensures
+            ∙ ap (λ z. putLong out (start .args .at + 2 * k) (unsigned z)) (toZ-ofZ w32 (getD points k (pos 0)) (record { sfits = at-put-signed-long-arg2 .put-signed-long-arg2 .given }))
+            ∙ next-point (start .args .out .now) out (start .args .at) k points (at-loop-test .loop-test .taken) (start .pre) (at-loop .loop .inv .1 .1),
+      ),
+    )
 
 same-length : tie.Need-same-length Inv-loop μ-loop
 same-length c = (c .before .loop .inv .1 .0)
 
 returns : tie.Need-returns Inv-loop μ-loop
-returns c = let e : take ((c .before .loop .k)) (map unsigned ((c .before .before .before .args .points .now))) ≡ map unsigned ((c .before .before .before .args .points .now)) = take-all ((c .before .loop .k)) (map unsigned ((c .before .before .before .args .points .now))) (omega (arith, length-map ((c .before .before .before .args .points .now)) unsigned)) in ((c .before .loop .inv .1 .1)) ∙ ap (λ l. laid ((c .before .before .before .args .out .now)) ((c .before .before .before .args .at)) (longs l)) e
+returns c =
+    let start = c .before .before .before in
+    let e : take (c .before .loop .k) (map unsigned (start .args .points .now)) ≡ map unsigned
+    (start .args .points .now) = take-all (c .before .loop .k) (map unsigned (start .args .points .now))
+    (omega (arith, length-map (start .args .points .now) unsigned)) in
+    (c .before .loop .inv .1 .1) ∙ ap (λ l. laid (start .args .out .now) (start .args .at) (longs l)) e
 
 pub put-points-spec : {M : Type 1} → statement M
 put-points-spec =

@@ -16,37 +16,61 @@ put-long-requires : tie.Need-put-long-requires
 put-long-requires c κs = search needs
 
 cast-put-long-2 : tie.Need-cast-put-long-2
-cast-put-long-2 c = omega (arith, bounds _ ((c .before .before .before .before .before .before .before .before .pre .1)) .range)
+cast-put-long-2 c =
+    let start = c .before .before .before .before .before .before .before .before in
+    omega (arith, bounds _ (start .pre .1) .range)
 
 put-long-requires-2 : tie.Need-put-long-requires-2
 put-long-requires-2 c κs = search needs
 
 cast-put-long-3 : tie.Need-cast-put-long-3
-cast-put-long-3 c = omega (arith, bounds _ ((c .before .before .before .before .before .before .before .before .before .before .before .before .before .pre .1)) .range)
+cast-put-long-3 c =
+    let start = c .before .before .before .before .before .before .before .before .before .before .before .before .before in
+    omega (arith, bounds _ (start .pre .1) .range)
 
 put-long-requires-3 : tie.Need-put-long-requires-3
 put-long-requires-3 c κs = search needs
 
 cast-put-long-4 : tie.Need-cast-put-long-4
-cast-put-long-4 c = omega (arith, bounds _ ((c .before .before .before .before .before .before .before .before .before .before .before .before .before .before .before .before .before .before .pre .1)) .range)
+cast-put-long-4 c =
+    let start = c .before .before .before .before .before .before .before .before .before .before .before .before .before .before .before .before .before .before in
+    omega (arith, bounds _ (start .pre .1) .range)
 
 put-long-requires-4 : tie.Need-put-long-requires-4
 put-long-requires-4 c κs = search needs
 
 cast-put-long-5 : tie.Need-cast-put-long-5
-cast-put-long-5 c = omega (arith, bounds _ ((c .before .before .before .before .before .before .before .before .before .before .before .before .before .before .before .before .before .before .before .before .before .before .before .pre .1)) .range)
+cast-put-long-5 c =
+    let start = c .before .before .before .before .before .before .before .before .before .before .before .before .before .before .before .before .before .before .before .before .before .before .before in
+    omega (arith, bounds _ (start .pre .1) .range)
 
 put-long-requires-5 : tie.Need-put-long-requires-5
 put-long-requires-5 c κs = search needs
 
 cast-put-long-6 : tie.Need-cast-put-long-6
-cast-put-long-6 c = omega (arith, bounds _ ((c .before .before .before .before .before .before .before .before .before .before .before .before .before .before .before .before .before .before .before .before .before .before .before .before .before .before .before .before .pre .1)) .range)
+cast-put-long-6 c =
+    let start = c .before .before .before .before .before .before .before .before .before .before .before .before .before .before .before .before .before .before .before .before .before .before .before .before .before .before .before .before in
+    omega (arith, bounds _ (start .pre .1) .range)
 
 put-long-requires-6 : tie.Need-put-long-requires-6
 put-long-requires-6 c κs = search needs
 
 same-length : tie.Need-same-length
-same-length c = omega (arith, (c .before .before .before .before .before .before .before .before .before .before .before .before .before .before .before .before .before .before .before .before .before .before .before .before .before .before .before .put-long .kept), (c .before .before .before .before .before .before .before .before .before .before .before .before .before .before .before .before .before .before .before .before .before .before .put-long2 .kept), (c .before .before .before .before .before .before .before .before .before .before .before .before .before .before .before .before .before .put-long3 .kept), (c .before .before .before .before .before .before .before .before .before .before .before .before .put-long4 .kept), (c .before .before .before .before .before .before .before .put-long5 .kept), (c .before .before .put-long6 .kept))
+same-length c =
+    let at-put-long5 = c .before .before .before .before .before .before .before in
+    let at-put-long4 = at-put-long5 .before .before .before .before .before in
+    let at-put-long3 = at-put-long4 .before .before .before .before .before in
+    let at-put-long2 = at-put-long3 .before .before .before .before .before in
+    let at-put-long = at-put-long2 .before .before .before .before .before in
+    omega (
+      arith,
+      (at-put-long .put-long .kept),
+      (at-put-long2 .put-long2 .kept),
+      (at-put-long3 .put-long3 .kept),
+      (at-put-long4 .put-long4 .kept),
+      (at-put-long5 .put-long5 .kept),
+      (c .before .before .put-long6 .kept),
+    )
 
 returns : tie.Need-returns
 returns c =

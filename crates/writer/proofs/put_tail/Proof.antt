@@ -1,3 +1,4 @@
+-- The invariant: the first k words of the tail are laid from `at` on. A turn lays one word more (`next-word`).
 use Prim.Native.Nat.{_+_, _-_, _≤_}
 use mathlib.Core.Path.{_≡_, refl, ap, _∙_}
 use native.Mathlib.Omega.{arith}
@@ -21,7 +22,9 @@ loop-holds : tie.Need-loop-holds Inv-loop μ-loop
 loop-holds c = (omega arith, (refl, laid-none _ ((c .before .before .args .at))))
 
 add-put-word : tie.Need-add-put-word Inv-loop μ-loop
-add-put-word c = omega (arith, (c .before .before .before .before .before .pre), (c .before .before .before .before .before .good))
+add-put-word c =
+    let start = c .before .before .before .before .before in
+    omega (arith, (start .pre), (start .good))
 
 word-requires : tie.Need-word-requires Inv-loop μ-loop
 word-requires c κs = search needs
@@ -33,19 +36,41 @@ put-word-requires : tie.Need-put-word-requires Inv-loop μ-loop
 put-word-requires c κs = search needs
 
 add-k : tie.Need-add-k Inv-loop μ-loop
-add-k c = omega (arith, (c .before .before .before .before .before .before .before .before .before .good))
+add-k c =
+    let start = c .before .before .before .before .before .before .before .before .before in
+    omega (arith, (start .good))
 
 loop-less : tie.Need-loop-less Inv-loop μ-loop
 loop-less c = omega arith
 
 loop-again : tie.Need-loop-again Inv-loop μ-loop
-loop-again c = let n = length-words ((c .before .before .before .before .before .before .before .before .before .args .tail .now)) in (omega (arith, (c .before .before .before .before .before .loop-test .taken)), (((c .before .before .put-word .kept .0)) ∙ ((c .before .before .before .before .before .before .loop .inv .1 .0)), ((c .before .before .put-word .ensures)) ∙ ap (putWord ((c .before .before .before .before .before .before .loop .out)) (((c .before .before .before .before .before .before .before .before .before .args .at)) + ((c .before .before .before .before .before .before .loop .k)))) ((c .before .before .before .word .ensures .is)) ∙ next-word ((c .before .before .before .before .before .before .before .before .before .args .out .now)) ((c .before .before .before .before .before .before .loop .out)) ((c .before .before .before .before .before .before .before .before .before .args .at)) ((c .before .before .before .before .before .before .loop .k)) (words ((c .before .before .before .before .before .before .before .before .before .args .tail .now))) (omega (arith, (c .before .before .before .before .before .loop-test .taken))) (omega (arith, (c .before .before .before .before .before .before .before .before .before .pre))) ((c .before .before .before .before .before .before .loop .inv .1 .1))))
+loop-again c =
+    let at-word = c .before .before .before in
+    let at-loop-test = at-word .before .before in
+    let at-loop = at-loop-test .before in
+    let start = at-loop .before .before .before in
+    let n = length-words (start .args .tail .now) in
+    let out = at-loop .loop .out in
+    let k = at-loop .loop .k in (
+      omega (arith, at-loop-test .loop-test .taken),
+      (
+        c .before .before .put-word .kept .0 ∙ at-loop .loop .inv .1 .0,
+        c .before .before .put-word .ensures
+            ∙ ap (putWord out (start .args .at + k)) (at-word .word .ensures .is)
+            ∙ next-word (start .args .out .now) out (start .args .at) k (words (start .args .tail .now)) (omega (arith, at-loop-test .loop-test .taken)) (omega (arith, start .pre))
+            (at-loop .loop .inv .1 .1),
+      ),
+    )
 
 same-length : tie.Need-same-length Inv-loop μ-loop
 same-length c = (c .before .loop .inv .1 .0)
 
 returns : tie.Need-returns Inv-loop μ-loop
-returns c = ((c .before .loop .inv .1 .1)) ∙ ap (laid ((c .before .before .before .before .args .out .now)) ((c .before .before .before .before .args .at))) (take-all ((c .before .loop .k)) (words ((c .before .before .before .before .args .tail .now))) (omega (arith, length-words ((c .before .before .before .before .args .tail .now)))))
+returns c =
+    let start = c .before .before .before .before in
+    (c .before .loop .inv .1 .1) ∙ ap (laid (start .args .out .now) (start .args .at))
+    (take-all (c .before .loop .k) (words (start .args .tail .now))
+    (omega (arith, length-words (start .args .tail .now))))
 
 pub put-tail-spec : {M : Type 1} → statement M
 put-tail-spec =

@@ -1,3 +1,5 @@
+-- A fault that is not 0 is the refusal and leaves the buffer (`writes-refused`); else the element is laid at its start
+-- (`writes-made`).
 use mathlib.Core.Path.{sym, _∙_}
 use Rattle.writer.proofs.Writes.{writes-refused, writes-made}
 use borrow.Author.Needs.{needs}
@@ -17,7 +19,11 @@ same-length : tie.Need-same-length
 same-length c = search needs
 
 returns-2 : tie.Need-returns-2
-returns-2 c = writes-made _ _ _ _ _ _ _ (sym ((c .before .before .before .before .before .write-fault .ensures)) ∙ ((c .before .before .before .before .if1 .left))) ((c .before .before .put-element .ensures .0)) ((c .before .before .put-element .ensures .1))
+returns-2 c =
+    let at-if1 = c .before .before .before .before in
+    let at-write-fault = at-if1 .before in
+    writes-made _ _ _ _ _ _ _ (sym (at-write-fault .write-fault .ensures) ∙ (at-if1 .if1 .left))
+    (c .before .before .put-element .ensures .0) (c .before .before .put-element .ensures .1)
 
 pub write-spec : {M : Type 1} → statement M
 write-spec =

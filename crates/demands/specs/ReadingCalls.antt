@@ -1,0 +1,33 @@
+-- What the calls that read answer of a refused file, and of an element of an accepted one.
+use Prim.Native.Nat.{ℕ}
+use mathlib.Core.Path.{_≡_}
+use mathlib.Core.List.{List}
+use Rattle.files.specs.Spots.{Spot}
+use Rattle.places.specs.Places.{aboveOf}
+use Rattle.places.specs.Extents.{extentAnswer}
+use Rattle.places.specs.declared.Extent.the-variants as extents
+use Rattle.views.specs.Views.{viewOf}
+use Rattle.views.specs.declared.Element.{Element}
+use Rattle.views.specs.declared.View.the-variants as views
+use Rattle.points_linkages.specs.Points.{pointOf}
+use Rattle.points_linkages.specs.Linkages.{linkageOf}
+use Rattle.points_linkages.specs.declared.Point.the-variants as points
+use Rattle.points_linkages.specs.declared.Attribute.the-variants as attributes
+use Rattle.finder.specs.Finder.{findOf}
+use Rattle.finder.specs.declared.Found.the-variants as found
+
+-- at every place, for every number and every text, the refusal n at p; the finder's count is then 0
+pub record FileRefused (dim : ℕ) (s : List ℕ) (n p : ℕ) : Type 0 where
+  pub extents : (at : ℕ) → extentAnswer dim s at ≡ extents.Refused n p
+  pub views : (at : ℕ) → viewOf dim s at ≡ views.Refused n p
+  pub points : (at k : ℕ) → pointOf dim s at k ≡ points.Refused n p
+  pub linkages : (at k : ℕ) → linkageOf dim s at k ≡ attributes.Refused n p
+  pub finder : (t : List ℕ) → findOf dim s t ≡ found.Refused n p 0
+
+-- of the element x that starts at a place: its extent ends where x does, and a view shows its depth and its direct header
+pub record Found (dim : ℕ) (s : List ℕ) (at : ℕ) (x : Spot) : Type 0 where
+  pub extent : extentAnswer dim s at ≡ extents.At at (x .end)
+  pub element : Element
+  pub view : viewOf dim s at ≡ views.Seen element
+  pub depth : element .depth ≡ x .depth
+  pub above : element .above ≡ aboveOf (x .header)

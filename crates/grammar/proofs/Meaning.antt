@@ -1,0 +1,236 @@
+-- The grammar's rules of one element's own words are the tests that judging makes of them, rule by rule, there and back.
+use Prim.Native.Nat.{ℕ, _+_, _-_, _/_, _%_, _≤_}
+use mathlib.Core.Path.{_≡_, refl, sym, ap, ap₂, _∙_, subst}
+use mathlib.Core.Logic.{_↔_, inl, inr}
+use mathlib.Core.Bool.{Bool, true, false, cond, or-false}
+use mathlib.Core.List.{List, [], _∷_, _++_, append-nil}
+use native.Mathlib.Nat.{zero-add}
+use native.Mathlib.Omega.{arith}
+use lib.ListN.{length, take, drop, length-append, length-drop, take-append-drop}
+use lib.Seq.{length-take-le, take-all}
+use lib.Dec.{eqb}
+use Rattle.words.specs.Words.{wordAt}
+use Rattle.names.specs.Names.{nameOk, textOf}
+use Rattle.names.proofs.OneToOne.{pack-unpack, pack-stored}
+use Rattle.kinds.specs.FirstWord.{reservedOf, cOf}
+use Rattle.kinds.specs.Kinds.{oneOf, isHeader, fixedPart, mayStand}
+use Rattle.kinds.proofs.Types.{Each, each-named}
+use Rattle.linkages.specs.Linkages.{linkagesFill, Linkages}
+use Rattle.linkages.proofs.Meaning.{fills-is, is-fills}
+use Rattle.headers.specs.Header.{typeAt, nameFirst, nameSecond}
+use Rattle.headers.specs.Flags.{reservedOk, placeOk}
+use Rattle.elements.specs.Attributes.{attributesOk, linkagesOk}
+use Rattle.elements.specs.Rules.{fixedOk, storedNameOk, countOk}
+use Rattle.words.specs.OneOf.{OneOf}
+use Rattle.grammar.specs.Types.{headers, counted, pointed, linked, Row, row, fixedParts, NotBelow}
+use Rattle.grammar.specs.Own.{typeIn, PastFixed, Allowed, Attributes, Named, Own}
+use Rattle.grammar.proofs.Types.{pointed-long}
+use Rattle.grammar.proofs.Tests.{Extent, OwnTests}
+use Rattle.grammar.proofs.Says.{Says, says-as, says-so, says-eq, says-le, says-not, says-and, says-rule, says-with, says-never, says-unless, says-one-of, says-which}
+
+---- bits 6 and 7 of word 0, and what may stand where
+
+reserved-says : (own : List ℕ) → Says (reservedOk (wordAt own 0)) (¬ (typeIn own ≡ 9) → reservedOf (wordAt own 0) ≡ 0)
+unfolding reservedOk
+reserved-says own = says-unless (says-eq (typeIn own) 9) (says-eq (reservedOf (wordAt own 0)) 0)
+
+place-says : (depth : ℕ) (own : List ℕ) →
+    Says (placeOk depth (wordAt own 0)) (¬ (typeIn own ≡ 9) → (depth ≡ 0 → cOf (wordAt own 0) ≡ 0) × (¬ (depth ≡ 0) → cOf (wordAt own 0) ≡ 1))
+unfolding placeOk
+place-says depth own =
+    says-unless (says-eq (typeIn own) 9)
+    (says-as (says-eq (cOf (wordAt own 0)) (cond (eqb depth 0) 0 1)) (says-which (says-eq depth 0) (λ b. cOf (wordAt own 0) ≡ cond b 0 1)))
+
+kind-says : (dim under t : ℕ) → Says (mayStand dim under t) (Allowed dim under t)
+unfolding mayStand
+kind-says dim under t =
+    says-as
+    (says-and
+    (says-and (says-not (says-one-of (24 ∷ 27 ∷ 87 ∷ []) t)) (says-never (says-eq dim 2) (says-one-of (18 ∷ 19 ∷ []) t)))
+    (says-and (says-with (says-eq t 1) (says-eq under 0))
+    (says-and (says-with (says-eq under 7) (says-eq t 17)) (says-never (says-one-of (12 ∷ 14 ∷ 18 ∷ 19 ∷ []) under) (says-one-of headers t))))) (
+      λ h. record { read = h .0 .0; flat = h .0 .1; library = h .1 .0; texts = h .1 .1 .0; closed = h .1 .1 .1 },
+      λ a. ((a .read, a .flat), (a .library, (a .texts, a .closed))),
+    )
+
+---- the table of fixed parts
+
+same : (x : ℕ) (b : Bool) → cond b x x ≡ x
+same x true = refl
+same x false = refl
+
+module _ (dim t m : ℕ) where
+  -- the fixed part by the first row that has the type
+  abbrev partBy : List Row → ℕ
+  partBy [] = 2
+  partBy (row types flat solid ∷ rows) = cond (oneOf types t) (cond (eqb dim 2) flat solid) (partBy rows)
+
+  by-table : (rows : List Row) → NotBelow dim t rows m → partBy rows ≤ m
+  by-table [] h = h
+  by-table (row types flat solid ∷ rows) h =
+      says-which (says-one-of types t) (λ b. cond b (cond (eqb dim 2) flat solid) (partBy rows) ≤ m) .1
+      (λ o. says-which (says-eq dim 2) (λ b. cond b flat solid ≤ m) .1 (h .0 o), λ _. by-table rows (h .1))
+
+  part-is : (n : ℕ) → partBy (fixedParts n) ≡ fixedPart dim t n
+  unfolding fixedPart
+  part-is n = simp (or-false, same)
+
+  -- each row has the fixed part of each of its types
+  abbrev Right : (ℕ → ℕ) → List Row → Type 0
+  Right part [] = Unit {0}
+  Right part (row types flat solid ∷ rows) = Each (λ k. part k ≡ cond (eqb dim 2) flat solid) types × Right part rows
+
+  table-right : (n : ℕ) → Right (λ k. fixedPart dim k n) (fixedParts n)
+  unfolding fixedPart
+  table-right n =
+      let alike : (x : ℕ) → x ≡ cond (eqb dim 2) x x = λ x. sym (same x (eqb dim 2)) in (
+        (alike 35, tt),
+        ((refl, tt), ((refl, tt), ((refl, (refl, (refl, (refl, tt)))), ((refl, tt), ((alike 20, (alike 20, tt)), ((alike 18, tt), ((alike 21, (alike 21, tt)), tt))))))),
+      )
+
+  by-part : (part : ℕ → ℕ) (rows : List Row) → Right part rows → 2 ≤ m → part t ≤ m → NotBelow dim t rows m
+  by-part part [] r two h = two
+  by-part part (row types flat solid ∷ rows) r two h = (
+    λ o. says-which (says-eq dim 2) (λ b. cond b flat solid ≤ m) .0
+        (subst (λ x. x ≤ m) (each-named (λ k. part k ≡ cond (eqb dim 2) flat solid) types t (r .0) (says-one-of types t .says o)) h),
+    by-part part rows (r .1) two h,
+  )
+
+  part-held : (n : ℕ) → NotBelow dim t (fixedParts n) m → fixedPart dim t n ≤ m
+  part-held n h = subst (λ x. x ≤ m) (part-is n) (by-table (fixedParts n) h)
+
+  held-part : (n : ℕ) → 2 ≤ m → fixedPart dim t n ≤ m → NotBelow dim t (fixedParts n) m
+  held-part n two h = by-part (λ k. fixedPart dim k n) (fixedParts n) (table-right n) two h
+
+---- the fixed part, the attribute part, the name
+
+name-says : (a b : ℕ) → Says (nameOk a b) (Named a b)
+name-says a b = record { said = λ e. record { text = textOf a b; packs = pack-unpack a b e }; says = λ h. pack-stored (h .text) a b (h .packs) .ok }
+
+names-says : (own : List ℕ) →
+    Says (storedNameOk own 0) ((typeIn own ≡ 1 → Named (wordAt own 16) (wordAt own 17)) × (typeIn own ≡ 2 → Named (wordAt own 19) (wordAt own 20)))
+unfolding storedNameOk
+names-says own =
+    says-as
+    (says-rule (says-one-of (1 ∷ 2 ∷ []) (typeIn own)) (says-so (nameOk (nameFirst own 0) (nameSecond own 0))))
+    (λ f. (λ t. name-says _ _ .said (rw t at (f (inl t))), λ t. name-says _ _ .said (rw t at (f (inr (inl t))))), back)
+  where
+    back : (typeIn own ≡ 1 → Named (wordAt own 16) (wordAt own 17)) × (typeIn own ≡ 2 → Named (wordAt own 19) (wordAt own 20)) →
+        OneOf (1 ∷ 2 ∷ []) (typeIn own) → nameOk (nameFirst own 0) (nameSecond own 0) ≡ true
+    back f (inl t) = rw t (name-says (wordAt own 16) (wordAt own 17) .says (f .0 t))
+    back f (inr (inl t)) = rw t (name-says (wordAt own 19) (wordAt own 20) .says (f .1 t))
+    back f (inr (inr x)) = absurd x
+
+count-says : (own : List ℕ) (n : ℕ) → Says (countOk own 0 n) (OneOf counted (typeIn own) → wordAt own 19 ≡ n)
+unfolding countOk
+count-says own n = says-rule (says-one-of counted (typeIn own)) (says-eq (wordAt own 19) n)
+
+-- what needs the size
+module _ (dim : ℕ) (own : List ℕ) (size : wordAt own 1 + 2 ≡ length own) where
+  fixed-says : Says (fixedOk dim own 0) ((OneOf pointed (typeIn own) → (2 ≤ wordAt own 18) × (wordAt own 18 ≤ 101)) × PastFixed dim own (length own))
+  unfolding fixedOk
+  fixed-says =
+      let n = wordAt own 18 in
+      let s = wordAt own 1 + 2 in
+      says-as
+      (says-and (says-rule (says-one-of pointed (typeIn own)) (says-and (says-le 19 s) (says-and (says-le 2 n) (says-le n 101)))) (says-le (fixedPart dim (typeIn own) n) s)) (
+        λ h. let l = h .1 in (λ o. h .0 o .1, held-part dim (typeIn own) (length own) n (omega arith) (omega arith)),
+        λ h.
+            let l = part-held dim (typeIn own) (length own) n (h .1) in
+            (λ o. let p = pointed-long dim (typeIn own) n (says-one-of pointed (typeIn own) .says o) in (omega arith, h .0 o), omega arith),
+      )
+
+  attributes-says : Says (attributesOk dim own 0) (Attributes dim own)
+  unfolding attributesOk linkagesFill
+  attributes-says = says-as (says-and (says-le part from) (says-and (says-le from to) (says-so fill))) (there, back)
+    where
+      part : ℕ
+      part = fixedPart dim (typeIn own) (wordAt own 18)
+
+      from : ℕ
+      from = 16 + wordAt own 15
+
+      to : ℕ
+      to = wordAt own 1 + 2
+
+      fill : Bool
+      fill = linkagesFill own (0 + from) (0 + to)
+
+      back : Attributes dim own → (part ≤ from) × ((from ≤ to) × (fill ≡ true))
+      back a =
+          let all = a .front ++ (a .part ++ []) in
+          let b = a .begins in
+          let l = ap length (a .whole) ∙ length-append (a .front) (a .part) in
+          let is : own ≡ all = a .whole ∙ ap (λ x. a .front ++ x) (sym (append-nil (a .part))) in (
+            part-held dim (typeIn own) from (wordAt own 18) (subst (PastFixed dim own) b (a .after)),
+            (
+              omega arith,
+              ap (λ x. linkagesFill x (0 + from) (0 + to)) is ∙ ap₂ (linkagesFill all) (omega arith) (omega arith) ∙ is-fills (a .filled) (a .front) [],
+            ),
+          )
+
+      there : (part ≤ from) × ((from ≤ to) × (fill ≡ true)) → Attributes dim own
+      there h =
+          let l = h .1 .0 in
+          let long : length (take from own) ≡ from = length-take-le from own (omega arith) in
+          let rest : take (0 + to - (0 + from)) (drop (0 + from) own) ≡ drop from own =
+          ap (λ i. take (0 + to - (0 + from)) (drop i own)) (zero-add from) ∙ take-all (0 + to - (0 + from)) (drop from own) (omega (arith, length-drop from own)) in
+          record {
+            front = take from own;
+            part = drop from own;
+            whole = sym (take-append-drop from own);
+            begins = long;
+            after = rw long (held-part dim (typeIn own) from (wordAt own 18) (omega arith) (h .0));
+            filled = subst Linkages rest (fills-is _ own (0 + from) (0 + to) (omega arith) (omega arith) (h .1 .1));
+          }
+
+  linkages-says : Says (linkagesOk dim own 0) (OneOf linked (typeIn own) → wordAt own 16 / 2048 % 2 ≡ 1 → Attributes dim own)
+  unfolding linkagesOk
+  linkages-says =
+      says-as (says-rule (says-and (says-one-of linked (typeIn own)) (says-eq (wordAt own 16 / 2048 % 2) 1)) attributes-says)
+      (λ f o a. f (o, a), λ f x. f (x .0) (x .1))
+
+---- all rules
+
+extent-is : (own : List ℕ) (inside n : ℕ) →
+    Extent (isHeader (typeAt own 0)) own inside n ↔ ((OneOf headers (typeIn own) → Extent true own inside n) × (¬ OneOf headers (typeIn own) → Extent false own inside n))
+extent-is own inside n = says-which (says-one-of headers (typeIn own)) (λ b. Extent b own inside n)
+
+module _ {dim depth under : ℕ} {own : List ℕ} {inside n : ℕ} where
+  pub own-tests : Own dim depth under own inside n → OwnTests dim depth under own inside n
+  own-tests o = record {
+    size = o .size;
+    reserved = reserved-says own .says (o .reserved);
+    place = place-says depth own .says (o .place);
+    deep = o .deep;
+    kind = kind-says dim under (typeIn own) .says (o .kind);
+    fixed = fixed-says dim own (o .size) .says (o .points, o .fixed);
+    small = o .small;
+    extent = extent-is own inside n .1 (λ h. (o .total h, o .extent h), o .plain);
+    linkages = linkages-says dim own (o .size) .says (o .linkages);
+    name = names-says own .says (o .library-name, o .cell-name);
+    count = count-says own n .says (o .count);
+  }
+
+  pub tests-own : OwnTests dim depth under own inside n → Own dim depth under own inside n
+  tests-own t =
+      let fixed = fixed-says dim own (t .size) .said (t .fixed) in
+      let extent = extent-is own inside n .0 (t .extent) in
+      let names = names-says own .said (t .name) in
+      record {
+        reserved = reserved-says own .said (t .reserved);
+        size = t .size;
+        small = t .small;
+        points = fixed .0;
+        fixed = fixed .1;
+        total = λ h. extent .0 h .0;
+        extent = λ h. extent .0 h .1;
+        count = count-says own n .said (t .count);
+        plain = extent .1;
+        place = place-says depth own .said (t .place);
+        kind = kind-says dim under (typeIn own) .said (t .kind);
+        deep = t .deep;
+        linkages = linkages-says dim own (t .size) .said (t .linkages);
+        library-name = names .0;
+        cell-name = names .1;
+      }

@@ -1,0 +1,68 @@
+-- The rules for the own words of one element (RULES.md, "Element header" to "Names"): a rule is a statement about words, not
+-- a test.
+use Prim.Native.Nat.{ℕ, _+_, _/_, _%_, _≤_}
+use mathlib.Core.Path.{_≡_}
+use mathlib.Core.List.{List, [], _∷_, _++_}
+use lib.ListN.{length}
+use Rattle.words.specs.Words.{wordAt}
+use Rattle.words.specs.OneOf.{OneOf}
+use Rattle.names.specs.Names.{packed}
+use Rattle.names.specs.declared.Packed.the-variants.{Words}
+use Rattle.kinds.specs.FirstWord.{reservedOf, cOf, typeOf}
+use Rattle.linkages.specs.Linkages.{Linkages}
+use Rattle.grammar.specs.Types.{headers, counted, pointed, linked, fixedParts, NotBelow}
+
+-- the type of an element
+abbrev pub typeIn : List ℕ → ℕ
+typeIn own = typeOf (wordAt own 0)
+
+-- m words are not below the element's fixed part; N is in word 18
+abbrev pub PastFixed : ℕ → List ℕ → ℕ → Type 0
+PastFixed dim own m = NotBelow dim (typeIn own) (fixedParts (wordAt own 18)) m
+
+-- what may stand under a header of the type `under`, 0 at the top: no type that is refused, 18 and 19 not in a 2D file,
+-- type 1 only at the top, under 7 only type 17, under 12, 14, 18 and 19 no header
+pub record Allowed (dim under t : ℕ) : Type 0 where
+  pub read : ¬ OneOf (24 ∷ 27 ∷ 87 ∷ []) t
+  pub flat : dim ≡ 2 → ¬ OneOf (18 ∷ 19 ∷ []) t
+  pub library : t ≡ 1 → under ≡ 0
+  pub texts : under ≡ 7 → t ≡ 17
+  pub closed : OneOf (12 ∷ 14 ∷ 18 ∷ 19 ∷ []) under → ¬ OneOf headers t
+
+-- the attribute part begins at word 16 + word 15, not before the fixed part's end, and runs to the element's end; linkages
+-- fill it exactly
+pub record Attributes (dim : ℕ) (own : List ℕ) : Type 0 where
+  pub front : List ℕ
+  pub part : List ℕ
+  pub whole : own ≡ front ++ part
+  pub begins : length front ≡ 16 + wordAt own 15
+  pub after : PastFixed dim own (length front)
+  pub filled : Linkages part
+
+-- two words are a name: some text packs to them
+pub record Named (first second : ℕ) : Type 0 where
+  pub text : List ℕ
+  pub packs : packed text ≡ Words first second
+
+-- the own words of an element that has `depth` headers above it, the direct one of the type `under` (0 at the top), and
+-- under it so many words, with n direct components
+pub record Own (dim depth under : ℕ) (own : List ℕ) (inside n : ℕ) : Type 0 where
+  -- the element header: in type 9 bits 6 and 7 are not judged
+  pub reserved : ¬ (typeIn own ≡ 9) → reservedOf (wordAt own 0) ≡ 0
+  pub size : wordAt own 1 + 2 ≡ length own
+  pub small : length own ≤ 65535
+  -- the fixed part
+  pub points : OneOf pointed (typeIn own) → (2 ≤ wordAt own 18) × (wordAt own 18 ≤ 101)
+  pub fixed : PastFixed dim own (length own)
+  -- complex elements: the total counts the header's own words after word 18 and all words under it
+  pub total : OneOf headers (typeIn own) → 19 + wordAt own 18 ≡ length own + inside
+  pub extent : OneOf headers (typeIn own) → length own + inside ≤ 65535
+  pub count : OneOf counted (typeIn own) → wordAt own 19 ≡ n
+  pub plain : ¬ OneOf headers (typeIn own) → (inside ≡ 0) × (n ≡ 0)
+  pub place : ¬ (typeIn own ≡ 9) → (depth ≡ 0 → cOf (wordAt own 0) ≡ 0) × (¬ (depth ≡ 0) → cOf (wordAt own 0) ≡ 1)
+  pub kind : Allowed dim under (typeIn own)
+  pub deep : depth ≤ 8
+  -- linkages, where A, bit 11 of word 16, is set; the names of the cells
+  pub linkages : OneOf linked (typeIn own) → wordAt own 16 / 2048 % 2 ≡ 1 → Attributes dim own
+  pub library-name : typeIn own ≡ 1 → Named (wordAt own 16) (wordAt own 17)
+  pub cell-name : typeIn own ≡ 2 → Named (wordAt own 19) (wordAt own 20)

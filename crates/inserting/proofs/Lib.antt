@@ -1,3 +1,0 @@
-pub mod Depths
-pub mod Inserting
-pub mod Exact

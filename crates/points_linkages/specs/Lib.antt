@@ -1,0 +1,4 @@
+pub mod Points
+pub mod Linkages
+pub mod Listed
+pub mod Numbers

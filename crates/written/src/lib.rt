@@ -1,2 +1,0 @@
-// The round trip of the writer (document 01, demand 2): what is written reads back the same, and accepted elements of a
-// written kind rewrite to the same bytes. Definitions and theorems alone: specs/Parts, specs/RoundTrip, proofs/.
