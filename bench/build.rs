@@ -1,10 +1,8 @@
-// Links the archive of the proved library, which the script archive writes, and that of the C judge, the hops and the
-// move, which bench/run makes.
+// Links the archive of the C judge, the views and points in C, the hops and the move, which bench/run makes. The proved
+// library is linked by its bindings.
 fn main() {
-    let root = std::env::var("CARGO_MANIFEST_DIR").unwrap() + "/..";
-    for (folder, name) in [("staticlib", "dgn"), ("bench", "plain")] {
-        println!("cargo:rustc-link-search=native={root}/target/{folder}");
-        println!("cargo:rustc-link-lib=static={name}");
-        println!("cargo:rerun-if-changed={root}/target/{folder}/lib{name}.a");
-    }
+    let folder = std::env::var("CARGO_MANIFEST_DIR").unwrap() + "/../target/bench";
+    println!("cargo:rustc-link-search=native={folder}");
+    println!("cargo:rustc-link-lib=static=plain");
+    println!("cargo:rerun-if-changed={folder}/libplain.a");
 }

@@ -1,47 +1,53 @@
 /* A small host: judges a 2D file, finds a part code and prints its extent.
  *   host FILE CODE
+ * Status: 0 found, 1 refused, 2 wrongly called, 3 the file cannot be read.
  */
 #include <stdio.h>
-#include <stdlib.h>
 #include <string.h>
 
-#include "../include/dgn.h"
+#include "dgn.h"
 
-static uint8_t file[1048578];
+static uint8_t file[DGN_FILE_BYTES + 2]; /* a longer file is then refused with 1 */
+
+/* says what was refused */
+static int refused(const char *what, size_t r)
+{
+    printf("%s: refused %zu %s at %zu: %s\n", what, DGN_NUMBER(r), dgn_refusal_name(r), DGN_PLACE(r), dgn_refusal_text(r));
+    return 1;
+}
 
 int main(int argc, char **argv)
 {
-    size_t out[3];
     if (argc != 3) {
         fprintf(stderr, "usage: host FILE CODE\n");
         return 2;
     }
     FILE *in = fopen(argv[1], "rb");
-    if (in == NULL) {
+    size_t len = in == NULL ? 0 : fread(file, 1, sizeof file, in);
+    if (in == NULL || ferror(in)) {
         perror(argv[1]);
-        return 2;
+        return 3;
     }
-    size_t len = fread(file, 1, sizeof file, in);
     fclose(in);
 
-    size_t number = dgn_judge(file, len, 2, out, 3);
-    if (number != 0) {
-        printf("refused %zu at %zu\n", number, out[0]);
-        return 1;
-    }
-    printf("accepted: %zu elements, depth %zu, end marker at %zu\n", out[0], out[1], out[2]);
+    size_t judged[DGN_JUDGE_NUMBERS];
+    size_t r = dgn_judge(file, len, 2, judged, DGN_JUDGE_NUMBERS);
+    if (r != 0)
+        return refused("the file", r);
+    printf("accepted: %zu elements, depth %zu, end marker at %zu\n", judged[DGN_JUDGE_ELEMENTS], judged[DGN_JUDGE_DEPTH], judged[DGN_JUDGE_MARKER]);
 
-    number = dgn_find(file, len, 2, (const uint8_t *)argv[2], strlen(argv[2]), out, 2);
-    if (number != 0) {
-        printf("%s: refused %zu after %zu elements\n", argv[2], number, out[1]);
+    size_t found[DGN_FIND_NUMBERS];
+    r = dgn_find(file, len, 2, (const uint8_t *)argv[2], strlen(argv[2]), found, DGN_FIND_NUMBERS);
+    if (DGN_NUMBER(r) == DGN_NO_SUCH) {
+        printf("%s: in none of %zu elements\n", argv[2], DGN_COUNT(r));
         return 1;
     }
-    size_t place = out[0], looked = out[1];
-    number = dgn_extent(file, len, 2, place, out, 2);
-    if (number != 0) {
-        printf("extent: refused %zu at %zu\n", number, out[0]);
-        return 1;
-    }
-    printf("%s: place %zu, looked at %zu, words %zu to %zu\n", argv[2], place, looked, out[0], out[1]);
+    if (r != 0)
+        return refused(argv[2], r);
+    size_t extent[DGN_EXTENT_NUMBERS];
+    r = dgn_extent(file, len, 2, found[DGN_FIND_PLACE], extent, DGN_EXTENT_NUMBERS);
+    if (r != 0)
+        return refused("extent", r);
+    printf("%s: place %zu, looked at %zu, words %zu to %zu\n", argv[2], found[DGN_FIND_PLACE], found[DGN_FIND_LOOKED], extent[DGN_EXTENT_FIRST], extent[DGN_EXTENT_END]);
     return 0;
 }

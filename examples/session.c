@@ -1,76 +1,92 @@
-/* A small session in memory: a 2D cell with one line is edited, then all is undone. */
+/* A small session in memory: a 2D cell with one line is edited, what was done is shown, then all is undone. */
 #include <stdio.h>
 #include <string.h>
 
-#include "../include/dgn.h"
+#include "dgn_session.h"
 
-static const size_t dimension = 2;
-
-/* the session: both buffers with their used lengths */
 static uint8_t file[400], journal[400];
-static size_t used, jused;
+static struct dgn_session s;
 
 /* the answer of a call, and the session after it */
-static void show(const char *what, size_t number, const size_t *out)
+static void show(const char *what, size_t r)
 {
-    if (number == 0) {
-        used = out[0];
-        jused = out[1];
+    if (r == 0)
         printf("%s: made", what);
-    } else {
-        printf("%s: refused %zu at %zu", what, number, out[0]);
-    }
-    printf(", %zu bytes used, %zu of the journal\n", used, jused);
+    else
+        printf("%s: refused %zu %s at %zu", what, DGN_NUMBER(r), dgn_refusal_name(r), DGN_PLACE(r));
+    printf(", %zu bytes used, %zu of the journal\n", s.used, s.jused);
 }
 
-/* a 2D line of 26 words from (x, 0) to (x, 100); c is 1 for a component */
-static void make_line(uint8_t *line, int32_t x, size_t c)
+/* a 2D line of 26 words from (x, 0) to (x, 100); component is 1 for one beneath a header */
+static void make_line(uint8_t *line, int32_t x, size_t component)
 {
-    const size_t fields[16] = {3, 1, c};
+    size_t fields[DGN_WRITE_FIELDS] = {0}, out[1];
     const int32_t points[4] = {x, 0, x, 100};
-    size_t out[1];
-    dgn_write(fields, 16, points, 4, NULL, 0, dimension, line, 52, out, 1);
+    fields[DGN_WRITE_TYPE] = DGN_LINE;
+    fields[DGN_WRITE_LEVEL] = 1;
+    fields[DGN_WRITE_COMPONENT] = component;
+    dgn_write(fields, DGN_WRITE_FIELDS, points, 4, NULL, 0, 2, line, 52, out, 1);
 }
 
-static void put(size_t place, unsigned word)
+static void put(size_t place, size_t word)
 {
     file[2 * place] = word & 255;
-    file[2 * place + 1] = word >> 8;
+    file[2 * place + 1] = word >> 8 & 255;
+}
+
+/* the edits that the journal holds, the newest first */
+static void history(void)
+{
+    static const char *const kinds[] = {"", "mark", "rename", "insert", "remove"};
+    size_t jused = s.jused, record[DGN_RECORD_NUMBERS];
+    while (dgn_record(journal, sizeof journal, jused, record, DGN_RECORD_NUMBERS) == 0) {
+        printf("%s at %zu", kinds[record[DGN_RECORD_KIND]], record[DGN_RECORD_PLACE]);
+        if (record[DGN_RECORD_KIND] >= DGN_INSERT && record[DGN_RECORD_HEADER] != DGN_TOP)
+            printf(" beneath %zu", record[DGN_RECORD_HEADER]);
+        printf(", %zu words kept\n", record[DGN_RECORD_PAYLOAD]);
+        jused = record[DGN_RECORD_BEFORE];
+    }
 }
 
 int main(void)
 {
     uint8_t line[52], original[sizeof file];
-    size_t out[2];
+    size_t name[DGN_NAME_NUMBERS];
 
     /* a cell of 46 words named 00417, its line, and the end marker */
-    put(0, 2 << 8);
+    put(0, DGN_CELL << 8);
     put(1, 44);
     put(18, 53);
-    dgn_pack((const uint8_t *)"00417", 5, out, 2);
-    put(19, out[0]);
-    put(20, out[1]);
+    dgn_pack((const uint8_t *)"00417", 5, name, DGN_NAME_NUMBERS);
+    put(19, name[0]);
+    put(20, name[1]);
     make_line(line, 7, 1);
     memcpy(file + 2 * 46, line, sizeof line);
-    put(72, 65535);
-    used = 146;
+    put(72, DGN_END_MARKER);
     memcpy(original, file, sizeof file);
 
-    show("mark the line deleted", dgn_mark(file, sizeof file, used, journal, sizeof journal, jused, dimension, 46, 1, out, 2), out);
-    show("mark it again", dgn_mark(file, sizeof file, used, journal, sizeof journal, jused, dimension, 46, 1, out, 2), out);
-    show("rename the cell", dgn_rename(file, sizeof file, used, journal, sizeof journal, jused, dimension, 0, (const uint8_t *)"417", 3, out, 2), out);
+    s.file = file;
+    s.file_len = sizeof file;
+    s.journal = journal;
+    s.journal_len = sizeof journal;
+    s.dimension = 2;
+    show("open", dgn_session_open(&s, sizeof file));
+    show("mark the line deleted", dgn_session_mark(&s, 46, 1));
+    show("mark it again", dgn_session_mark(&s, 46, 1));
+    show("rename the cell", dgn_session_rename(&s, 0, "417"));
     make_line(line, 8, 1);
-    show("insert a line at the cell's end", dgn_insert(file, sizeof file, used, journal, sizeof journal, jused, dimension, 0, 72, line, sizeof line, out, 2), out);
+    show("insert a line at the cell's end", dgn_session_insert(&s, 0, 72, line, sizeof line));
     make_line(line, 9, 0);
-    show("insert a line at the top", dgn_insert(file, sizeof file, used, journal, sizeof journal, jused, dimension, DGN_TOP, 0, line, sizeof line, out, 2), out);
-    show("remove the cell", dgn_remove(file, sizeof file, used, journal, sizeof journal, jused, dimension, 26, out, 2), out);
-    while (jused > 0) {
-        size_t number = dgn_undo(file, sizeof file, used, journal, sizeof journal, jused, dimension, out, 2);
-        show("undo", number, out);
-        if (number != 0)
+    show("insert a line at the top", dgn_session_insert(&s, DGN_TOP, 0, line, sizeof line));
+    show("remove the cell", dgn_session_remove(&s, 26));
+    history();
+    while (s.jused > 0) {
+        size_t r = dgn_session_undo(&s);
+        show("undo", r);
+        if (r != 0)
             return 1;
     }
-    show("undo", dgn_undo(file, sizeof file, used, journal, sizeof journal, jused, dimension, out, 2), out);
-    printf("the bytes are %s\n", memcmp(file, original, used) == 0 ? "the original's" : "others");
+    show("undo", dgn_session_undo(&s));
+    printf("the bytes are %s\n", memcmp(file, original, sizeof file) == 0 ? "the original's" : "others");
     return 0;
 }

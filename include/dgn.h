@@ -1,34 +1,43 @@
 /* dgn.h: reading, writing and editing Intergraph design files and cell libraries (DGN version 7).
  *
- * A file is `len` bytes at `file`: even, at most 1,048,576. A place is the index of a 16-bit word, from 0.
- * `dimension` is 2 or 3. Each pointer is followed by how many bytes or numbers it points to. No pointer may be null
- * unless that is 0, and what a function writes may not overlap what it reads; otherwise every input is allowed, and no
- * caller has to check a file first.
+ * What is handed in. A file is `len` bytes at `file`: even, at most DGN_FILE_BYTES. `dimension` is 2 or 3; the file
+ * does not tell. Each pointer is followed by how many bytes or numbers it points to. No pointer may be null unless that
+ * is 0, and what a function writes may not overlap what else it is handed; otherwise every input is allowed, and no
+ * caller has to check a file first. A size_t has 64 bits.
  *
- * Every function returns 0 where it is done, or the number of one refusal (14 and 16 to 19 are answers of editing):
- *    1 CALL         dimension, a length, a field out of its range, a used file without its end, an answer slice too short
- *    2 NO END       no word left where the end marker or an element is due
- *    3 CUT          an element or piece is cut off, or words are left over after a piece
- *    4 RESERVED     bit 6 of an element's first word is set
- *    5 PLACE        the component bit is wrong
- *    6 KIND         the type may not stand there, or is not read
- *    7 SHORT        an element is below its fixed part, or its number of points is out of range
- *    8 TOTAL        an extent or a size is wrong or above 65,535 words
- *    9 COUNT        a header's count differs from its components
- *   10 DEEP         nesting above depth 8
- *   11 LINKAGE      an attribute part is wrong
- *   12 NAME         a stored name or a text is wrong
- *   13 NO SUCH      place, point, linkage or name not there
- *   14 ALREADY      the deleted flag is already as wanted
- *   15 ROOM         an output or file buffer is too small
- *   16 JOURNAL      too few free journal words
- *   17 NOTHING      undo of an empty journal
- *   18 NOT A CELL   rename of another type
- *   19 BAD JOURNAL  the last record is ill-formed or its reversal is not allowed
+ * What comes back. Every function returns one number r: 0 where it is done, else a refusal, of which
+ *   DGN_NUMBER(r)  is its number, one of enum dgn_refusal,
+ *   DGN_PLACE(r)   its place: the word where the element at fault begins, of words left over after a piece the first
+ *                  of them, for DGN_NO_END the end of the file, else 0,
+ *   DGN_COUNT(r)   for DGN_NO_SUCH of dgn_find how many elements the file has, else 0.
+ * A REFUSAL CHANGES NO BYTE OF ANY SLICE, `out` AMONG THEM. Where a function is done, its answer stands at the front of
+ * `out`; each says how many numbers that needs, and what stands behind them stays. With fewer it returns 1.
  *
- * An answer goes to the front of a slice, `out`; each function says how many numbers it needs, and what stands behind
- * them stays. With fewer it returns 1 and writes nothing. Where it refuses otherwise, the first number is the refusal's
- * place and the rest stays (but see dgn_find). A refusal changes no byte of any other slice or buffer.
+ * Words. A place is the index of a 16-bit word of the file, from 0: byte 2 * place. Words are stored low byte first.
+ *   header       an element of type 1, 2, 7, 12, 14, 18 or 19: other elements, its components, follow its own words
+ *                and stand beneath it; a component may be a header again
+ *   depth        the number of headers above an element, 0 at the top
+ *   size         an element's own words, without its components
+ *   total        of a header: how many words follow its word 18, its own and those of all beneath it
+ *   extent       all of an element: a header's words with all beneath it (19 + total words), any other's own words
+ *   known types  those of enum dgn_type. All others are raw: of them only words 0 and 1 are judged; but 24, 27 and 87
+ *                are refused with DGN_KIND
+ *   file order   an element, then its components, then what follows its extent. Elements are numbered so, from 0, at
+ *                all depths and deleted ones too
+ *   end marker   the word 65535 where the next element at the top is due. What stands behind it is no part of the file
+ *   the file's own refusals   2 to 12, of the first fault in the file
+ *   a piece's own refusals    3 to 12, of the first fault in the piece that is to be inserted; the place counts from
+ *                             the piece's start
+ *
+ * Cost. Each call that is handed a file judges all of it: one pass, on the machine of docs/BENCH.md below a millisecond
+ * for 1 MiB. To read all elements use dgn_views and dgn_points, which make one pass for many elements; dgn_view and
+ * dgn_point make one for each. Nothing is allocated, and 256 KiB of stack are enough.
+ *
+ * Threads. The library keeps no state: calls may be made from any threads at once, on separate buffers. A buffer that a
+ * call writes to is no other thread's until it returns.
+ *
+ * Ranges and points. A range's six numbers are given as stored, unsigned; MicroStation stores coordinate + 2147483648
+ * there, while points are signed. So a point's x lies in the range where low x <= x + 2147483648 <= high x.
  */
 #ifndef DGN_H
 #define DGN_H
@@ -40,80 +49,233 @@
 extern "C" {
 #endif
 
+#define DGN_VERSION 0x000100
+#define DGN_VERSION_TEXT "0.1.0"
+
+/* A returned number taken apart. */
+#define DGN_NUMBER(r) ((r) & 255)
+#define DGN_PLACE(r) (DGN_NUMBER(r) == 13 ? 0 : (r) >> 8)
+#define DGN_COUNT(r) (DGN_NUMBER(r) == 13 ? (r) >> 8 : 0)
+
+/* Limits: bytes of a file, piece or buffer of a session; words of an extent; depth; points of an element. */
+#define DGN_FILE_BYTES 1048576
+#define DGN_EXTENT_WORDS 65535
+#define DGN_DEEPEST 8
+#define DGN_MOST_POINTS 101
+
+/* The end marker. */
+#define DGN_END_MARKER 65535
+
+/* ---- refusals ---- */
+
+/* 2 to 12 are of a file, a piece or what is handed to the writer, 14 and 16 to 19 of editing. The names of 5 and 9 are
+ * PLACE and COUNT; DGN_PLACE and DGN_COUNT take an answer apart. */
+enum dgn_refusal {
+    DGN_DONE = 0,
+    DGN_CALL = 1,         /* dimension, a length, a field out of its range, a used file without its end, a short `out` */
+    DGN_NO_END = 2,       /* no word left where the end marker or an element is due */
+    DGN_CUT = 3,          /* an element or piece is cut off, or words are left over after a piece */
+    DGN_RESERVED = 4,     /* bit 6 of an element's first word is set */
+    DGN_WRONG_PLACE = 5,  /* the component bit is set at the top or clear beneath a header */
+    DGN_KIND = 6,         /* the type may not stand there, or is not read */
+    DGN_SHORT = 7,        /* an element is below its fixed part, or its number of points is not 2 to 101 */
+    DGN_TOTAL = 8,        /* a total does not fit its element or what is around it, or more than 65,535 words */
+    DGN_WRONG_COUNT = 9,  /* a header's count differs from its components */
+    DGN_DEEP = 10,        /* nesting above depth 8 */
+    DGN_LINKAGE = 11,     /* an attribute part is wrong */
+    DGN_NAME = 12,        /* a stored name or a text is wrong */
+    DGN_NO_SUCH = 13,     /* place, point, linkage or name not there */
+    DGN_ALREADY = 14,     /* the deleted flag is already as wanted */
+    DGN_ROOM = 15,        /* an output or file buffer is too small */
+    DGN_JOURNAL = 16,     /* too few free journal words */
+    DGN_NOTHING = 17,     /* the journal is empty */
+    DGN_NOT_A_CELL = 18,  /* rename of another type */
+    DGN_BAD_JOURNAL = 19  /* the last record is ill-formed, or may not be reversed in this file */
+};
+
+/* The name of a refusal, as "NO END", and a plain sentence on it. r is its number or all that a function returned; 0 is
+ * "DONE", and what is none of these "UNKNOWN". The texts are constant. */
+const char *dgn_refusal_name(size_t r);
+const char *dgn_refusal_text(size_t r);
+
 /* ---- files ---- */
 
-/* Judges a whole file. out needs 3: elements at all depths, greatest depth, the end marker's place.
+enum dgn_type {
+    DGN_LIBRARY_CELL = 1,
+    DGN_CELL = 2,
+    DGN_LINE = 3,
+    DGN_LINE_STRING = 4,
+    DGN_SHAPE = 6,
+    DGN_TEXT_NODE = 7,
+    DGN_CURVE = 11,
+    DGN_COMPLEX_CHAIN = 12,
+    DGN_COMPLEX_SHAPE = 14,
+    DGN_TEXT = 17,
+    DGN_SURFACE = 18,     /* 18 and 19 in 3D files alone */
+    DGN_SOLID = 19,
+    DGN_BSPLINE_POLE = 21
+};
+
+/* Judges a whole file. out needs 3: how many elements it has, the greatest depth, the end marker's place.
  * Refusals: 1 to 12. */
+enum { DGN_JUDGE_ELEMENTS, DGN_JUDGE_DEPTH, DGN_JUDGE_MARKER };
+#define DGN_JUDGE_NUMBERS 3
 size_t dgn_judge(const uint8_t *file, size_t len, size_t dimension, size_t *out, size_t out_len);
 
 /* The first type 1 or 2 cell with the name, deleted ones too. out needs 2: its place, and how many elements were looked
- * at. Refusals: 1, the file's own (2 to 12), 12 for the text, 13; out[1] is then the count of all elements for 13,
- * else 0. */
+ * at. Refusals: 1, the file's own, 12 for the text at 0, 13 with DGN_COUNT(r). */
+enum { DGN_FIND_PLACE, DGN_FIND_LOOKED };
+#define DGN_FIND_NUMBERS 2
 size_t dgn_find(const uint8_t *file, size_t len, size_t dimension, const uint8_t *text, size_t text_len, size_t *out, size_t out_len);
 
-/* ---- one element: the one that starts at `place`. Refusals of each: 1, the file's own (2 to 12), 13 ---- */
+/* ---- all elements: those number k, k+1, .. in file order. Refusals of both: 1, the file's own, 15 ---- */
+
+/* A view of an element is 32 numbers. Those of a part that it does not have are all 0. */
+enum dgn_view_index {
+    DGN_VIEW_LEVEL = 0,
+    DGN_VIEW_COMPONENT = 1,       /* the component bit C */
+    DGN_VIEW_TYPE = 2,
+    DGN_VIEW_DELETED = 3,
+    DGN_VIEW_SIZE = 4,
+    DGN_VIEW_DEPTH = 5,
+    DGN_VIEW_HAS_HEADER = 6,      /* 1 if it stands beneath a header */
+    DGN_VIEW_HEADER = 7,          /* the direct header's place */
+    DGN_VIEW_HAS_RANGE = 8,       /* 1 for 14 words or more */
+    DGN_VIEW_LOW_X = 9,
+    DGN_VIEW_LOW_Y = 10,
+    DGN_VIEW_LOW_Z = 11,
+    DGN_VIEW_HIGH_X = 12,
+    DGN_VIEW_HIGH_Y = 13,
+    DGN_VIEW_HIGH_Z = 14,
+    DGN_VIEW_HAS_DISPLAY = 15,    /* 1 for known types other than 1: the next six */
+    DGN_VIEW_GROUP = 16,          /* graphic group */
+    DGN_VIEW_ATTRIBUTE_INDEX = 17,
+    DGN_VIEW_PROPERTIES = 18,     /* with DGN_HAS_ATTRIBUTES */
+    DGN_VIEW_STYLE = 19,
+    DGN_VIEW_WEIGHT = 20,
+    DGN_VIEW_COLOUR = 21,
+    DGN_VIEW_HAS_POINTS = 22,     /* 1 for types 4, 6, 11, 21: their number of points; type 3 has always two */
+    DGN_VIEW_POINTS = 23,
+    DGN_VIEW_HAS_NAME = 24,       /* 1 for types 1, 2: the two words of their name, see dgn_unpack */
+    DGN_VIEW_NAME = 25,
+    DGN_VIEW_NAME_2 = 26,
+    DGN_VIEW_HAS_TOTAL = 27,      /* 1 for headers */
+    DGN_VIEW_TOTAL = 28,
+    DGN_VIEW_HAS_COUNT = 29,      /* 1 for types 7, 12, 14, 18, 19: their number of direct components */
+    DGN_VIEW_COUNT = 30,
+    DGN_VIEW_PLACE = 31
+};
+#define DGN_VIEW_NUMBERS 32
+
+/* The bit of the properties that says that there are linkages. */
+#define DGN_HAS_ATTRIBUTES 2048
+
+/* The views of the elements number k, k+1, .., as many as `views` holds whole; what stands behind them stays. out needs
+ * 1: how many views, 0 where no element is left. 15 where one is left and `views` has fewer than 32 numbers. */
+size_t dgn_views(const uint8_t *file, size_t len, size_t dimension, size_t k, int64_t *views, size_t views_len, size_t *out, size_t out_len);
+
+/* The points of the elements number k, k+1, .. that have any (types 3, 4, 6, 11 and 21). Each such element gives its
+ * place, its number of points n, and n * dimension coordinates, signed, one point after another; as many elements as
+ * `numbers` holds whole, and what stands behind them stays. out needs 2: the number of the element to go on with, which
+ * is the first that did not fit or, where none is left, how many elements there are (k where it is larger); and how many
+ * numbers were written. 15 where not even the first fits: DGN_POINTS_ROOM numbers are enough for any element. */
+enum { DGN_POINTS_NEXT, DGN_POINTS_WRITTEN };
+#define DGN_POINTS_NUMBERS 2
+#define DGN_POINTS_ROOM 305
+size_t dgn_points(const uint8_t *file, size_t len, size_t dimension, size_t k, int64_t *numbers, size_t numbers_len, size_t *out, size_t out_len);
+
+/* ---- one element: the one that starts at `place`. Refusals of each: 1, the file's own, 13 ---- */
 
 /* Its extent. out needs 2: its first word and the word after its last. */
+enum { DGN_EXTENT_FIRST, DGN_EXTENT_END };
+#define DGN_EXTENT_NUMBERS 2
 size_t dgn_extent(const uint8_t *file, size_t len, size_t dimension, size_t place, size_t *out, size_t out_len);
 
-/* A view of it. out needs 32, those of a part that it does not have all 0:
- *    0 level   1 component bit C   2 type   3 deleted   4 size, its own words   5 depth
- *    6 1 if it stands under a header   7 the direct header's place
- *    8 1 if it has a range (14 words or more)   9-11 low x y z   12-14 high x y z, unsigned
- *   15 1 for known types other than 1   16 graphic group   17 attribute index   18 properties
- *   19 style   20 weight   21 colour
- *   22 1 for types 4, 6, 11, 21   23 their number of points
- *   24 1 for types 1, 2   25-26 the two words of their name, see dgn_unpack
- *   27 1 for headers   28 their total
- *   29 1 for types 7, 12, 14, 18, 19   30 their count of direct components
- *   31 0 */
-size_t dgn_view(const uint8_t *file, size_t len, size_t dimension, size_t place, size_t *out, size_t out_len);
+/* Its view. out needs 32. */
+size_t dgn_view(const uint8_t *file, size_t len, size_t dimension, size_t place, int64_t *out, size_t out_len);
 
-/* Point k of types 3, 4, 6, 11 and 21, from 0. out needs 3: x, y, z; z is 0 in a 2D file. 13 where there is none. */
+/* Point k, from 0, of types 3, 4, 6, 11 and 21. out needs 3: x, y, z; z is 0 in a 2D file. 13 where there is none. */
+enum { DGN_POINT_X, DGN_POINT_Y, DGN_POINT_Z };
+#define DGN_POINT_NUMBERS 3
 size_t dgn_point(const uint8_t *file, size_t len, size_t dimension, size_t place, size_t k, int64_t *out, size_t out_len);
 
 /* Linkage k, from 0. out needs 4: 1 for a user linkage, place, size in words, id. 13 where there is none. */
+enum { DGN_LINKAGE_USER, DGN_LINKAGE_PLACE, DGN_LINKAGE_SIZE, DGN_LINKAGE_ID };
+#define DGN_LINKAGE_NUMBERS 4
 size_t dgn_linkage(const uint8_t *file, size_t len, size_t dimension, size_t place, size_t k, size_t *out, size_t out_len);
 
 /* ---- names ---- */
 
 /* A text of 0 to 6 letters (space, A-Z, $, ., 0-9, no trailing space) to two words. out needs 2. Refusals: 1, 12. */
+#define DGN_NAME_LETTERS 6
+#define DGN_NAME_NUMBERS 2
 size_t dgn_pack(const uint8_t *text, size_t text_len, size_t *out, size_t out_len);
 
-/* Two words to their text. text needs 7: the letters, then zeros, so that it ends as a string does; what stands behind
- * them stays. Refusals, each at place 0, which is not written: 1 (also with fewer than 7), 12. A refusal leaves every
- * byte of text as it was. */
+/* Two words to their text. text needs 7 bytes: the letters, then zeros, so that it ends as a string does; what stands
+ * behind them stays. Refusals: 1 (also with fewer than 7), 12. */
+#define DGN_TEXT_BYTES 7
 size_t dgn_unpack(size_t first, size_t second, uint8_t *text, size_t text_len);
 
 /* ---- writing ---- */
 
+/* The fields of an element to write: all words and longs as stored, so the range unsigned. */
+enum dgn_write_index {
+    DGN_WRITE_TYPE = 0,           /* 3, 4, 6 or 11 */
+    DGN_WRITE_LEVEL = 1,          /* to 63 */
+    DGN_WRITE_COMPONENT = 2,      /* C: 1 for one that is to stand beneath a header, else 0 */
+    DGN_WRITE_DELETED = 3,        /* 0 or 1 */
+    DGN_WRITE_LOW_X = 4,
+    DGN_WRITE_LOW_Y = 5,
+    DGN_WRITE_LOW_Z = 6,
+    DGN_WRITE_HIGH_X = 7,
+    DGN_WRITE_HIGH_Y = 8,
+    DGN_WRITE_HIGH_Z = 9,
+    DGN_WRITE_GROUP = 10,
+    DGN_WRITE_ATTRIBUTE_INDEX = 11, /* where linkages begin, counted from word 16 */
+    DGN_WRITE_PROPERTIES = 12,    /* with DGN_HAS_ATTRIBUTES where the tail has linkages */
+    DGN_WRITE_STYLE = 13,         /* to 7 */
+    DGN_WRITE_WEIGHT = 14,        /* to 31 */
+    DGN_WRITE_COLOUR = 15         /* to 255 */
+};
+#define DGN_WRITE_FIELDS 16
+
 /* Writes an element of type 3, 4, 6 or 11 to the front of `buffer`, whose bytes behind it stay. out needs 1: how many
  * words were written. Size and number of points follow from the rest.
- *   fields  16 numbers: type, level, C (0 or 1), deleted (0 or 1), low x y z, high x y z, graphic group, attribute
- *           index, properties, style, weight, colour
+ *   fields  the 16 numbers above
  *   points  all coordinates, one point after another
- *   tail    all words after the fixed part, as bytes
+ *   tail    all words after the fixed part, as bytes; the fixed part of a line has 26 words (3D: 30), that of the
+ *           others 19 and two for each coordinate
  * Refusals, in this order, each at place 0: 1 (also fields of another number than 16, another type, not two points for
  * type 3, not a whole number of points, an odd tail), 7 (points not 2 to 101), 8 (above 65,535 words), 11, 15. */
 size_t dgn_write(const size_t *fields, size_t fields_len, const int32_t *points, size_t points_len, const uint8_t *tail, size_t tail_len, size_t dimension, uint8_t *buffer, size_t buffer_len, size_t *out, size_t out_len);
 
-/* ---- editing ----
+/* ---- editing (dgn_session.h has the same calls with the buffers and used lengths in a struct) ----
  *
  * A session is two buffers, each with a used length in bytes that the caller keeps: the first `used` bytes of `file`
  * are the file through its end marker, the first `jused` bytes of `journal` the records of the edits made, none at
- * first. Buffers and used lengths are even, and a buffer has at most 1,048,576 bytes. out needs 2.
+ * first. Buffers and used lengths are even, and a buffer has at most DGN_FILE_BYTES. out needs 2. Of a file that may be
+ * longer than its end marker dgn_judge gives the marker's place, and `used` is 2 * place + 2.
  *
  * A call that is made gives the new used lengths of file and journal in bytes: hand them to the next call. An edit
  * writes its record behind the journal's used bytes. Insert and remove move the rest of the file and correct the total
  * of every header around the place and the direct header's count; bytes freed at the file's end become 0. All other
- * bytes stay. A refusal changes no byte of either buffer; out[0] is its place, and the used lengths are as they were.
+ * bytes stay. After a refusal all bytes and both used lengths are as they were.
+ *
+ * That every edit can be undone, byte for byte, holds for one pair of buffers and one dimension from the first call on;
+ * longer buffers begin a new session. Nothing in a journal names its file: DGN_BAD_JOURNAL says that the last record is
+ * ill-formed or that its reversal is not allowed in this file, and it can see no more. The journal of another file, or
+ * of another state of this one, is obeyed where its last record fits by chance, and the file is then changed. The caller
+ * keeps file and journal together, and saves both or none.
  *
  * A record is its payload, then six words: kind (1 mark, 2 rename, 3 insert, 4 remove), the header's place (-1 for the
  * top and for kinds 1 and 2) and the place, each two words with the high one first, and the number of payload words.
  * The payload is for a rename the two old words of the name, for a remove the words removed, else none.
  *
  * Refusals of each call, in this order: 1 (also a used length beyond its buffer, a used file whose last word is not
- * 65535), the file's own (2 to 12), 1 where the end marker stands before the last used word, then those named below. */
+ * 65535), the file's own, 1 where the end marker stands before the last used word, then those named below. */
+
+enum { DGN_EDIT_USED, DGN_EDIT_JOURNAL_USED };
+#define DGN_EDIT_NUMBERS 2
 
 /* The top of the file, for a header's place. */
 #define DGN_TOP ((size_t)-1)
@@ -125,11 +287,10 @@ size_t dgn_mark(uint8_t *file, size_t file_len, size_t used, uint8_t *journal, s
 /* Renames the type 1 or 2 cell at `place`; for the text see dgn_pack. Then 13, 18, 12 at 0 for the text, 16. */
 size_t dgn_rename(uint8_t *file, size_t file_len, size_t used, uint8_t *journal, size_t journal_len, size_t jused, size_t dimension, size_t place, const uint8_t *text, size_t text_len, size_t *out, size_t out_len);
 
-/* Inserts a piece, one element with all beneath it, under the header at `header` or at DGN_TOP, at a place where a
+/* Inserts a piece, one element with all beneath it, beneath the header at `header` or at DGN_TOP, at a place where a
  * direct component starts or the list ends: at the end of the header's extent, at the top before the end marker. A
- * piece of odd length or above 1,048,576 bytes is 1. Then 13 (also where `header` is none), the piece's own 3 to 12 and
- * 9 with a place within the piece, 3 for words left over at the first of them, 8 at the outermost header that would
- * grow too large, 15, 16. */
+ * piece of odd length or above DGN_FILE_BYTES is 1. Then 13 (also where `header` is none), the piece's own, 3 for words
+ * left over at the first of them, 8 at the outermost header that would grow too large, 15, 16. */
 size_t dgn_insert(uint8_t *file, size_t file_len, size_t used, uint8_t *journal, size_t journal_len, size_t jused, size_t dimension, size_t header, size_t place, const uint8_t *piece, size_t piece_len, size_t *out, size_t out_len);
 
 /* Removes the element at `place` with all beneath it. Then 13, 16. */
@@ -138,6 +299,15 @@ size_t dgn_remove(uint8_t *file, size_t file_len, size_t used, uint8_t *journal,
 /* Undoes the last edit not undone: reverses the journal's last record and takes it off. The journal's bytes stay, only
  * its used length falls. Then 17, 19, 15. */
 size_t dgn_undo(uint8_t *file, size_t file_len, size_t used, const uint8_t *journal, size_t journal_len, size_t jused, size_t dimension, size_t *out, size_t out_len);
+
+/* The last record of a journal, without its file. out needs 5: kind, the header's place (DGN_TOP for -1), the place,
+ * how many payload words, and the used length before the record, where its payload begins: with that as `jused` the next
+ * call gives the record before it, so that a host can show what was done, the newest first. Refusals: 1 (journal or its
+ * used length), 17, 19 where the record is ill-formed (whether it may be reversed is not asked). */
+enum { DGN_RECORD_KIND, DGN_RECORD_HEADER, DGN_RECORD_PLACE, DGN_RECORD_PAYLOAD, DGN_RECORD_BEFORE };
+#define DGN_RECORD_NUMBERS 5
+enum dgn_record_kind { DGN_MARK = 1, DGN_RENAME = 2, DGN_INSERT = 3, DGN_REMOVE = 4 };
+size_t dgn_record(const uint8_t *journal, size_t journal_len, size_t jused, size_t *out, size_t out_len);
 
 #ifdef __cplusplus
 }

@@ -8,9 +8,7 @@
 #include <stdlib.h>
 #include <string.h>
 
-#include "../include/dgn.h"
-
-enum { LIBRARY_CELL = 1, CELL = 2, LINE = 3, LINE_STRING = 4, SHAPE = 6, CURVE = 11 };
+#include "dgn.h"
 
 static uint8_t file[65536];
 static size_t used;  /* words of it that are made */
@@ -38,11 +36,25 @@ static void draw(size_t type, size_t deleted, const int32_t *points, size_t n, c
         if (v < range[k % 2]) range[k % 2] = v;
         if (v > range[3 + k % 2]) range[3 + k % 2] = v;
     }
-    size_t fixed = type == LINE ? 26 : 19 + 2 * n;
-    const size_t fields[16] = {type, 1, depth > 0, deleted, range[0], range[1], range[2], range[3], range[4], range[5],
-                               0, fixed - 16, tail_len > 0 ? 2048 : 0, 0, 1, 3};
+    size_t fixed = type == DGN_LINE ? 26 : 19 + 2 * n;
+    const size_t fields[DGN_WRITE_FIELDS] = {
+        [DGN_WRITE_TYPE] = type,
+        [DGN_WRITE_LEVEL] = 1,
+        [DGN_WRITE_COMPONENT] = depth > 0,
+        [DGN_WRITE_DELETED] = deleted,
+        [DGN_WRITE_LOW_X] = range[0],
+        [DGN_WRITE_LOW_Y] = range[1],
+        [DGN_WRITE_LOW_Z] = range[2],
+        [DGN_WRITE_HIGH_X] = range[3],
+        [DGN_WRITE_HIGH_Y] = range[4],
+        [DGN_WRITE_HIGH_Z] = range[5],
+        [DGN_WRITE_ATTRIBUTE_INDEX] = fixed - 16,
+        [DGN_WRITE_PROPERTIES] = tail_len > 0 ? DGN_HAS_ATTRIBUTES : 0,
+        [DGN_WRITE_WEIGHT] = 1,
+        [DGN_WRITE_COLOUR] = 3,
+    };
     size_t out[1];
-    if (dgn_write(fields, 16, points, n, tail, tail_len, 2, file + 2 * used, sizeof file - 2 * used, out, 1) != 0)
+    if (dgn_write(fields, DGN_WRITE_FIELDS, points, n, tail, tail_len, 2, file + 2 * used, sizeof file - 2 * used, out, 1) != 0)
         stop("an element is not written");
     used += out[0];
 }
@@ -55,7 +67,7 @@ static void draw(size_t type, size_t deleted, const int32_t *points, size_t n, c
 /* Begins a cell: its header. What is drawn until it is ended stands under it. */
 static size_t begin(size_t type, const char *name)
 {
-    size_t at = used, size = type == LIBRARY_CELL ? 35 : 46, name_at = type == LIBRARY_CELL ? 16 : 19, out[2];
+    size_t at = used, size = type == DGN_LIBRARY_CELL ? 35 : 46, name_at = type == DGN_LIBRARY_CELL ? 16 : 19, out[2];
     if (dgn_pack((const uint8_t *)name, strlen(name), out, 2) != 0) stop("a name is not packed");
     memset(file + 2 * at, 0, 2 * size);
     put(at, type << 8 | (depth > 0 ? 128 : 0));
@@ -76,19 +88,19 @@ static void end(size_t at)
 
 static void marker(void)
 {
-    put(used, 65535);
+    put(used, DGN_END_MARKER);
     used++;
 }
 
-/* Judges the file, holds the answer to the expected one (0 with elements, greatest depth and the marker's place, or a
- * number and a place) and writes the file. */
-static void keep(const char *folder, const char *name, size_t number, size_t a, size_t b, size_t c)
+/* Judges the file, holds what is returned to the expected number and, where that is 0, elements, greatest depth and the
+ * marker's place to theirs, and writes the file. */
+static void keep(const char *folder, const char *name, size_t answer, size_t elements, size_t deepest, size_t end_at)
 {
     char path[4096];
-    size_t out[3];
-    size_t answer = dgn_judge(file, 2 * used, 2, out, 3);
-    if (answer != number || out[0] != a || (number == 0 && (out[1] != b || out[2] != c))) {
-        fprintf(stderr, "make: %s: %zu %zu, not as expected\n", name, answer, out[0]);
+    size_t out[DGN_JUDGE_NUMBERS] = {0};
+    size_t r = dgn_judge(file, 2 * used, 2, out, DGN_JUDGE_NUMBERS);
+    if (r != answer || out[DGN_JUDGE_ELEMENTS] != elements || out[DGN_JUDGE_DEPTH] != deepest || out[DGN_JUDGE_MARKER] != end_at) {
+        fprintf(stderr, "make: %s: %s at %zu, not as expected\n", name, dgn_refusal_name(r), DGN_PLACE(r));
         exit(1);
     }
     snprintf(path, sizeof path, "%s/%s", folder, name);
@@ -109,24 +121,24 @@ static void find(const char *text, size_t place)
 /* A cell library: four parts, the seals 00417 and 417 among them. */
 static void seals(const char *folder)
 {
-    size_t at = begin(LIBRARY_CELL, "00417");
-    DRAW(SHAPE, -40, -40, 40, -40, 40, 40, -40, 40, -40, -40);
-    DRAW(LINE, -50, 0, 50, 0);
-    DRAW(LINE, 0, -50, 0, 50);
-    DRAW(CURVE, 30, -30, 30, 0, 30, 0, 0, 30, -30, 0, 0, -30, 30, 0, 30, 0, 30, 30);
+    size_t at = begin(DGN_LIBRARY_CELL, "00417");
+    DRAW(DGN_SHAPE, -40, -40, 40, -40, 40, 40, -40, 40, -40, -40);
+    DRAW(DGN_LINE, -50, 0, 50, 0);
+    DRAW(DGN_LINE, 0, -50, 0, 50);
+    DRAW(DGN_CURVE, 30, -30, 30, 0, 30, 0, 0, 30, -30, 0, 0, -30, 30, 0, 30, 0, 30, 30);
     end(at);
 
-    size_t second = begin(LIBRARY_CELL, "417");
-    DRAW(LINE_STRING, -90, 20, -70, 0, 70, 0, 90, 20);
-    DRAW(SHAPE, -10, 0, 10, 0, 0, 15, -10, 0);
+    size_t second = begin(DGN_LIBRARY_CELL, "417");
+    DRAW(DGN_LINE_STRING, -90, 20, -70, 0, 70, 0, 90, 20);
+    DRAW(DGN_SHAPE, -10, 0, 10, 0, 0, 15, -10, 0);
     end(second);
 
-    size_t third = begin(LIBRARY_CELL, "PUMP.1");
-    DRAW(SHAPE, 0, 0, 300, 0, 300, 200, 0, 200, 0, 0);
-    DRAW(LINE, 300, 100, 420, 100);
+    size_t third = begin(DGN_LIBRARY_CELL, "PUMP.1");
+    DRAW(DGN_SHAPE, 0, 0, 300, 0, 300, 200, 0, 200, 0, 0);
+    DRAW(DGN_LINE, 300, 100, 420, 100);
     end(third);
 
-    size_t fourth = begin(LIBRARY_CELL, "EMPTY");
+    size_t fourth = begin(DGN_LIBRARY_CELL, "EMPTY");
     end(fourth);
     marker();
 
@@ -141,7 +153,7 @@ static void shortened(const char *folder)
 {
     memmove(file + 2 * 100, file + 2 * 126, 2 * (used - 126));
     used -= 26;
-    keep(folder, "shortened.cel", 3, 155, 0, 0);
+    keep(folder, "shortened.cel", DGN_CUT + 256 * 155, 0, 0, 0);
 }
 
 /* A drawing: cells in cells, a deleted line, a line with a user linkage of four words and id 417. */
@@ -150,18 +162,18 @@ static void nested(const char *folder)
     static const uint8_t linkage[8] = {3, 16, 417 & 255, 417 >> 8, 7, 0, 0, 0};
 
     used = 0;
-    DRAW(LINE, 0, 0, 1000, 0);
-    size_t pump = begin(CELL, "PUMP.1");
-    DRAW(SHAPE, 0, 0, 300, 0, 300, 200, 0, 200, 0, 0);
-    size_t seal = begin(CELL, "00417");
-    DELETED(LINE, 250, 100, 350, 100);
-    size_t ring = begin(CELL, "RING");
-    DRAW(CURVE, 330, 70, 330, 100, 330, 100, 300, 130, 270, 100, 300, 70, 330, 100, 330, 100, 330, 130);
+    DRAW(DGN_LINE, 0, 0, 1000, 0);
+    size_t pump = begin(DGN_CELL, "PUMP.1");
+    DRAW(DGN_SHAPE, 0, 0, 300, 0, 300, 200, 0, 200, 0, 0);
+    size_t seal = begin(DGN_CELL, "00417");
+    DELETED(DGN_LINE, 250, 100, 350, 100);
+    size_t ring = begin(DGN_CELL, "RING");
+    DRAW(DGN_CURVE, 330, 70, 330, 100, 330, 100, 300, 130, 270, 100, 300, 70, 330, 100, 330, 100, 330, 130);
     end(ring);
     end(seal);
-    draw(LINE, 0, POINTS(300, 100, 420, 100), linkage, sizeof linkage);
+    draw(DGN_LINE, 0, POINTS(300, 100, 420, 100), linkage, sizeof linkage);
     end(pump);
-    DRAW(LINE_STRING, 0, 0, 0, 500, 1000, 500);
+    DRAW(DGN_LINE_STRING, 0, 0, 0, 500, 1000, 500);
     marker();
     keep(folder, "nested.dgn", 0, 9, 3, 345);
 }

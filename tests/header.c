@@ -1,10 +1,10 @@
-/* Every function of include/dgn.h, called from C as the header declares it, on the worked cell of docs/RULES.md: a 2D
- * cell of 46 words named 00417 with one line of 26 words, marked deleted, and the end marker. Its last line is
- * "N passed, M failed". */
+/* Every function of include/dgn.h and dgn_session.h, called from C as the headers declare it, on the worked cell of
+ * docs/RULES.md: a 2D cell of 46 words named 00417 with one line of 26 words, marked deleted, and the end marker. A
+ * refusal leaves every number of the slices that it is handed. Its last line is "N passed, M failed". */
 #include <stdio.h>
 #include <string.h>
 
-#include "../include/dgn.h"
+#include "dgn_session.h"
 
 static size_t passed, failed;
 
@@ -18,14 +18,55 @@ static void check(int holds, const char *what)
     }
 }
 
-/* whether the first n numbers are these */
-static int are(const size_t *out, size_t n, const size_t *these)
+/* the slices for answers, filled with a number before each call */
+enum { ROOM = 100, FILL = 7777 };
+static size_t out[ROOM];
+static int64_t numbers[ROOM];
+
+static size_t *fresh(void)
 {
-    return memcmp(out, these, n * sizeof *out) == 0;
+    for (size_t i = 0; i < ROOM; i++)
+        out[i] = FILL;
+    return out;
 }
 
+static int64_t *fresh_numbers(void)
+{
+    for (size_t i = 0; i < ROOM; i++)
+        numbers[i] = FILL;
+    return numbers;
+}
+
+/* whether the first n numbers of out are these and all behind them as they were */
+static int are(size_t n, const size_t *these)
+{
+    for (size_t i = 0; i < ROOM; i++)
+        if (out[i] != (i < n ? these[i] : FILL))
+            return 0;
+    return 1;
+}
+
+static int numbers_are(size_t n, const int64_t *these)
+{
+    for (size_t i = 0; i < ROOM; i++)
+        if (numbers[i] != (i < n ? these[i] : FILL))
+            return 0;
+    return 1;
+}
+
+/* whether a call was refused so, and wrote nowhere */
+static int refused(size_t r, size_t number, size_t detail)
+{
+    const size_t place = number == DGN_NO_SUCH ? 0 : detail;
+    return DGN_NUMBER(r) == number && DGN_PLACE(r) == place && DGN_COUNT(r) == detail - place && are(0, NULL) && numbers_are(0, NULL);
+}
+
+#define ARE(...) are(sizeof((size_t[]){__VA_ARGS__}) / sizeof(size_t), (size_t[]){__VA_ARGS__})
+#define NUMBERS_ARE(...) numbers_are(sizeof((int64_t[]){__VA_ARGS__}) / sizeof(int64_t), (int64_t[]){__VA_ARGS__})
+#define TEXT(text) (const uint8_t *)text, sizeof text - 1
+
 static uint8_t file[146];
-static const size_t words = 73;
+static const size_t len = sizeof file;
 
 static void put(size_t i, unsigned word)
 {
@@ -33,78 +74,186 @@ static void put(size_t i, unsigned word)
     file[2 * i + 1] = word >> 8;
 }
 
-int main(void)
-{
-    size_t out[32];
-    int64_t xyz[3];
-    uint8_t text[7];
-    uint8_t line[54];
-    uint8_t journal[100];
+/* the numbers of the cell's view and of the line's */
+#define CELL 0, 0, 2, 0, 46, 0, 0, 0, 1, 0, 0, 0, 0, 0, 0, 1, 0, 0, 0, 0, 0, 0, 0, 0, 1, 49234, 51080, 1, 53, 0, 0, 0
+#define LINE 5, 1, 3, 1, 26, 1, 1, 0, 1, 10, 11, 12, 13, 14, 4294967295, 1, 15, 16, 17, 2, 3, 4, 0, 0, 0, 0, 0, 0, 0, 0, 0, 46
 
-    put(0, 2 << 8);
+/* the file: the line is written where the cell's own words end: level 5, C and deleted set, from (1, -2) to (65538, 7) */
+static void writing(void)
+{
+    const size_t fields[DGN_WRITE_FIELDS] = {3, 5, 1, 1, 10, 11, 12, 13, 14, 4294967295, 15, 16, 17, 2, 3, 4};
+    const int32_t points[4] = {1, -2, 65538, 7};
+    uint8_t line[54];
+    put(0, DGN_CELL << 8);
     put(1, 44);
     put(18, 53);
     put(19, 49234);
     put(20, 51080);
-    put(72, 65535);
+    put(72, DGN_END_MARKER);
 
-    /* the line, written where the cell's own words end: level 5, C and deleted set, from (1, -2) to (65538, 7) */
-    const size_t fields[16] = {3, 5, 1, 1, 10, 11, 12, 13, 14, 4294967295, 15, 16, 17, 2, 3, 4};
-    const int32_t points[4] = {1, -2, 65538, 7};
     memset(line, 9, sizeof line);
-    check(dgn_write(fields, 16, points, 4, NULL, 0, 2, line, 51, out, 1) == 15 && out[0] == 0 && line[0] == 9, "no room");
-    check(dgn_write(fields, 15, points, 4, NULL, 0, 2, line, 54, out, 1) == 1 && out[0] == 0 && line[0] == 9, "fields");
-    check(dgn_write(fields, 16, points, 4, NULL, 0, 2, line, 54, out, 1) == 0 && out[0] == 26, "write");
+    check(refused(dgn_write(fields, 16, points, 4, NULL, 0, 2, line, 51, fresh(), 1), DGN_ROOM, 0) && line[0] == 9, "no room");
+    check(refused(dgn_write(fields, 15, points, 4, NULL, 0, 2, line, 54, fresh(), 1), DGN_CALL, 0) && line[0] == 9, "fields");
+    check(refused(dgn_write(fields, 16, points, 4, NULL, 0, 2, line, 54, fresh(), 0), DGN_CALL, 0) && line[0] == 9, "no out");
+    check(dgn_write(fields, 16, points, 4, NULL, 0, 2, line, 54, fresh(), 1) == 0 && ARE(26), "write");
     check(line[52] == 9 && line[53] == 9, "bytes behind the element");
     memcpy(file + 92, line, 52);
     /* a long is two words, high word first: 65538 is 01 00 02 00, -2 is FF FF FE FF */
     check(memcmp(file + 92 + 44, "\1\0\2\0", 4) == 0 && memcmp(file + 92 + 40, "\377\377\376\377", 4) == 0, "longs");
+}
 
-    check(dgn_judge(file, 2 * words, 2, out, 3) == 0 && are(out, 3, (size_t[]){2, 1, 72}), "judge");
-    check(dgn_judge(file, 2 * words - 1, 2, out, 3) == 1 && out[0] == 0, "an odd length");
-    check(dgn_find(file, 2 * words, 2, (const uint8_t *)"00417", 5, out, 2) == 0 && are(out, 2, (size_t[]){0, 1}), "find");
-    check(dgn_find(file, 2 * words, 2, (const uint8_t *)"417", 3, out, 2) == 13 && are(out, 2, (size_t[]){0, 2}), "not 417");
-    check(dgn_extent(file, 2 * words, 2, 0, out, 2) == 0 && are(out, 2, (size_t[]){0, 72}), "extent");
-    check(dgn_extent(file, 2 * words, 2, 45, out, 2) == 13 && out[0] == 0, "no such place");
+static void reading(void)
+{
+    check(dgn_judge(file, len, 2, fresh(), 3) == 0 && ARE(2, 1, 72), "judge");
+    check(refused(dgn_judge(file, len - 1, 2, fresh(), 3), DGN_CALL, 0), "an odd length");
+    check(refused(dgn_judge(file, len, 2, fresh(), 2), DGN_CALL, 0), "two numbers for three");
+    check(refused(dgn_judge(file, len - 2, 2, fresh(), 3), DGN_NO_END, 72), "no end");
+    check(dgn_find(file, len, 2, TEXT("00417"), fresh(), 2) == 0 && ARE(0, 1), "find");
+    check(refused(dgn_find(file, len, 2, TEXT("417"), fresh(), 2), DGN_NO_SUCH, 2), "not 417, and the count");
+    check(refused(dgn_find(file, len, 2, TEXT("a"), fresh(), 2), DGN_NAME, 0), "no name");
+    check(dgn_extent(file, len, 2, 0, fresh(), 2) == 0 && ARE(0, 72), "extent");
+    check(refused(dgn_extent(file, len, 2, 45, fresh(), 2), DGN_NO_SUCH, 0), "no such place");
+    file[92] ^= 64;
+    check(refused(dgn_extent(file, len, 2, 0, fresh(), 2), DGN_RESERVED, 46), "the file's own refusal");
+    file[92] ^= 64;
 
-    const size_t cell[32] = {0, 0, 2, 0, 46, 0, 0, 0, 1, 0, 0, 0, 0, 0, 0, 1, 0, 0, 0, 0, 0, 0, 0, 0, 1, 49234, 51080, 1, 53};
-    const size_t its[32] = {5, 1, 3, 1, 26, 1, 1, 0, 1, 10, 11, 12, 13, 14, 4294967295, 1, 15, 16, 17, 2, 3, 4};
-    check(dgn_view(file, 2 * words, 2, 0, out, 32) == 0 && are(out, 32, cell), "view of the cell");
-    check(dgn_view(file, 2 * words, 2, 46, out, 32) == 0 && are(out, 32, its), "view of the line");
-    check(dgn_point(file, 2 * words, 2, 46, 1, xyz, 3) == 0 && xyz[0] == 65538 && xyz[1] == 7 && xyz[2] == 0, "point 1");
-    check(dgn_point(file, 2 * words, 2, 46, 0, xyz, 3) == 0 && xyz[0] == 1 && xyz[1] == -2, "point 0");
-    check(dgn_point(file, 2 * words, 2, 46, 2, xyz, 3) == 13 && xyz[0] == 0, "no point 2");
-    check(dgn_linkage(file, 2 * words, 2, 46, 0, out, 4) == 13 && out[0] == 0, "no linkage");
+    fresh();
+    check(dgn_view(file, len, 2, 0, fresh_numbers(), 32) == 0 && NUMBERS_ARE(CELL), "view of the cell");
+    check(dgn_view(file, len, 2, 46, fresh_numbers(), ROOM) == 0 && NUMBERS_ARE(LINE), "view of the line");
+    check(refused(dgn_view(file, len, 2, 46, fresh_numbers(), 31), DGN_CALL, 0), "31 numbers for a view");
+    check(refused(dgn_view(file, len, 2, 72, fresh_numbers(), 32), DGN_NO_SUCH, 0), "the marker is no element");
+    check(dgn_point(file, len, 2, 46, 1, fresh_numbers(), 3) == 0 && NUMBERS_ARE(65538, 7, 0), "point 1");
+    check(dgn_point(file, len, 2, 46, 0, fresh_numbers(), 3) == 0 && NUMBERS_ARE(1, -2, 0), "point 0");
+    check(refused(dgn_point(file, len, 2, 46, 2, fresh_numbers(), 3), DGN_NO_SUCH, 0), "no point 2");
+    check(refused(dgn_linkage(file, len, 2, 46, 0, fresh(), 4), DGN_NO_SUCH, 0), "no linkage");
+}
 
-    check(dgn_pack((const uint8_t *)"00417", 5, out, 2) == 0 && are(out, 2, (size_t[]){49234, 51080}), "pack");
-    check(dgn_unpack(49234, 51080, text, 7) == 0 && memcmp(text, "00417\0", 7) == 0, "unpack");
-    check(dgn_unpack(64000, 0, text, 7) == 12 && memcmp(text, "00417\0", 7) == 0, "word 64000, and the text stays");
-    check(dgn_unpack(1, 0, text, 6) == 1 && memcmp(text, "00417\0", 7) == 0, "six bytes are too few");
+static void whole(void)
+{
+    check(dgn_views(file, len, 2, 0, fresh_numbers(), ROOM, fresh(), 1) == 0 && ARE(2) && NUMBERS_ARE(CELL, LINE), "all views");
+    check(dgn_views(file, len, 2, 0, fresh_numbers(), 63, fresh(), 1) == 0 && ARE(1) && NUMBERS_ARE(CELL), "the first view");
+    check(dgn_views(file, len, 2, 1, fresh_numbers(), 32, fresh(), 1) == 0 && ARE(1) && NUMBERS_ARE(LINE), "the second view");
+    check(dgn_views(file, len, 2, 2, fresh_numbers(), 0, fresh(), 1) == 0 && ARE(0) && numbers_are(0, NULL), "no third view");
+    check(dgn_views(file, len, 2, DGN_TOP, fresh_numbers(), 99, fresh(), 1) == 0 && ARE(0) && numbers_are(0, NULL), "none far behind");
+    check(refused(dgn_views(file, len, 2, 1, fresh_numbers(), 31, fresh(), 1), DGN_ROOM, 0), "no room for a view");
+    check(refused(dgn_views(file, len, 2, 0, fresh_numbers(), 64, fresh(), 0), DGN_CALL, 0), "no out");
+    check(refused(dgn_views(file, len - 2, 2, 0, fresh_numbers(), 64, fresh(), 1), DGN_NO_END, 72), "the file's own refusal");
 
-    /* a session: the line taken out, put back under the cell, the cell renamed and marked, then all undone */
-    uint8_t original[sizeof file];
+    check(dgn_points(file, len, 2, 0, fresh_numbers(), 6, fresh(), 2) == 0 && ARE(2, 6) && NUMBERS_ARE(46, 2, 1, -2, 65538, 7), "all points");
+    check(dgn_points(file, len, 2, 1, fresh_numbers(), ROOM, fresh(), 2) == 0 && ARE(2, 6) && NUMBERS_ARE(46, 2, 1, -2, 65538, 7), "those from 1 on");
+    check(dgn_points(file, len, 2, 2, fresh_numbers(), 0, fresh(), 2) == 0 && ARE(2, 0) && numbers_are(0, NULL), "no more points");
+    check(dgn_points(file, len, 2, 9, fresh_numbers(), 0, fresh(), 2) == 0 && ARE(9, 0) && numbers_are(0, NULL), "none behind the end");
+    check(refused(dgn_points(file, len, 2, 0, fresh_numbers(), 5, fresh(), 2), DGN_ROOM, 0), "no room for the points");
+    check(refused(dgn_points(file, len, 2, 0, fresh_numbers(), 6, fresh(), 1), DGN_CALL, 0), "one number for two");
+    check(refused(dgn_points(file, len, 4, 0, fresh_numbers(), 6, fresh(), 2), DGN_CALL, 0), "dimension 4");
+}
+
+static void names(void)
+{
+    uint8_t text[8] = "";
+    fresh_numbers();
+    check(dgn_pack(TEXT("00417"), fresh(), 2) == 0 && ARE(49234, 51080), "pack");
+    check(refused(dgn_pack(TEXT("0417 "), fresh(), 2), DGN_NAME, 0), "a space at the end");
+    fresh();
+    text[7] = 1;
+    check(dgn_unpack(49234, 51080, text, 8) == 0 && memcmp(text, "00417\0\0\1", 8) == 0, "unpack");
+    check(refused(dgn_unpack(64000, 0, text, 7), DGN_NAME, 0) && memcmp(text, "00417\0", 7) == 0, "word 64000, and the text stays");
+    check(refused(dgn_unpack(1, 0, text, 6), DGN_CALL, 0) && memcmp(text, "00417\0", 7) == 0, "six bytes are too few");
+}
+
+/* the line taken out, put back beneath the cell, the cell renamed and marked, then all undone */
+static void editing(void)
+{
+    uint8_t original[sizeof file], journal[100];
     memcpy(original, file, sizeof file);
-    size_t used = 2 * words;
-    check(dgn_remove(file, 146, used, journal, 100, 0, 2, 46, out, 2) == 0 && are(out, 2, (size_t[]){94, 64}), "remove");
+    fresh_numbers();
+    check(dgn_remove(file, 146, 146, journal, 100, 0, 2, 46, fresh(), 2) == 0 && ARE(94, 64), "remove");
     check(memcmp(file + 36, "\33\0", 2) == 0 && memcmp(file + 92, "\377\377\0\0", 4) == 0, "total, marker, freed bytes");
     check(memcmp(journal, original + 92, 52) == 0, "the words removed");
     check(memcmp(journal + 52, "\4\0\0\0\0\0\0\0\56\0\32\0", 12) == 0, "its record");
-    check(dgn_insert(file, 146, 94, journal, 100, 64, 2, 0, 46, original + 92, 52, out, 2) == 0 && are(out, 2, (size_t[]){146, 76}), "insert");
+    check(dgn_record(journal, 100, 64, fresh(), 5) == 0 && ARE(DGN_REMOVE, 0, 46, 26, 0), "the record read");
+    check(dgn_insert(file, 146, 94, journal, 100, 64, 2, 0, 46, original + 92, 52, fresh(), 2) == 0 && ARE(146, 76), "insert");
+    check(dgn_record(journal, 100, 76, fresh(), 5) == 0 && ARE(DGN_INSERT, 0, 46, 0, 64), "its record");
     check(memcmp(file, original, 146) == 0, "the same file");
-    check(dgn_insert(file, 146, used, journal, 100, 76, 2, DGN_TOP, 72, original + 92, 52, out, 2) == 5 && out[0] == 0, "C at the top");
-    check(dgn_rename(file, 146, used, journal, 100, 76, 2, 0, (const uint8_t *)"417", 3, out, 2) == 0 && are(out, 2, (size_t[]){146, 92}), "rename");
-    check(dgn_mark(file, 146, used, journal, 100, 92, 2, 0, 1, out, 2) == 16 && out[0] == 0, "no room in the journal");
-    check(dgn_mark(file, 146, used, journal, 100, 76, 2, 0, 2, out, 2) == 1 && out[0] == 0, "deleted by 2");
-    check(dgn_mark(file, 146, used, journal, 100, 92, 2, 46, 1, out, 1) == 1, "an answer slice of one number");
-    check(dgn_undo(file, 146, used, journal, 100, 92, 2, out, 2) == 0 && are(out, 2, (size_t[]){146, 76}), "undo of the rename");
-    check(dgn_mark(file, 146, used, journal, 100, 76, 2, 46, 0, out, 2) == 0 && are(out, 2, (size_t[]){146, 88}), "mark");
+    check(refused(dgn_insert(file, 146, 146, journal, 100, 76, 2, DGN_TOP, 72, original + 92, 52, fresh(), 2), DGN_WRONG_PLACE, 0), "C at the top");
+    check(dgn_rename(file, 146, 146, journal, 100, 76, 2, 0, TEXT("417"), fresh(), 2) == 0 && ARE(146, 92), "rename");
+    check(dgn_record(journal, 100, 92, fresh(), 5) == 0 && ARE(DGN_RENAME, DGN_TOP, 0, 2, 76), "its record");
+    check(refused(dgn_rename(file, 146, 146, journal, 100, 76, 2, 46, TEXT("417"), fresh(), 2), DGN_NOT_A_CELL, 0), "a line has no name");
+    check(refused(dgn_mark(file, 146, 146, journal, 100, 92, 2, 0, 1, fresh(), 2), DGN_JOURNAL, 0), "no room in the journal");
+    check(refused(dgn_mark(file, 146, 146, journal, 100, 76, 2, 46, 1, fresh(), 2), DGN_ALREADY, 0), "deleted already");
+    check(refused(dgn_mark(file, 146, 146, journal, 100, 76, 2, 0, 2, fresh(), 2), DGN_CALL, 0), "deleted by 2");
+    check(refused(dgn_mark(file, 146, 146, journal, 100, 92, 2, 46, 1, fresh(), 1), DGN_CALL, 0), "an answer slice of one number");
+    check(dgn_undo(file, 146, 146, journal, 100, 92, 2, fresh(), 2) == 0 && ARE(146, 76), "undo of the rename");
+    check(dgn_mark(file, 146, 146, journal, 100, 76, 2, 46, 0, fresh(), 2) == 0 && ARE(146, 88), "mark");
     check(file[93] == (original[93] & 127), "live");
-    check(dgn_undo(file, 146, used, journal, 100, 88, 2, out, 2) == 0 && are(out, 2, (size_t[]){146, 76}), "undo of the mark");
-    check(dgn_undo(file, 146, used, journal, 100, 76, 2, out, 2) == 0 && are(out, 2, (size_t[]){94, 64}), "undo of the insert");
-    check(dgn_undo(file, 146, 94, journal, 100, 64, 2, out, 2) == 0 && are(out, 2, (size_t[]){146, 0}), "undo of the remove");
-    check(dgn_undo(file, 146, used, journal, 100, 0, 2, out, 2) == 17 && out[0] == 0, "nothing to undo");
+    check(dgn_undo(file, 146, 146, journal, 100, 88, 2, fresh(), 2) == 0 && ARE(146, 76), "undo of the mark");
+    check(dgn_undo(file, 146, 146, journal, 100, 76, 2, fresh(), 2) == 0 && ARE(94, 64), "undo of the insert");
+    check(dgn_undo(file, 146, 94, journal, 100, 64, 2, fresh(), 2) == 0 && ARE(146, 0), "undo of the remove");
+    check(refused(dgn_undo(file, 146, 146, journal, 100, 0, 2, fresh(), 2), DGN_NOTHING, 0), "nothing to undo");
+    check(refused(dgn_record(journal, 100, 0, fresh(), 5), DGN_NOTHING, 0), "no record");
+    check(refused(dgn_record(journal, 100, 10, fresh(), 5), DGN_BAD_JOURNAL, 0), "five words are no record");
+    check(refused(dgn_record(journal, 100, 102, fresh(), 5), DGN_CALL, 0), "a used length beyond the journal");
+    check(refused(dgn_record(journal, 100, 64, fresh(), 4), DGN_CALL, 0), "four numbers for five");
     check(memcmp(file, original, 146) == 0, "the original");
+}
 
+/* the same in a struct, on a buffer that is longer than the file */
+static void session(void)
+{
+    uint8_t bytes[300], journal[100];
+    struct dgn_session s;
+    memset(bytes, 5, sizeof bytes);
+    memcpy(bytes, file, sizeof file);
+    s.file = bytes;
+    s.file_len = 299;
+    s.used = s.jused = 8;
+    s.journal = journal;
+    s.journal_len = sizeof journal;
+    s.dimension = 2;
+    check(dgn_session_open(&s, 150) == DGN_CALL, "an odd buffer");
+    s.file_len = 148;
+    check(dgn_session_open(&s, 150) == DGN_CALL, "more bytes than the buffer has");
+    s.file_len = sizeof bytes;
+    s.journal_len = DGN_FILE_BYTES + 2;
+    check(dgn_session_open(&s, 150) == DGN_CALL, "a journal that is too long");
+    s.journal_len = sizeof journal;
+    check(dgn_session_open(&s, 144) == DGN_NO_END + 256 * 72 && s.used == 8 && s.jused == 8, "the file's own refusal");
+    check(dgn_session_open(&s, 150) == 0 && s.used == 146 && s.jused == 0, "open, with words behind the marker");
+    check(dgn_session_mark(&s, 46, 1) == DGN_ALREADY && s.used == 146 && s.jused == 0, "deleted already");
+    check(dgn_session_mark(&s, 46, 0) == 0 && s.used == 146 && s.jused == 12, "mark");
+    check(dgn_session_rename(&s, 0, "417") == 0 && s.used == 146 && s.jused == 28, "rename");
+    check(dgn_session_insert(&s, 0, 72, file + 92, 52) == 0 && s.used == 198 && s.jused == 40, "insert");
+    check(dgn_session_remove(&s, 0) == DGN_JOURNAL && s.used == 198 && s.jused == 40, "no room in the journal");
+    check(dgn_session_undo(&s) == 0 && dgn_session_undo(&s) == 0 && dgn_session_undo(&s) == 0, "three undos");
+    check(dgn_session_undo(&s) == DGN_NOTHING && s.used == 146 && s.jused == 0, "no fourth");
+    check(memcmp(bytes, file, sizeof file) == 0, "the same bytes");
+    check(dgn_session_remove(&s, 46) == 0 && s.used == 94 && s.jused == 64, "remove");
+}
+
+/* a name and a sentence for each number, and one for those that are none */
+static void refusals(void)
+{
+    static const char *const all[] = {"DONE", "CALL", "NO END", "CUT", "RESERVED", "PLACE", "KIND", "SHORT", "TOTAL", "COUNT", "DEEP", "LINKAGE", "NAME",
+                                      "NO SUCH", "ALREADY", "ROOM", "JOURNAL", "NOTHING", "NOT A CELL", "BAD JOURNAL"};
+    for (size_t n = 0; n <= DGN_BAD_JOURNAL; n++) {
+        check(strcmp(dgn_refusal_name(n), all[n]) == 0, all[n]);
+        check(strlen(dgn_refusal_text(n)) > 10 && strcmp(dgn_refusal_text(n), dgn_refusal_text(20)) != 0, all[n]);
+        check(dgn_refusal_name(n + 256 * 1100) == dgn_refusal_name(n), all[n]);
+    }
+    check(strcmp(dgn_refusal_name(20), "UNKNOWN") == 0 && strcmp(dgn_refusal_name(DGN_TOP), "UNKNOWN") == 0, "no refusal");
+    check(DGN_VERSION == 0x000100 && strcmp(DGN_VERSION_TEXT, "0.1.0") == 0, "the version");
+}
+
+int main(void)
+{
+    fresh_numbers();
+    writing();
+    reading();
+    whole();
+    names();
+    editing();
+    session();
+    refusals();
     printf("%zu passed, %zu failed\n", passed, failed);
     return failed != 0;
 }

@@ -52,28 +52,67 @@ else
     count 1 0
 fi
 
-# every function as the C header declares it
-strict="-std=c99 -pedantic -O2 -Wall -Wextra -Werror"
+# every function as the C headers declare it
+strict="-std=c99 -pedantic -O2 -Wall -Wextra -Werror -Iinclude"
 gcc $strict -o "$work/header" tests/header.c target/staticlib/libdgn.a
 count $? 1
 run header.out "$work/header"
 
-# the C host
-gcc $strict -o "$work/host" examples/host.c target/staticlib/libdgn.a
-count $? 1
-"$work/host" "$top/tests/real/a11_cells_2d.dgn" 00417 > "$work/host.out"
-diff "$work/host.out" examples/host.out
-count $? 1
-"$work/host" "$top/tests/real/a18_cell_hdr_link_dgnlib_2d.dgn" 00417 > "$work/host.out"
-diff "$work/host.out" examples/host-refused.out
-count $? 1
+# prints STATUS OUT COMMAND..: whether the command ends with this status and prints just what the file OUT has
+prints() {
+    local status=$1 out=$2
+    shift 2
+    "$@" > "$work/out" 2> "$work/err"
+    [ $? -eq "$status" ] && diff "$work/out" "$out"
+    count $? 1
+}
 
-# the C session
-gcc $strict -o "$work/session" examples/session.c target/staticlib/libdgn.a
+# hosts FOLDER: the C examples, built into the folder, print what is stored
+hosts() {
+    local saved=$work/saved.dgn
+    prints 0 examples/host.out "$1/host" tests/real/a11_cells_2d.dgn 00417
+    prints 1 examples/host-refused.out "$1/host" tests/real/a18_cell_hdr_link_dgnlib_2d.dgn 00417
+    prints 3 /dev/null "$1/host" tests/real 00417
+    prints 3 /dev/null "$1/host" "$work/none.dgn" 00417
+    prints 0 examples/session.out "$1/session"
+    prints 0 examples/parts.out "$1/parts" samples/nested.dgn 00417 00418 "$saved"
+    prints 0 <(sed '$d; s/ 00417/ 00418/' examples/parts.out && echo "00418 is now 00417") "$1/parts" "$saved" 00418 00417 "$saved.2"
+    cmp "$saved.2" samples/nested.dgn
+    count $? 1
+}
+
+# with the archive
+mkdir "$work/archived"
+for name in host session parts; do
+    gcc $strict -o "$work/archived/$name" "examples/$name.c" target/staticlib/libdgn.a
+    count $? 1
+done
+hosts "$work/archived"
+
+# with the installed copy, from C and from C++, by pkg-config
+prefix=$work/prefix
+(cd "$work" && "$top/archive" install prefix)
 count $? 1
-"$work/session" > "$work/session.out"
-diff "$work/session.out" examples/session.out
-count $? 1
+if command -v pkg-config > /dev/null; then
+    flags=$(PKG_CONFIG_PATH=$prefix/lib/pkgconfig pkg-config --cflags --libs dgn)
+    count $? 1
+else
+    echo "outside: no pkg-config on this machine: dgn.pc is read here"
+    flags=$(sed -nE "s,\\$\{(include|lib)dir\},$prefix/\1,g; s,^(Cflags|Libs): ,,p" "$prefix/lib/pkgconfig/dgn.pc" | tr '\n' ' ')
+fi
+for language in "c -std=c99" "c++ -std=c++11"; do
+    mkdir -p "$work/installed"
+    for name in host session parts; do
+        compiler=gcc
+        [ "${language%% *}" = c ] || compiler=g++
+        (cd "$work" && $compiler -x $language -Wall -Wextra -Wpedantic -Werror -O2 -o "installed/$name" "$top/examples/$name.c" -x none $flags)
+        count $? 1
+    done
+    export LD_LIBRARY_PATH=$prefix/lib
+    hosts "$work/installed"
+    unset LD_LIBRARY_PATH
+    rm -r "$work/installed"
+done
 
 echo "$passed passed, $failed failed"
 [ "$failed" -eq 0 ]

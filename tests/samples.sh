@@ -40,7 +40,7 @@ check "the archive is not built" ./archive
 check "the archive is built again" quiet
 
 # the stored files
-check "make.c does not build" gcc -std=c99 -pedantic -O2 -Wall -Wextra -Werror -o "$work/make" samples/make.c "$archive"
+check "make.c does not build" gcc -std=c99 -pedantic -O2 -Wall -Wextra -Werror -Iinclude -o "$work/make" samples/make.c "$archive"
 mkdir "$work/made"
 check "make fails" "$work/make" "$work/made"
 for file in samples/*.cel samples/*.dgn; do
@@ -60,7 +60,7 @@ for file in samples/*.cel samples/*.dgn; do
 done
 
 # the C host as README.md shows it
-check "host.c does not build" gcc -o "$work/host" examples/host.c "$archive"
+check "host.c does not build" gcc -Iinclude -o "$work/host" examples/host.c "$archive"
 "$work/host" samples/nested.dgn 00417 > "$work/host.out"
 check "README.md does not show what the C host prints" shows "./host samples/nested.dgn 00417" "$work/host.out"
 
@@ -73,10 +73,39 @@ check "from another folder" lists 0 "$top/samples/nested.out" "a drawing.dgn"
 cd "$top" || exit 1
 ln -s "$top/list" "$work/link"
 check "by a link" cmp <("$work/link") samples/seals.out
-check "a missing file" lists 1 /dev/null "$work/none.dgn"
+check "a missing file" lists 3 /dev/null "$work/none.dgn"
 check "a missing file is not named" said "none.dgn"
-check "a folder" lists 1 /dev/null samples
+check "a folder" lists 3 /dev/null samples
+check "a folder is not named" said "samples cannot be read"
 check "two files" lists 2 /dev/null samples/nested.dgn samples/empty.dgn
+check "help" lists 0 <("$top/list" --help) --help
+check "help does not say what the status means" grep -q "^Status: 0 listed; 1 " "$work/out"
+
+# reads and writes that fail
+full() { "$@" > /dev/full 2> "$work/err"; [ $? -eq 3 ]; }
+closed() { "$@" >&- 2> "$work/err"; [ $? -eq 3 ]; }
+check "a full disk" full "$top/list"
+check "a full disk is not told" said "standard output cannot be written"
+check "a full disk, a refusal" full "$top/list" samples/shortened.cel
+check "a full disk, help" full "$top/list" --help
+check "no standard output" closed "$top/list"
+program=target/bin/celllist
+check "celllist of a folder" cmp <("$program" < samples 2> /dev/null) /dev/null
+"$program" < samples 2> "$work/err" > /dev/null
+check "celllist of a folder: what it says" said "standard input cannot be read"
+"$program" < samples/seals.cel 2> "$work/err" > /dev/full
+check "celllist, a full disk: what it says" said "standard output cannot be written"
+
+# the longest file, with as many lines as there can be, and one byte more
+{ printf '\0\5\0\0%.0s' {1..16383} && printf '\377\377\0\0'; } > "$work/long.dgn"
+"$top/list" "$work/long.dgn" > "$work/out"
+check "the longest file" cmp "$work/out" <(
+    echo "PLACE DEPTH TYPE WORDS STATE NAME"
+    for ((k = 0; k < 16383; k++)); do echo "$((2 * k)) 0 5 2 live"; done
+    echo "END 32766"
+)
+echo >> "$work/long.dgn"
+check "a byte more" lists 1 <(echo "REFUSED 1 0") "$work/long.dgn"
 
 # the first run, in a copy where nothing is built, with a stand-in for rt: one that fails, then one that builds
 mkdir -p "$work/copy/crates" "$work/copy/samples" "$work/bin"
@@ -108,6 +137,17 @@ check "the second run builds again" quiet
 touch "$work/copy/crates.txt"
 first
 check "newer sources are not built" said "rt: words proved"
+
+# a listing that is not whole, by a stand-in for celllist: nothing, no last line, a last line that is cut
+unwhole() {
+    printf '#!/bin/sh\nprintf "%s"\n' "$1" > "$work/copy/target/bin/celllist"
+    first
+    [ $? -eq 3 ] && [ ! -s "$work/out" ] && said "cannot be read"
+}
+heading='PLACE DEPTH TYPE WORDS STATE NAME\n'
+for listing in "" "$heading" "${heading}0 0 3 26 live\n" "${heading}0 0 3 26 live\nEND 26" "${heading}END \n" "REFUSED 3\n"; do
+    check "a listing that is not whole: $listing" unwhole "$listing"
+done
 
 echo "$passed passed, $failed failed"
 [ "$failed" -eq 0 ]

@@ -1,60 +1,108 @@
-//! What is measured: the proved library and the C code through their C interfaces, with the second reader's types.
+//! What is measured: the proved library by its bindings and the C code, with the second reader's types.
 
-use crate::declared::*;
+use dgn::raw;
 use reader::{Call, FindRefusal, Found, Judged, Refusal, State};
 
 extern "C" {
     fn plain_judge(file: *const u8, len: usize, dim: usize, out: *mut usize) -> usize;
+    fn plain_views(
+        file: *const u8,
+        len: usize,
+        dim: usize,
+        k: usize,
+        views: *mut i64,
+        room: usize,
+        out: *mut usize,
+    ) -> usize;
+    fn plain_points(
+        file: *const u8,
+        len: usize,
+        dim: usize,
+        k: usize,
+        numbers: *mut i64,
+        room: usize,
+        out: *mut usize,
+    ) -> usize;
     fn hop_sizes(file: *const u8) -> usize;
     fn hop_totals(file: *const u8) -> usize;
     fn move_bytes(file: *mut u8, from: usize, to: usize, n: usize);
 }
 
-fn refusal(number: usize, place: usize) -> Refusal {
-    Refusal { number: number as u32, place: place as u64 }
+/// An answer, or the refusal that the returned number says.
+fn answer<T>(returned: usize, answer: T) -> Result<T, Refusal> {
+    match returned {
+        0 => Ok(answer),
+        _ => Err(Refusal { number: (returned % 256) as u32, place: (returned / 256) as u64 }),
+    }
 }
 
-fn judged(number: usize, out: [usize; 3]) -> Result<Judged, Refusal> {
-    match number {
-        0 => Ok(Judged { elements: out[0] as u64, deepest: out[1] as u64, marker: out[2] as u64 }),
-        _ => Err(refusal(number, out[0])),
-    }
+fn judged(out: [usize; 3]) -> Judged {
+    Judged { elements: out[0] as u64, deepest: out[1] as u64, marker: out[2] as u64 }
 }
 
 pub fn judge(file: &[u8], dim: u64) -> Result<Judged, Refusal> {
     let mut out = [0; 3];
-    judged(unsafe { dgn_judge(file.as_ptr(), file.len(), dim as usize, out.as_mut_ptr(), 3) }, out)
+    let returned = raw::judge(file, dim as usize, &mut out);
+    answer(returned, judged(out))
 }
 
 pub fn judge_in_c(file: &[u8], dim: u64) -> Result<Judged, Refusal> {
     let mut out = [0; 3];
-    judged(unsafe { plain_judge(file.as_ptr(), file.len(), dim as usize, out.as_mut_ptr()) }, out)
+    match unsafe { plain_judge(file.as_ptr(), file.len(), dim as usize, out.as_mut_ptr()) } {
+        0 => Ok(judged(out)),
+        number => Err(Refusal { number: number as u32, place: out[0] as u64 }),
+    }
 }
 
 pub fn find(file: &[u8], dim: u64, text: &[u8]) -> Result<Found, FindRefusal> {
-    let mut o = [0; 2];
-    let number =
-        unsafe { dgn_find(file.as_ptr(), file.len(), dim as usize, text.as_ptr(), text.len(), o.as_mut_ptr(), 2) };
-    match number {
-        0 => Ok(Found { place: o[0] as u64, looked: o[1] as u64 }),
-        _ => Err(FindRefusal { number: number as u32, place: o[0] as u64, count: o[1] as u64 }),
+    let mut out = [0; 2];
+    match dgn::Refusal::of_find(raw::find(file, dim as usize, text, &mut out)) {
+        None => Ok(Found { place: out[0] as u64, looked: out[1] as u64 }),
+        Some(r) => Err(FindRefusal { number: r.number as u32, place: r.place as u64, count: r.count as u64 }),
     }
 }
 
 pub fn extent(file: &[u8], dim: u64, place: u64) -> Result<(u64, u64), Refusal> {
-    let mut o = [0; 2];
-    match unsafe { dgn_extent(file.as_ptr(), file.len(), dim as usize, place as usize, o.as_mut_ptr(), 2) } {
-        0 => Ok((o[0] as u64, o[1] as u64)),
-        number => Err(refusal(number, o[0])),
-    }
+    let mut out = [0; 2];
+    let returned = raw::extent(file, dim as usize, place as usize, &mut out);
+    answer(returned, (out[0] as u64, out[1] as u64))
 }
 
 /// A view of the element at a place: here only whether there is one. Its fields are compared by tests/compare.
 pub fn view(file: &[u8], dim: u64, place: u64) -> Result<(), Refusal> {
-    let mut o = [0; 32];
-    match unsafe { dgn_view(file.as_ptr(), file.len(), dim as usize, place as usize, o.as_mut_ptr(), 32) } {
-        0 => Ok(()),
-        number => Err(refusal(number, o[0])),
+    let mut out = [0; 32];
+    answer(raw::view(file, dim as usize, place as usize, &mut out), ())
+}
+
+/// The number of views from element number k on that are put into the slice.
+pub fn views(file: &[u8], dim: u64, k: usize, views: &mut [i64]) -> Result<usize, u32> {
+    let mut out = [0];
+    let returned = raw::views(file, dim as usize, k, views, &mut out);
+    answer(returned, out[0]).map_err(|r| r.number)
+}
+
+pub fn views_in_c(file: &[u8], dim: u64, k: usize, views: &mut [i64]) -> Result<usize, u32> {
+    let mut out = [0];
+    let (v, o) = (views.as_mut_ptr(), out.as_mut_ptr());
+    match unsafe { plain_views(file.as_ptr(), file.len(), dim as usize, k, v, views.len(), o) } {
+        0 => Ok(out[0]),
+        number => Err(number as u32),
+    }
+}
+
+/// The next element number, and how many numbers of points from element number k on are put into the slice.
+pub fn points(file: &[u8], dim: u64, k: usize, numbers: &mut [i64]) -> Result<(usize, usize), u32> {
+    let mut out = [0; 2];
+    let returned = raw::points(file, dim as usize, k, numbers, &mut out);
+    answer(returned, (out[0], out[1])).map_err(|r| r.number)
+}
+
+pub fn points_in_c(file: &[u8], dim: u64, k: usize, numbers: &mut [i64]) -> Result<(usize, usize), u32> {
+    let mut out = [0; 2];
+    let (n, o) = (numbers.as_mut_ptr(), out.as_mut_ptr());
+    match unsafe { plain_points(file.as_ptr(), file.len(), dim as usize, k, n, numbers.len(), o) } {
+        0 => Ok((out[0], out[1])),
+        number => Err(number as u32),
     }
 }
 
@@ -69,28 +117,22 @@ pub fn by_totals(file: &[u8]) -> u64 {
 
 /// One call of a session, which takes over the new used lengths. Renames are not measured.
 pub fn edit(s: &mut State, call: &Call) -> Result<(), Refusal> {
-    let (n, jn, d) = (s.file.len(), s.journal.len(), s.dim as usize);
-    let (used, jused) = (s.used as usize, s.jused as usize);
-    let (f, j) = (s.file.as_mut_ptr(), s.journal.as_mut_ptr());
+    let (used, jused, dim) = (s.used as usize, s.jused as usize, s.dim as usize);
+    let (file, journal) = (&mut s.file[..], &mut s.journal[..]);
     let mut out = [0; 2];
-    let o = out.as_mut_ptr();
-    let number = unsafe {
-        match call {
-            Call::Mark { place, deleted } => {
-                dgn_mark(f, n, used, j, jn, jused, d, *place as usize, usize::from(*deleted), o, 2)
-            }
-            Call::Insert { header, place, piece } => {
-                let header = header.map_or(usize::MAX, |h| h as usize);
-                dgn_insert(f, n, used, j, jn, jused, d, header, *place as usize, piece.as_ptr(), piece.len(), o, 2)
-            }
-            Call::Remove { place } => dgn_remove(f, n, used, j, jn, jused, d, *place as usize, o, 2),
-            Call::Undo => dgn_undo(f, n, used, j, jn, jused, d, o, 2),
-            Call::Rename { .. } => panic!("renames are not measured"),
+    let returned = match call {
+        Call::Mark { place, deleted } => {
+            raw::mark(file, used, journal, jused, dim, *place as usize, usize::from(*deleted), &mut out)
         }
+        Call::Insert { header, place, piece } => {
+            let header = header.map_or(raw::TOP, |h| h as usize);
+            raw::insert(file, used, journal, jused, dim, header, *place as usize, piece, &mut out)
+        }
+        Call::Remove { place } => raw::remove(file, used, journal, jused, dim, *place as usize, &mut out),
+        Call::Undo => raw::undo(file, used, journal, jused, dim, &mut out),
+        Call::Rename { .. } => panic!("renames are not measured"),
     };
-    if number != 0 {
-        return Err(refusal(number, out[0]));
-    }
+    answer(returned, ())?;
     s.used = out[0] as u64;
     s.jused = out[1] as u64;
     Ok(())

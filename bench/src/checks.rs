@@ -2,7 +2,11 @@
 
 use crate::calls;
 use crate::inputs::{Input, ABSENT, LAST};
+use crate::whole::{self, Fill};
 use reader::generate::{aimed, changes, large, two_faults, valid, Random, ORDER};
+
+/// Views and points, each by the library and by C.
+const FILLS: [(Fill, Fill); 2] = [(whole::views_by, whole::views_by_c), (calls::points, calls::points_in_c)];
 
 /// Files judged alike, and how many of them are refused.
 #[derive(Default)]
@@ -18,6 +22,30 @@ impl Checked {
         assert_eq!(ours, calls::judge_in_c(file, dim), "C judge, {what}, {} bytes", file.len());
         self.files += 1;
         self.refused += u64::from(ours.is_err());
+        if file.len() < 10_000 {
+            for (ours, in_c) in FILLS {
+                for k in [0, 1, 3, 1000] {
+                    let (mut a, mut b) = ([7; 100], [7; 100]);
+                    assert_eq!(ours(file, dim, k, &mut a), in_c(file, dim, k, &mut b), "from {k}, {what}");
+                    assert_eq!(a, b, "from {k}, {what}");
+                }
+            }
+        }
+    }
+
+    /// All views and all points of a measured input: those of the library in one part, in parts, and of C.
+    fn whole(&self, input: &Input) {
+        let dim = input.kind.dim();
+        let elements = calls::judge(&input.file, dim).expect("an accepted file").elements as usize;
+        for ((ours, in_c), room) in FILLS.into_iter().zip([32 * whole::VIEWS, whole::NUMBERS]) {
+            let mut all = Vec::new();
+            whole::in_parts(ours, input, elements, &mut vec![0; room], |part| all.extend_from_slice(part));
+            for fill in [ours, in_c] {
+                let mut one = vec![7; all.len()];
+                assert_eq!(fill(&input.file, dim, 0, &mut one), Ok((elements, all.len())));
+                assert!(one == all, "whole file, {}", input.kind.name());
+            }
+        }
     }
 
     /// A measured input: every call that is measured, and the file with faults at its end.
@@ -41,6 +69,7 @@ impl Checked {
             assert_eq!(calls::extent(file, dim, place), reader::extent(file, dim, place), "extent, {what}");
             assert_eq!(calls::view(file, dim, place), reader::view(file, dim, place).map(|_| ()), "view, {what}");
         }
+        self.whole(input);
         self.faults(input);
     }
 

@@ -3,15 +3,13 @@
 
 mod calls;
 mod checks;
-#[allow(dead_code)]
-#[path = "../../tests/compare/src/declared.rs"]
-mod declared;
 mod edits;
 mod inputs;
 mod programs;
 mod reading;
 mod tables;
 mod timing;
+mod whole;
 
 use inputs::{make, Input, KIB, KINDS};
 
@@ -33,6 +31,8 @@ fn main() {
 
     reading::judging(&all, rounds);
     reading::places(&all, rounds);
+    whole::views(&all, 1 + rounds / 6);
+    whole::points(&all, 1 + rounds / 6);
     edits::table(rounds);
     programs::listing(&folder, rounds);
     reading::growth(1 + rounds / 3);

@@ -1,2 +1,2 @@
-// What a function of the C interface answers: a number, and numbers at the front of the caller's slice. No code:
-// specs/Answers, proofs/Laws.
+// What a function of the C interface answers: numbers at the front of the caller's slice, or one number for a refusal. No
+// code: specs/Answers, proofs/Laws.

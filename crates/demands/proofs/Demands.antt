@@ -8,7 +8,7 @@ use mathlib.Core.Option.{Option, some}
 use lib.ListN.{length, take, drop}
 use lib.IntN.{ℤ}
 use lib.Signed.{mag}
-use Rattle.words.specs.Words.{words, wordAt, longAt, signed, unsigned, putWord, putLong}
+use Rattle.words.specs.Words.{words, wordAt, longAt, signed, unsigned, putWord, putLong, Below}
 use Rattle.words.proofs.Laws as stores
 use Rattle.words.proofs.Signed as signs
 use Rattle.names.specs.Names.{packed, unpacked, textAnswer, textOf, nameOk}
@@ -33,6 +33,7 @@ use Rattle.places.specs.declared.Extent.the-variants as extent
 use Rattle.places.proofs.Refusals as places
 use Rattle.views.specs.Views.{viewOf}
 use Rattle.views.specs.Starts.{Starts, Accepts}
+use Rattle.views.specs.declared.Element.{Element}
 use Rattle.views.specs.declared.View.the-variants as view
 use Rattle.views.proofs.Starts as starts
 use Rattle.views.proofs.Refusals as seen
@@ -56,7 +57,7 @@ use Rattle.linkages.proofs.Meaning as meaning
 use Rattle.linkages.proofs.Listed as listed
 use Rattle.listing.specs.Lines.{headingLine, endLine}
 use Rattle.fields.specs.declared.Fields.{Fields}
-use Rattle.writer.specs.Writing.{Writes}
+use Rattle.writer.specs.Writing.{Writes, writtenBy}
 use Rattle.writer.specs.declared.Written.{Written}
 use Rattle.writer.specs.declared.Written.the-variants as written
 use Rattle.writer.proofs.Refusals as writes
@@ -89,6 +90,32 @@ use Rattle.edits.proofs.PlainEdits as plain
 use Rattle.edits.proofs.Every as every
 use Rattle.sessions.specs.Runs.{EveryCall}
 use Rattle.sessions.proofs.Runs as runs
+use Rattle.answers.specs.Answers.{Reply, withRoom, Replied, Small, SmallReply, ReadAs}
+use Rattle.answers.proofs.Laws as answers
+use Rattle.view_numbers.specs.Numbers.{viewNumbers}
+use Rattle.view_numbers.proofs.Below as shown
+use Rattle.dgn.specs.JudgeFind.{judgeReply, findReply}
+use Rattle.dgn.proofs.Small as dgn
+use Rattle.dgn_places.specs.ExtentPoint.{extentReply, pointReply}
+use Rattle.dgn_places.proofs.Small as dgn-places
+use Rattle.dgn_views.specs.Views.{viewReply}
+use Rattle.dgn_views.proofs.Small as dgn-views
+use Rattle.dgn_all_views.specs.Views.{viewsOf}
+use Rattle.dgn_all_views.specs.Calls.{Holds, called}
+use Rattle.dgn_all_views.proofs.All as whole
+use Rattle.dgn_linkages.specs.LinkageNumbers.{linkageReply}
+use Rattle.dgn_linkages.proofs.Small as dgn-linkages
+use Rattle.dgn_names.specs.PackUnpack.{packReply, unpackReply}
+use Rattle.dgn_names.proofs.Small as dgn-names
+use Rattle.dgn_writer.specs.Writing.{givenFault, writeReply}
+use Rattle.dgn_writer.proofs.Small as dgn-writer
+use Rattle.edit_answers.proofs.Places as fits
+use Rattle.dgn_record.specs.LastRecord.{EndsThere}
+use Rattle.dgn_record.proofs.Ends as ends
+use Rattle.dgn_sessions.specs.Exports.{EveryExport, KeptInOut}
+use Rattle.dgn_sessions.specs.History.{EditShown, UndoShown}
+use Rattle.dgn_sessions.proofs.Exports as exported
+use Rattle.dgn_sessions.proofs.History as history
 
 ---- demand 1: each public function's contract is its own statement, beside the function
 
@@ -99,6 +126,10 @@ refusal-keeps = refusals.refusal-keeps
 -- and its number is one from 1 to 19
 pub call-number : (dim : ℕ) (s : Session) (c : Call) (n p : ℕ) → step dim s c .answer ≡ edit.Refused n p → (1 ≤ n) × (n ≤ 19)
 call-number = calls.call-number
+
+-- and its place is at most 524,288, so the one number that the C interface returns gives both back
+pub call-small : (dim : ℕ) (s : Session) (c : Call) (n p : ℕ) → step dim s c .answer ≡ edit.Refused n p → Small n p
+call-small = fits.edit-small
 
 -- a refused call of a session answers as judging the used file does, or one of the call's own numbers at place 0; an insert also
 -- its piece's own at the place within the piece, or 8 at a header from the top down to the named one
@@ -159,6 +190,55 @@ unpack-refused = texts.unpack-refused
 pub write-refused : (dim : ℕ) (f : Fields) (points : List ℤ) (tail out : List ℕ) (r : Written) (last : List ℕ) (n p : ℕ) →
     Writes dim f points tail out r last → r ≡ written.Refused n p → (oneOf (1 ∷ 7 ∷ 8 ∷ 11 ∷ 15 ∷ []) n ≡ true) × (p ≡ 0) × (last ≡ out)
 write-refused = writes.write-refused
+
+---- demand 1: the functions for C
+
+-- of the functions for C, whose contracts are `Replied`: a refusal changes no number of the lent slice
+pub refusal-leaves : {A : Type 0} (needed : ℕ) (q : Reply A) (s t : List A) (n : ℕ) → Replied needed q s n t → n ≢ 0 → t ≡ s
+refusal-leaves = answers.refusal-leaves
+
+-- and a caller reads each answer as it is meant: 0 and the numbers, or a number that is taken apart into the refusal's number and
+-- its detail, where every refusal is small
+pub read-as : {A : Type 0} (needed : ℕ) (q : Reply A) (s t : List A) (n : ℕ) → SmallReply q → Replied needed q s n t → ReadAs (withRoom needed q s) s n t
+read-as = answers.read-as
+
+-- as each is: its number is one from 1 to 19, its detail, a place or a count, at most 524,288
+pub judge-small : (dim : ℕ) (s : List ℕ) → SmallReply (judgeReply (judgeOf dim s))
+judge-small = dgn.judge-small
+
+pub find-small : (dim : ℕ) (s t : List ℕ) → SmallReply (findReply (findOf dim s t))
+find-small = dgn.find-small
+
+pub extent-small : (dim : ℕ) (s : List ℕ) (at : ℕ) → SmallReply (extentReply (extentAnswer dim s at))
+extent-small = dgn-places.extent-small
+
+pub point-small : (dim : ℕ) (s : List ℕ) (at k : ℕ) → SmallReply (pointReply (pointOf dim s at k))
+point-small = dgn-places.point-small
+
+pub view-small : (dim : ℕ) (s : List ℕ) (at : ℕ) → SmallReply (viewReply at (viewOf dim s at))
+view-small = dgn-views.view-small
+
+pub linkage-small : (dim : ℕ) (s : List ℕ) (at k : ℕ) → SmallReply (linkageReply (linkageOf dim s at k))
+linkage-small = dgn-linkages.linkage-small
+
+pub pack-small : (t : List ℕ) → SmallReply (packReply (packed t))
+pack-small = dgn-names.pack-small
+
+pub unpack-small : (a b : ℕ) → SmallReply (unpackReply (unpacked a b))
+unpack-small = dgn-names.unpack-small
+
+pub write-small : (dim : ℕ) (f : List ℕ) (points : List ℤ) (tail : List ℕ) (room size : ℕ) → SmallReply (writeReply (writtenBy (givenFault dim f points tail room) size))
+write-small = dgn-writer.write-small
+
+-- reading all views: calls from element 0 on, each from where the last one stopped, with slices that hold a view, as many
+-- calls as there are elements or more, give the views of all elements once each, in file order
+pub all-views : (dim : ℕ) (s : List ℕ) (e d m : ℕ) → judgeOf dim s ≡ Accepted e d m → (rooms : List ℕ) → Holds rooms → e ≤ length rooms →
+    called dim s e 0 rooms ≡ viewsOf dim s (spotsOf dim (words s))
+all-views dim s e d m j rooms h l = whole.all-views dim s e d m j rooms h l
+
+-- every number of a view is below 4,294,967,296
+pub view-below : (dim : ℕ) (s : List ℕ) (at : ℕ) (e : Element) → Below 256 s → viewOf dim s at ≡ view.Seen e → Below 4294967296 (viewNumbers at e)
+view-below = shown.view-below
 
 ---- demand 2: accepted exactly when the structure holds, with one reading
 
@@ -336,6 +416,27 @@ demand-three = every.demand-three
 -- of the calls themselves, with any answers and bytes that their contracts allow, each lent what the last one left
 pub every-call : EveryCall
 every-call = runs.every-call
+
+-- of the five exported functions, refusals by a short slice or a flag that is neither 0 nor 1 among them, each lent the buffers
+-- that the last one left and the used lengths that the slice then held; where it was refused, the last ones
+pub every-export : EveryExport
+every-export = exported.every-export
+
+-- so a host may keep the two used lengths in that slice alone: whatever a call answers, it then holds those of the next one
+pub kept-in-out : KeptInOut
+kept-in-out = exported.kept-in-out
+
+-- what dgn_record answers stands at the end of the used bytes, and the used length before it may be handed in next
+pub record-ends : EndsThere
+record-ends = ends.ends-there
+
+-- so it gives a history, newest first: an edit that is made puts its record in front of what was there, and an undo takes the
+-- newest off
+pub edit-shown : EditShown
+edit-shown = history.edit-shown
+
+pub undo-shown : UndoShown
+undo-shown = history.undo-shown
 
 -- an edit is made exactly where nothing refuses it, and answers the used lengths after it
 pub made-exactly : MadeExactly

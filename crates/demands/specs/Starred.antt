@@ -15,7 +15,8 @@ use Rattle.limits.specs.Limits.{sizeOk, usedOk}
 use Rattle.elements.specs.Rules.{extentOk}
 use Rattle.files.specs.Judge.{judgeOf, judgedNumbers}
 use Rattle.points_linkages.specs.Points.{pointOf}
-use Rattle.points_linkages.specs.Numbers.{pointNumber, pointGiven}
+use Rattle.points_linkages.specs.declared.Point.{Point}
+use Rattle.points_linkages.specs.declared.Point.the-variants as point
 use Rattle.demands.specs.Cases.{Case, case, holds}
 use Rattle.demands.specs.Elements.{firstWord, live, plain, attributed, raw, line, deadLine, text, cell, namedCell, libraryCell, chain, counting, inCells, text00417, text417}
 use Rattle.demands.specs.SessionCases.{sessionCases}
@@ -322,9 +323,13 @@ abbrev pub signedAll : List ℤ → List ℕ
 signedAll [] = []
 signedAll (z ∷ zs) = signedNumbers z ++ signedAll zs
 
+abbrev pub pointShown : Point → List ℕ
+pointShown (point.Flat x y) = 0 ∷ signedAll (x ∷ y ∷ [])
+pointShown (point.Solid x y z) = 0 ∷ signedAll (x ∷ y ∷ z ∷ [])
+pointShown (point.Refused n p) = n ∷ p ∷ []
+
 abbrev pub pointNumbers : ℕ → List ℕ → ℕ → List ℕ
-pointNumbers dim ws k =
-    pointNumber (pointOf dim (bytes (ws ++ (65535 ∷ []))) 0 k) ∷ signedAll (pointGiven (pointOf dim (bytes (ws ++ (65535 ∷ []))) 0 k))
+pointNumbers dim ws k = pointShown (pointOf dim (bytes (ws ++ (65535 ∷ []))) 0 k)
 
 -- point 1 of a type with N points, in 2D (65538, -2) and in 3D (65538, -2, 7), and 13 for a point that is not there or another type
 abbrev pub flatPoints : ℕ → List ℕ
@@ -335,15 +340,15 @@ solidPoints kind = plain kind 0 31 (2 ∷ 0 ∷ 0 ∷ 0 ∷ 0 ∷ 0 ∷ 0 ∷ 1 
 
 abbrev pub givenCases : List Case
 givenCases =
-    case (pointNumbers 2 (flatPoints 4) 1) (0 ∷ 0 ∷ 65538 ∷ 1 ∷ 2 ∷ 0 ∷ 0 ∷ []) ∷
-    case (pointNumbers 2 (flatPoints 6) 1) (0 ∷ 0 ∷ 65538 ∷ 1 ∷ 2 ∷ 0 ∷ 0 ∷ []) ∷
-    case (pointNumbers 2 (flatPoints 11) 1) (0 ∷ 0 ∷ 65538 ∷ 1 ∷ 2 ∷ 0 ∷ 0 ∷ []) ∷
-    case (pointNumbers 2 (flatPoints 21) 1) (0 ∷ 0 ∷ 65538 ∷ 1 ∷ 2 ∷ 0 ∷ 0 ∷ []) ∷
+    case (pointNumbers 2 (flatPoints 4) 1) (0 ∷ 0 ∷ 65538 ∷ 1 ∷ 2 ∷ []) ∷
+    case (pointNumbers 2 (flatPoints 6) 1) (0 ∷ 0 ∷ 65538 ∷ 1 ∷ 2 ∷ []) ∷
+    case (pointNumbers 2 (flatPoints 11) 1) (0 ∷ 0 ∷ 65538 ∷ 1 ∷ 2 ∷ []) ∷
+    case (pointNumbers 2 (flatPoints 21) 1) (0 ∷ 0 ∷ 65538 ∷ 1 ∷ 2 ∷ []) ∷
     case (pointNumbers 3 (solidPoints 21) 1) (0 ∷ 0 ∷ 65538 ∷ 1 ∷ 2 ∷ 0 ∷ 7 ∷ []) ∷
-    case (pointNumbers 2 (plain 3 0 26 (0 ∷ 0 ∷ 0 ∷ 0 ∷ 1 ∷ 2 ∷ 65535 ∷ 65534 ∷ [])) 1) (0 ∷ 0 ∷ 65538 ∷ 1 ∷ 2 ∷ 0 ∷ 0 ∷ []) ∷
-    case (pointNumbers 2 (flatPoints 21) 2) (13 ∷ 0 ∷ 0 ∷ []) ∷
-    case (pointNumbers 2 (line 0) 2) (13 ∷ 0 ∷ 0 ∷ []) ∷
-    case (pointNumbers 2 (text 0) 0) (13 ∷ 0 ∷ 0 ∷ []) ∷
+    case (pointNumbers 2 (plain 3 0 26 (0 ∷ 0 ∷ 0 ∷ 0 ∷ 1 ∷ 2 ∷ 65535 ∷ 65534 ∷ [])) 1) (0 ∷ 0 ∷ 65538 ∷ 1 ∷ 2 ∷ []) ∷
+    case (pointNumbers 2 (flatPoints 21) 2) (13 ∷ 0 ∷ []) ∷
+    case (pointNumbers 2 (line 0) 2) (13 ∷ 0 ∷ []) ∷
+    case (pointNumbers 2 (text 0) 0) (13 ∷ 0 ∷ []) ∷
     []
 
 -- the one list

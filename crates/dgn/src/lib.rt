@@ -1,5 +1,5 @@
 // The C interface of a file, as in include/dgn.h: judging it and finding a cell. No logic: each contract is the library's
-// own equation, put into numbers by specs/Answers. The other functions of the header are in the crates whose names
+// own equation, put into numbers by specs/JudgeFind. The other functions of the header are in the crates whose names
 // begin with dgn_.
 ghost use Rattle.files.specs.Judge.{judgeOf};
 ghost use Rattle.finder.specs.Finder.{findOf};
@@ -24,10 +24,7 @@ pub extern "C" fn dgn_judge(file: &[u8], dim: usize, out: &mut [usize]) -> usize
             out[2] = marker;
             0
         }
-        files::Judged::Refused { number, place } => {
-            out[0] = place;
-            number
-        }
+        files::Judged::Refused { number, place } => number + 256 * place,
     }
 }
 
@@ -48,10 +45,6 @@ pub extern "C" fn dgn_find(file: &[u8], dim: usize, text: &[u8], out: &mut [usiz
             number,
             place,
             count,
-        } => {
-            out[0] = place;
-            out[1] = count;
-            number
-        }
+        } => number + 256 * kinds::pick(number == 13, count, place),
     }
 }

@@ -1,5 +1,5 @@
 // The C interface of an element's linkages, as in include/dgn.h. No logic: the contract is the library's own equation,
-// put into numbers by specs/Answers.
+// put into numbers by specs/LinkageNumbers.
 ghost use Rattle.points_linkages.specs.Linkages.{linkageOf};
 ghost use Rattle.answers.specs.Answers.{Replied};
 ghost use Rattle.dgn_linkages.specs.LinkageNumbers.{linkageReply};
@@ -34,9 +34,6 @@ pub extern "C" fn dgn_linkage(
         points_linkages::Attribute::Refused {
             number,
             place: fault,
-        } => {
-            out[0] = fault;
-            number
-        }
+        } => number + 256 * fault,
     }
 }

@@ -21,7 +21,6 @@ pub extern "C" fn dgn_mark(
         return 1;
     }
     if 1 < deleted {
-        out[0] = 0;
         return 1;
     }
     let answer = marking::mark(file, used, journal, jused, dim, place, deleted == 1);

@@ -1,5 +1,5 @@
 // The C interface of names, as in include/dgn.h: packing a text and unpacking two words. No logic: each contract is the
-// library's own equation, put into numbers by specs/Answers.
+// library's own equation, put into numbers by specs/PackUnpack.
 ghost use mathlib.Core.Path.{_≡_};
 ghost use mathlib.Core.List.{[], _∷_, _++_};
 ghost use Prim.Native.Nat.{_≤_};
@@ -22,10 +22,7 @@ pub extern "C" fn dgn_pack(text: &[u8], out: &mut [usize]) -> usize
             out[1] = second;
             0
         }
-        names::Packed::Refused { number, place } => {
-            out[0] = place;
-            number
-        }
+        names::Packed::Refused { number, place } => number + 256 * place,
     }
 }
 
@@ -58,6 +55,6 @@ pub extern "C" fn dgn_unpack(first: usize, second: usize, text: &mut [u8]) -> us
             put_letters(text, letters);
             0
         }
-        names::Answer::Refused { number, place: _ } => number,
+        names::Answer::Refused { number, place } => number + 256 * place,
     }
 }

@@ -1,5 +1,5 @@
 // The C interface of a place, as in include/dgn.h: an element's extent and its points. No logic: each contract is the
-// library's own equation, put into numbers by specs/Answers.
+// library's own equation, put into numbers by specs/ExtentPoint.
 ghost use Rattle.places.specs.Extents.{extentAnswer};
 ghost use Rattle.points_linkages.specs.Points.{pointOf};
 ghost use Rattle.answers.specs.Answers.{Replied};
@@ -21,10 +21,7 @@ pub extern "C" fn dgn_extent(file: &[u8], dim: usize, place: usize, out: &mut [u
         places::Extent::Refused {
             number,
             place: fault,
-        } => {
-            out[0] = fault;
-            number
-        }
+        } => number + 256 * fault,
     }
 }
 
@@ -54,12 +51,6 @@ pub extern "C" fn dgn_point(
             out[2] = z;
             0
         }
-        points_linkages::Point::Refused {
-            number,
-            place: fault,
-        } => {
-            out[0] = fault as i64;
-            number
-        }
+        points_linkages::Point::Refused { number, place: at } => number + 256 * at,
     }
 }

@@ -2,10 +2,9 @@
 use Prim.Native.Nat.{ℕ, _<_, _≤_}
 use mathlib.Core.Path.{_≡_, refl, sym, ap, _∙_}
 use mathlib.Core.Bool.{Bool, true, false, _&&_}
-use mathlib.Core.List.{List, [], _∷_}
+use mathlib.Core.List.{List}
 use native.Mathlib.Omega.{arith}
-use lib.ListN.{length, getD, set}
-use lib.Seq.{sets}
+use lib.ListN.{length, getD}
 use lib.Dec.{eqb, leb}
 use lib.IntN.{ℤ}
 use borrow.Author.Tests.{eqb-true, le-leb, lt-leb}
@@ -13,7 +12,7 @@ use Rattle.writer.specs.declared.Written.{Written}
 use Rattle.fields.specs.Words.{sizeOf, elementWords}
 use Rattle.fields.specs.Faults.{writeFault}
 use Rattle.writer.specs.Writing.{writtenBy, bytesBy, Writes}
-use Rattle.answers.specs.Answers.{Reply}
+use Rattle.answers.specs.Answers.{Reply, refuse, returned, sliceLeft}
 use Rattle.dgn_writer.specs.Writing.{fieldsGiven, fieldsOf, givenFault, writeReply, Wrote}
 use Rattle.answers.proofs.Laws.{too-short, answered}
 
@@ -34,19 +33,19 @@ module _ (dim : ℕ) (f : List ℕ) (points : List ℤ) (tail buffer out : List 
   -- an answer by the number of the first fault
   answered-by : (n : ℕ) (last : List ℕ) (w : Reply ℕ) → givenFault dim f points tail (length buffer) ≡ n → 1 ≤ length out →
       writeReply (writtenBy n (sizeOf dim (fieldsOf f) points tail)) ≡ w → last ≡ bytesBy n (elementWords dim (fieldsOf f) points tail) buffer →
-      Wrote dim f points tail buffer out (w .number) last (sets out 0 (w .given))
+      Wrote dim f points tail buffer out (returned w) last (sliceLeft w out)
   answered-by n last w e h a b = record {
     answer = answered 1 _ w out (ap (λ x. writeReply (writtenBy x (sizeOf dim (fieldsOf f) points tail))) e ∙ a) h;
     bytes = simp (le-leb 1 (length out) h, e) b;
   }
 
   -- no header fields
-  pub not-given : fieldsGiven f ≡ false → 1 ≤ length out → Wrote dim f points tail buffer out 1 buffer (set out 0 0)
+  pub not-given : fieldsGiven f ≡ false → 1 ≤ length out → Wrote dim f points tail buffer out 1 buffer out
   unfolding givenFault
-  not-given g h = answered-by 1 buffer (record { number = 1; given = 0 ∷ [] }) (rw g refl) h refl refl
+  not-given g h = answered-by 1 buffer (refuse 1 0) (rw g refl) h refl refl
 
   -- the writer's own answer
   pub written : (r : Written) (last : List ℕ) (w : Reply ℕ) → fieldsGiven f ≡ true → 1 ≤ length out → Writes dim (fieldsOf f) points tail buffer r last → writeReply r ≡ w →
-      Wrote dim f points tail buffer out (w .number) last (sets out 0 (w .given))
+      Wrote dim f points tail buffer out (returned w) last (sliceLeft w out)
   unfolding givenFault
   written r last w g h o e = answered-by (writeFault dim (fieldsOf f) points tail (length buffer)) last w (rw g refl) h (sym (ap writeReply (o .answer)) ∙ e) (o .bytes)

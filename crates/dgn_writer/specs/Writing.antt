@@ -3,16 +3,17 @@
 use Prim.Native.Nat.{ℕ}
 use mathlib.Core.Path.{_≡_}
 use mathlib.Core.Bool.{Bool, cond, _&&_}
-use mathlib.Core.List.{List}
+use mathlib.Core.List.{List, [], _∷_}
 use lib.ListN.{length, getD}
 use lib.Dec.{eqb, leb}
 use lib.IntN.{ℤ}
 use Rattle.fields.specs.declared.Fields.{Fields}
 use Rattle.fields.specs.Words.{sizeOf, elementWords}
 use Rattle.fields.specs.Faults.{writeFault}
-use Rattle.writer.specs.Writing.{writtenBy, bytesBy, writtenNumbers}
+use Rattle.writer.specs.Writing.{writtenBy, bytesBy}
 use Rattle.writer.specs.declared.Written.{Written}
-use Rattle.answers.specs.Answers.{Reply, Replied, replyOf}
+use Rattle.writer.specs.declared.Written.the-variants.{Made, Refused}
+use Rattle.answers.specs.Answers.{Reply, done, refuse, Replied}
 
 -- sixteen numbers, C and deleted 0 or 1
 unfoldable pub fieldsGiven : List ℕ → Bool
@@ -43,8 +44,10 @@ fieldsOf f = record {
 unfoldable pub givenFault : ℕ → List ℕ → List ℤ → List ℕ → ℕ → ℕ
 givenFault dim f points tail room = cond (fieldsGiven f) (writeFault dim (fieldsOf f) points tail room) 1
 
+-- the words written
 abbrev pub writeReply : Written → Reply ℕ
-writeReply r = replyOf (writtenNumbers r)
+writeReply (Made words) = done (words ∷ [])
+writeReply (Refused number place) = refuse number place
 
 -- the number that is returned, the answer slice and the buffer as they then are; with no room for the answer both stay
 pub record Wrote (dim : ℕ) (f : List ℕ) (points : List ℤ) (tail buffer out : List ℕ) (n : ℕ) (last t : List ℕ) : Type 0 where

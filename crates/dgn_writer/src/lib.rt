@@ -57,7 +57,6 @@ pub extern "C" fn dgn_write(
         return 1;
     }
     if !fields_given(fields) {
-        out[0] = 0;
         return 1;
     }
     match writer::write(fields_of(fields), points, tail, dim, buffer) {
@@ -65,9 +64,6 @@ pub extern "C" fn dgn_write(
             out[0] = words;
             0
         }
-        writer::Written::Refused { number, place } => {
-            out[0] = place;
-            number
-        }
+        writer::Written::Refused { number, place } => number + 256 * place,
     }
 }

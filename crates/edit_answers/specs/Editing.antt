@@ -1,18 +1,26 @@
 -- What the calls of a session are handed and what they leave: the answer, and each byte of the file's and the journal's
 -- buffer. The step of edits' specs/Calls decides them.
-use Prim.Native.Nat.{ℕ}
+use Prim.Native.Nat.{ℕ, _%_}
 use mathlib.Core.Path.{_≡_}
 use mathlib.Core.Bool.{cond}
-use mathlib.Core.List.{List}
+use mathlib.Core.List.{List, [], _∷_}
 use mathlib.Core.Option.{Option, none, some}
 use lib.ListN.{length}
 use lib.Dec.{eqb, leb}
 use Rattle.edits.specs.declared.Edited.{Edited}
-use Rattle.edits.specs.Calls.{Session, Call, mark-call, Result, refused, step, editedNumbers}
-use Rattle.answers.specs.Answers.{Reply, Replied, replyOf}
+use Rattle.edits.specs.declared.Edited.the-variants.{Made, Refused}
+use Rattle.edits.specs.Calls.{Session, Call, mark-call, Result, refused, step}
+use Rattle.answers.specs.Answers.{Reply, done, refuse, Replied}
 
+-- the used lengths of file and journal, or the refusal
 abbrev pub editReply : Edited → Reply ℕ
-editReply r = replyOf (editedNumbers r)
+editReply (Made used jused) = done (used ∷ jused ∷ [])
+editReply (Refused number place) = refuse number place
+
+-- the same of any number and place, cut to 8 and 56 bits, which one number holds; no call's refusal loses by it (`small-cut`)
+abbrev pub cutReply : Edited → Reply ℕ
+cutReply (Made used jused) = editReply (Made used jused)
+cutReply (Refused number place) = refuse (number % 256) (place % 72057594037927936)
 
 -- the number that is returned, the answer slice and the two buffers as they then are; with no room for the answer all stay
 pub record Left (q : Result) (s : Session) (out : List ℕ) (n : ℕ) (file journal t : List ℕ) : Type 0 where

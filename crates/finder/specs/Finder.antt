@@ -45,9 +45,3 @@ searchOf dim s first second = findBy (judgeOf dim s) (text.Words first second) (
 -- 1, the file's own, 12 for the text, 13 with the count of all elements
 unfoldable pub findOf : ℕ → List ℕ → List ℕ → Found
 findOf dim s t = findBy (judgeOf dim s) (packed t) (words s) (spotsOf dim (words s))
-
--- the numbers of each answer: 0, the place and how many were looked at; or the refusal's number, its place and a count,
--- which is that of all elements for 13, and else 0
-abbrev pub foundNumbers : Found → List ℕ
-foundNumbers (found.At place looked) = 0 ∷ place ∷ looked ∷ []
-foundNumbers (found.Refused number place count) = number ∷ place ∷ count ∷ []

@@ -1,6 +1,6 @@
 -- The extent of an element: 1, the file's own refusals and 13 come first (places/specs/Places).
 use Prim.Native.Nat.{ℕ, _-_, _*_}
-use mathlib.Core.List.{List, [], _∷_}
+use mathlib.Core.List.{List, []}
 use lib.ListN.{take, drop}
 use Rattle.places.specs.Places.{spottedAt}
 use Rattle.places.specs.declared.Spotted.{Spotted}
@@ -23,8 +23,3 @@ partBy (extent.Refused n q) s = []
 
 unfoldable pub extentBytes : ℕ → List ℕ → ℕ → List ℕ
 extentBytes dim s p = partBy (extentAnswer dim s p) s
-
--- the numbers of the answer: 0, its start and its end, or the refusal's number and place
-abbrev pub extentNumbers : Extent → List ℕ
-extentNumbers (extent.At start end) = 0 ∷ start ∷ end ∷ []
-extentNumbers (extent.Refused number place) = number ∷ place ∷ []

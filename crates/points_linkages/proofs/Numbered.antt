@@ -14,7 +14,7 @@ use mir.Syntax.{w64}
 use mir.Val.{toZ, ofZ}
 use mir.ValLaws.{toZ-ofZ}
 use Rattle.words.specs.Words.{words, Below, wordAt, longAt, signed}
-use Rattle.words.proofs.Laws.{words-below}
+use Rattle.words.proofs.Laws.{word-out, words-below}
 use Rattle.words.proofs.Signed.{signed-small}
 use Rattle.linkages.specs.Linkages.{linkageIn}
 use Rattle.headers.specs.Header.{typeAt, sizeAt, pointsAt}
@@ -32,7 +32,7 @@ use Rattle.points_linkages.specs.Linkages.{attributeBy, linkageOf}
 ---- a point
 
 -- a signed long that was read, as the machine holds it
-kept : (s : List ℕ) → Below 256 s → (i : ℕ) (r : ℤ) → r ≡ signed (longAt (words s) i) → toZ w64 (ofZ w64 r) ≡ signed (longAt (words s) i)
+pub kept : (s : List ℕ) → Below 256 s → (i : ℕ) (r : ℤ) → r ≡ signed (longAt (words s) i) → toZ w64 (ofZ w64 r) ≡ signed (longAt (words s) i)
 kept s b i r e =
     let h = words-below s b i in
     let l = words-below s b (i + 1) in
@@ -49,7 +49,11 @@ module _ (s : List ℕ) (b : Below 256 s) (dim q : ℕ) (x y : ℤ) (ex : x ≡ 
 
 ---- by number
 
-count-small : (s : List ℕ) → Below 256 s → (at : ℕ) → pointCount (words s) at < 65536
+-- where no word stands there is no point
+pub count-out : (s : List ℕ) (at : ℕ) → length s ≤ at → 0 ≡ pointCount (words s) at
+count-out s at h = rw (word-out s at (omega arith)) refl
+
+pub count-small : (s : List ℕ) → Below 256 s → (at : ℕ) → pointCount (words s) at < 65536
 count-small s b at = go (eqb (typeAt (words s) at) 3) (isPointed (typeAt (words s) at))
   where
     go : (l p : Bool) → cond l 2 (cond p (pointsAt (words s) at) 0) < 65536
@@ -57,7 +61,7 @@ count-small s b at = go (eqb (typeAt (words s) at) 3) (isPointed (typeAt (words 
     go false true = words-below s b (at + 18)
     go false false = omega arith
 
-before-few : (ws : List ℕ) (at : ℕ) → beforePoints ws at ≤ 19
+pub before-few : (ws : List ℕ) (at : ℕ) → beforePoints ws at ≤ 19
 before-few ws at = go (eqb (typeAt ws at) 3)
   where
     go : (b : Bool) → cond b 18 19 ≤ 19
@@ -65,7 +69,7 @@ before-few ws at = go (eqb (typeAt ws at) 3)
     go false = omega arith
 
 -- a point of a file has four or six words
-stride : (dim : ℕ) (s : List ℕ) → callOk dim s ≡ true → (k : ℕ) → (2 * dim ≤ 6) × (2 * dim * k ≤ 6 * k)
+pub stride : (dim : ℕ) (s : List ℕ) → callOk dim s ≡ true → (k : ℕ) → (2 * dim ≤ 6) × (2 * dim * k ≤ 6 * k)
 unfolding callOk
 stride dim s e k = go (eqb dim 2) refl (eqb dim 3) refl e
   where

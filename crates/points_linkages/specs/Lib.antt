@@ -1,4 +1,3 @@
 pub mod Points
 pub mod Linkages
 pub mod Listed
-pub mod Numbers

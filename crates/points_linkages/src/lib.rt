@@ -4,7 +4,9 @@ pub mod attributes;
 pub mod points;
 
 pub use attributes::linkage_at;
+pub use points::before_points;
 pub use points::point_at;
+pub use points::point_count;
 
 // A point of a 2D or a 3D file.
 pub enum Point {

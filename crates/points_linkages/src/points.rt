@@ -1,7 +1,6 @@
 // The points of an element by number. Definitions: specs/Points.
 ghost use mathlib.Core.Path.{_≡_};
-ghost use Prim.Native.Nat.{_+_, _/_, _<_, _^_};
-ghost use lib.ListN.{length};
+ghost use Prim.Native.Nat.{_+_, _<_, _^_};
 ghost use Rattle.words.specs.Words.{words};
 ghost use Rattle.points_linkages.specs.Points.{pointCount, beforePoints, pointAt, pointOf};
 use super::Point;
@@ -9,13 +8,15 @@ use places::Spotted;
 use places::spotted_at;
 
 // How many points the element at a place has.
-fn point_count(file: &[u8], at: usize) -> usize
-    requires { ⌜ at < length (now file) / 2 ⌝ }
+pub fn point_count(file: &[u8], at: usize) -> usize
     ensures { λ r. ⌜ r ≡ pointCount (words (now (file .entry))) at ⌝ }
 {
     let t = headers::type_at(file, at);
     if t == 3 {
         return 2;
+    }
+    if file.len() <= at {
+        return 0;
     }
     if kinds::is_pointed(t) {
         return words::word(file, at + 18);
@@ -24,7 +25,7 @@ fn point_count(file: &[u8], at: usize) -> usize
 }
 
 // The words before the points of the element at a place.
-fn before_points(file: &[u8], at: usize) -> usize
+pub fn before_points(file: &[u8], at: usize) -> usize
     ensures { λ r. ⌜ r ≡ beforePoints (words (now (file .entry))) at ⌝ }
 {
     if headers::type_at(file, at) == 3 {

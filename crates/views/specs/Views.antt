@@ -3,7 +3,8 @@
 use Prim.Native.Nat.{ℕ, _+_, _/_, _%_}
 use mathlib.Core.List.{List}
 use mathlib.Core.Bool.{Bool, true, false, cond}
-use lib.Dec.{eqb, leb}
+use lib.ListN.{length}
+use lib.Dec.{eqb, leb, ltb}
 use Rattle.words.specs.Words.{words, wordAt, longAt}
 use Rattle.kinds.specs.FirstWord.{levelOf, cOf, deletedOf}
 use Rattle.headers.specs.Header.{typeAt, sizeAt, pointsAt, countAt, nameFirst, nameSecond, totalAt}
@@ -64,6 +65,10 @@ elementView ws at depth above = record {
   total = numberIf (isHeader (typeAt ws at)) (totalAt ws at);
   count = numberIf (isCounted (typeAt ws at)) (countAt ws at);
 }
+
+-- of an element whose depth and direct header are known, 13 where no word stands
+unfoldable pub elementIn : List ℕ → ℕ → ℕ → Above → View
+elementIn ws at depth above = cond (ltb at (length ws)) (view.Seen (elementView ws at depth above)) (view.Refused 13 0)
 
 abbrev pub viewBy : Spotted → List ℕ → ℕ → View
 viewBy (spotted.At end depth above) ws at = view.Seen (elementView ws at depth above)

@@ -3,7 +3,7 @@ ghost use mathlib.Core.Path.{_≡_};
 ghost use Prim.Native.Nat.{_/_, _<_};
 ghost use lib.ListN.{length};
 ghost use Rattle.words.specs.Words.{words};
-ghost use Rattle.views.specs.Views.{rangeOf, displayOf, numberIf, nameWords, elementView, viewOf};
+ghost use Rattle.views.specs.Views.{rangeOf, displayOf, numberIf, nameWords, elementView, elementIn, viewOf};
 use places::Above;
 use places::Spotted;
 use places::spotted_at;
@@ -157,6 +157,21 @@ fn element_at(file: &[u8], at: usize, depth: usize, above: Above) -> Element
         name: name_at(file, at),
         total: number_if(kinds::is_header(t), word_18),
         count: number_if(kinds::is_counted(t), words::word(file, at + 19)),
+    }
+}
+
+// A view of the element at a place whose depth and direct header are known; 13 where no word stands.
+pub fn element_in(file: &[u8], at: usize, depth: usize, above: Above) -> View
+    ensures { λ r. ⌜ r ≡ elementIn (words (now (file .entry))) at depth above ⌝ }
+{
+    if at < file.len() / 2 {
+        return View::Seen {
+            element: element_at(file, at, depth, above),
+        };
+    }
+    View::Refused {
+        number: 13,
+        place: 0,
     }
 }
 

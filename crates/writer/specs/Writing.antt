@@ -2,7 +2,7 @@
 use Prim.Native.Nat.{ℕ, _*_}
 use mathlib.Core.Path.{_≡_}
 use mathlib.Core.Bool.{cond}
-use mathlib.Core.List.{List, [], _∷_}
+use mathlib.Core.List.{List}
 use lib.ListN.{length}
 use lib.Dec.{eqb}
 use lib.IntN.{ℤ}
@@ -29,8 +29,3 @@ bytesBy fault ws out = cond (eqb fault 0) (laid out 0 ws) out
 pub record Writes (dim : ℕ) (f : Fields) (points : List ℤ) (tail out : List ℕ) (r : Written) (last : List ℕ) : Type 0 where
   pub answer : r ≡ writtenBy (writeFault dim f points tail (length out)) (sizeOf dim f points tail)
   pub bytes : last ≡ bytesBy (writeFault dim f points tail (length out)) (elementWords dim f points tail) out
-
--- the numbers of each answer: 0 and the words written, or the refusal's number and place
-abbrev pub writtenNumbers : Written → List ℕ
-writtenNumbers (Made words) = 0 ∷ words ∷ []
-writtenNumbers (Refused number place) = number ∷ place ∷ []

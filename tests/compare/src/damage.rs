@@ -38,6 +38,12 @@ pub fn lengths(random: &mut Random, runs: &mut Runs) {
                         runs.at(&bytes, dim, p, 0);
                     }
                     runs.find(&bytes, dim, b"00417");
+                    for (k, room) in [(0, 0), (0, 96), (u64::MAX, 0)] {
+                        runs.part(&bytes, dim, k, room);
+                    }
+                }
+                for used in [0, 12, length as u64, u64::MAX] {
+                    let _ = runs.record(&bytes, used);
                 }
                 runs.find(&[255, 255], 2, &bytes);
                 runs.pack(&bytes);
@@ -76,6 +82,7 @@ pub fn cut_at_a_page(random: &mut Random, runs: &mut Runs, times: u64) {
                     runs.at(cut, dim, s.place, 0);
                 }
                 runs.find(cut, dim, b"00417");
+                runs.part(cut, dim, 1, 64);
             }
         }
     }
@@ -109,6 +116,7 @@ pub fn small_stack() {
             runs.at(&v.file, v.dim, deepest, 0);
             runs.numbered(&v.file, v.dim, deepest, 16_376);
             runs.find(&v.file, v.dim, b"NONE");
+            runs.part(&v.file, v.dim, v.elements.saturating_sub(2), 400);
             runs.write(&long_line(65_535));
             runs.unpack(63_999, 63_999);
             sessions::large_session(&mut runs, &v.file, v.dim);

@@ -1,6 +1,7 @@
 //! Memory between two pages that may not be touched. What is lent from it ends where the second page begins, or begins
 //! where the first one ends, so that a byte read or written outside of it ends the run.
 
+use std::cell::Cell;
 use std::ffi::c_void;
 
 extern "C" {
@@ -27,6 +28,8 @@ pub struct Guard {
     /// The first byte behind the first page.
     first: *mut u8,
     room: usize,
+    /// The pages of what was lent last: where they begin, counted from the first byte, and their bytes.
+    pages: Cell<(usize, usize)>,
 }
 
 impl Guard {
@@ -36,17 +39,18 @@ impl Guard {
         unsafe {
             let base = mmap(std::ptr::null_mut(), room + 2 * PAGE, NO_ACCESS, PRIVATE_ANONYMOUS, -1, 0) as *mut u8;
             assert!(base as isize != -1, "mmap");
-            let guard = Guard { first: base.add(PAGE), room };
+            let guard = Guard { first: base.add(PAGE), room, pages: Cell::new((0, room)) };
             guard.allow(READ_WRITE);
             guard
         }
     }
 
     fn allow(&self, protection: i32) {
-        assert_eq!(unsafe { mprotect(self.first as *mut c_void, self.room, protection) }, 0, "mprotect");
+        let (from, bytes) = self.pages.get();
+        assert_eq!(unsafe { mprotect(self.first.add(from) as *mut c_void, bytes, protection) }, 0, "mprotect");
     }
 
-    /// From now on a store ends the run too.
+    /// From now on a store to what was lent ends the run too.
     pub fn read_only(&self) {
         self.allow(READ);
     }
@@ -59,10 +63,17 @@ impl Guard {
     pub fn lend<T: Copy>(&self, values: &[T], side: Side) -> *mut T {
         let bytes = std::mem::size_of_val(values);
         assert!(bytes <= self.room, "{bytes} bytes do not fit");
+        let pages = bytes.next_multiple_of(PAGE);
         unsafe {
             let at = match side {
-                Side::Before => self.first,
-                Side::Behind => self.first.add(self.room - bytes),
+                Side::Before => {
+                    self.pages.set((0, pages));
+                    self.first
+                }
+                Side::Behind => {
+                    self.pages.set((self.room - pages, pages));
+                    self.first.add(self.room - bytes)
+                }
             } as *mut T;
             std::ptr::copy_nonoverlapping(values.as_ptr(), at, values.len());
             at

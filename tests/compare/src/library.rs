@@ -1,20 +1,26 @@
-//! The proved library through its C interface, as include/dgn.h has it, in the second reader's types. Everything that is
-//! lent lies between two pages that may not be touched. What is lent to be read must stay; an answer slice is filled
-//! with a mark, so that a number that is not written, or written where none is due, is seen.
+//! The proved library by its bindings' functions on slices, in the second reader's types. Everything that is lent lies
+//! between two pages that may not be touched. What is lent to be read must stay, and a refusal changes no byte of
+//! anything lent; an answer slice is filled with a mark, so that a number that is not written, or written where none is
+//! due, is seen.
 
-use crate::declared::*;
 use crate::guard::{Guard, Side};
+use dgn::raw;
 use reader::{Call, FindRefusal, Found, Judged, Linkage, LinkageKind, Refusal, State};
 use std::cell::Cell;
+use std::hint::black_box;
+use std::slice::{from_raw_parts, from_raw_parts_mut};
 
 /// The top, as a header's place: `DGN_TOP` of include/dgn.h.
-pub const TOP: u64 = u64::MAX;
+pub const TOP: u64 = raw::TOP as u64;
 
 /// The longest file that is handed over, one word above the limit.
 pub const LONGEST: usize = 1_048_578;
 
 /// The longest list of coordinates that is handed over.
 pub const MOST_COORDINATES: usize = 70_000;
+
+/// The longest slice for views or points: all views of the most elements.
+pub const MOST_NUMBERS: usize = 32 * 262_144;
 
 /// A guard for each argument of a call.
 struct Lending {
@@ -25,9 +31,11 @@ struct Lending {
     tail: Guard,
     buffer: Guard,
     journal: Guard,
+    numbers: Guard,
     out: Guard,
     side: Cell<Side>,
     read_only: Cell<bool>,
+    spare: Cell<usize>,
 }
 
 thread_local! {
@@ -39,9 +47,11 @@ thread_local! {
         tail: Guard::new(LONGEST),
         buffer: Guard::new(LONGEST),
         journal: Guard::new(LONGEST),
+        numbers: Guard::new(8 * MOST_NUMBERS),
         out: Guard::new(4096),
         side: const { Cell::new(Side::Behind) },
         read_only: const { Cell::new(false) },
+        spare: const { Cell::new(0) },
     };
 }
 
@@ -54,21 +64,39 @@ pub fn lend_at(side: Side, read_only: bool) {
 }
 
 /// Lends values to be read.
-fn lent<T: Copy + PartialEq, R>(l: &Lending, guard: &Guard, values: &[T], call: impl FnOnce(*const T) -> R) -> R {
+fn lent<T: Copy + PartialEq, R>(l: &Lending, guard: &Guard, values: &[T], call: impl FnOnce(&[T]) -> R) -> R {
     let at = guard.lend(values, l.side.get());
     if l.read_only.get() {
         guard.read_only();
     }
-    let answer = call(at);
+    let answer = call(unsafe { from_raw_parts(at, values.len()) });
     if l.read_only.get() {
         guard.writable();
     }
-    assert!(unsafe { std::slice::from_raw_parts(at, values.len()) } == values, "what is lent to be read stays");
+    // by its address again, whatever is taken for granted of a slice that is shared
+    assert!(unsafe { from_raw_parts(black_box(at), values.len()) } == values, "what is lent to be read stays");
+    answer
+}
+
+/// Lends a copy of values to be written, which is copied back. A refusal leaves them.
+fn lent_to_write<T: Copy + PartialEq, R>(
+    l: &Lending,
+    guard: &Guard,
+    values: &mut [T],
+    call: impl FnOnce(&mut [T]) -> Result<R, Refused>,
+) -> Result<R, Refused> {
+    let at = guard.lend(values, l.side.get());
+    let answer = call(unsafe { from_raw_parts_mut(at, values.len()) });
+    let after = unsafe { from_raw_parts(black_box(at), values.len()) };
+    match answer {
+        Ok(_) => values.copy_from_slice(after),
+        Err(_) => assert!(after == values, "a refusal changes no byte"),
+    }
     answer
 }
 
 /// A number that the library does not write by itself.
-trait Mark: Copy + PartialEq + std::fmt::Debug {
+pub trait Mark: Copy + PartialEq + std::fmt::Debug {
     const MARK: Self;
 }
 
@@ -84,266 +112,285 @@ impl Mark for u8 {
     const MARK: u8 = 0xa5;
 }
 
-/// Lends an answer slice of N numbers. Gives the number returned and the slice.
-fn answer<T: Mark, const N: usize>(l: &Lending, call: impl FnOnce(*mut T, usize) -> usize) -> (usize, [T; N]) {
-    let mut out = [T::MARK; N];
-    let at = l.out.lend(&out, l.side.get());
-    let number = call(at, N);
-    out.copy_from_slice(unsafe { std::slice::from_raw_parts(at, N) });
-    (number, out)
+/// A refusal's number and its detail.
+#[derive(Clone, Copy, PartialEq, Debug)]
+struct Refused {
+    number: u32,
+    detail: u64,
 }
 
-fn refusal(number: usize, place: usize) -> Refusal {
-    Refusal { number: number as u32, place: place as u64 }
-}
-
-/// An answer, or the refusal whose place stands in the first number; the others then stay.
-fn result<T: Mark, const N: usize>((number, out): (usize, [T; N]), place: impl Fn(T) -> usize) -> Result<[T; N], Refusal> {
-    if number == 0 {
-        return Ok(out);
+impl From<Refused> for Refusal {
+    fn from(r: Refused) -> Refusal {
+        Refusal { number: r.number, place: r.detail }
     }
-    assert_eq!(out[1..], [T::MARK; N][1..], "a refusal writes its place alone");
-    Err(refusal(number, place(out[0])))
+}
+
+/// What a function returned.
+fn returned(r: usize) -> Result<(), Refused> {
+    if r == 0 {
+        return Ok(());
+    }
+    let (number, detail) = (r % 256, r / 256);
+    assert!((1..=19).contains(&number), "{r} is no refusal");
+    Err(Refused { number: number as u32, detail: detail as u64 })
+}
+
+/// Lends an answer slice of N numbers, and in turn none, one and two behind them that must stay. A refusal leaves all.
+fn answer<T: Mark, const N: usize>(l: &Lending, call: impl FnOnce(&mut [T]) -> usize) -> Result<[T; N], Refused> {
+    let spare = l.spare.replace((l.spare.get() + 1) % 3);
+    let marks = [T::MARK; 40];
+    let at = l.out.lend(&marks[..N + spare], l.side.get());
+    let number = call(unsafe { from_raw_parts_mut(at, N + spare) });
+    let out = unsafe { from_raw_parts(black_box(at), N + spare) };
+    if let Err(refused) = returned(number) {
+        assert!(out == &marks[..N + spare], "a refusal writes nowhere: {refused:?}, {out:?}");
+        return Err(refused);
+    }
+    assert!(out[N..] == marks[..spare], "what stands behind an answer stays: {out:?}");
+    Ok(out[..N].try_into().expect("N numbers"))
+}
+
+/// An answer slice that is too short: 1, and nothing is written.
+fn short<T: Mark, const M: usize>(l: &Lending, call: impl FnOnce(&mut [T]) -> usize) -> Result<(), Refused> {
+    let at = l.out.lend(&[T::MARK; M], l.side.get());
+    let number = call(unsafe { from_raw_parts_mut(at, M) });
+    assert_eq!(number, 1, "{M} numbers are too few");
+    assert_eq!(unsafe { from_raw_parts(black_box(at), M) }, [T::MARK; M]);
+    returned(number)
+}
+
+/// A call on a file alone, with an answer of N numbers.
+fn of_file<T: Mark, const N: usize>(file: &[u8], call: impl FnOnce(&[u8], &mut [T]) -> usize) -> Result<[T; N], Refused> {
+    LENDING.with(|l| lent(l, &l.file, file, |f| answer(l, |o| call(f, o))))
 }
 
 pub fn judge(file: &[u8], dim: u64) -> Result<Judged, Refusal> {
-    let n = file.len();
-    let given = LENDING.with(|l| {
-        lent(l, &l.file, file, |f| answer::<usize, 3>(l, |o, m| unsafe { dgn_judge(f, n, dim as usize, o, m) }))
-    });
-    result(given, |p| p).map(|o| Judged { elements: o[0] as u64, deepest: o[1] as u64, marker: o[2] as u64 })
+    let o = of_file::<_, 3>(file, |f, o| raw::judge(f, dim as usize, o))?;
+    Ok(Judged { elements: o[0] as u64, deepest: o[1] as u64, marker: o[2] as u64 })
 }
 
+/// The detail of 13 is the count of all elements.
 pub fn find(file: &[u8], dim: u64, text: &[u8]) -> Result<Found, FindRefusal> {
-    let (n, d, t) = (file.len(), dim as usize, text.len());
-    let (number, o) = LENDING.with(|l| {
-        lent(l, &l.file, file, |f| {
-            lent(l, &l.text, text, |s| answer::<usize, 2>(l, |o, m| unsafe { dgn_find(f, n, d, s, t, o, m) }))
-        })
-    });
-    if number != 0 {
-        return Err(FindRefusal { number: number as u32, place: o[0] as u64, count: o[1] as u64 });
+    let given = LENDING
+        .with(|l| lent(l, &l.text, text, |t| of_file::<_, 2>(file, |f, o| raw::find(f, dim as usize, t, o))));
+    match given {
+        Ok(o) => Ok(Found { place: o[0] as u64, looked: o[1] as u64 }),
+        Err(Refused { number: 13, detail }) => Err(FindRefusal { number: 13, place: 0, count: detail }),
+        Err(Refused { number, detail }) => Err(FindRefusal { number, place: detail, count: 0 }),
     }
-    Ok(Found { place: o[0] as u64, looked: o[1] as u64 })
 }
 
 pub fn extent(file: &[u8], dim: u64, place: u64) -> Result<(u64, u64), Refusal> {
-    let (n, d, p) = (file.len(), dim as usize, place as usize);
-    let given =
-        LENDING.with(|l| lent(l, &l.file, file, |f| answer::<usize, 2>(l, |o, m| unsafe { dgn_extent(f, n, d, p, o, m) })));
-    result(given, |p| p).map(|o| (o[0] as u64, o[1] as u64))
+    let o = of_file::<_, 2>(file, |f, o| raw::extent(f, dim as usize, place as usize, o))?;
+    Ok((o[0] as u64, o[1] as u64))
 }
 
 /// The 32 numbers of a view.
-pub fn view(file: &[u8], dim: u64, place: u64) -> Result<[usize; 32], Refusal> {
-    let (n, d, p) = (file.len(), dim as usize, place as usize);
-    let given =
-        LENDING.with(|l| lent(l, &l.file, file, |f| answer::<usize, 32>(l, |o, m| unsafe { dgn_view(f, n, d, p, o, m) })));
-    result(given, |p| p)
+pub fn view(file: &[u8], dim: u64, place: u64) -> Result<[i64; 32], Refusal> {
+    Ok(of_file(file, |f, o| raw::view(f, dim as usize, place as usize, o))?)
 }
 
 /// The three numbers of a point.
 pub fn point(file: &[u8], dim: u64, place: u64, k: u64) -> Result<[i64; 3], Refusal> {
-    let (n, d, p, k) = (file.len(), dim as usize, place as usize, k as usize);
-    let given =
-        LENDING.with(|l| lent(l, &l.file, file, |f| answer::<i64, 3>(l, |o, m| unsafe { dgn_point(f, n, d, p, k, o, m) })));
-    result(given, |p| p as usize)
+    Ok(of_file(file, |f, o| raw::point(f, dim as usize, place as usize, k as usize, o))?)
 }
 
 pub fn linkage(file: &[u8], dim: u64, place: u64, k: u64) -> Result<Linkage, Refusal> {
-    let (n, d, p, k) = (file.len(), dim as usize, place as usize, k as usize);
-    let given = LENDING
-        .with(|l| lent(l, &l.file, file, |f| answer::<usize, 4>(l, |o, m| unsafe { dgn_linkage(f, n, d, p, k, o, m) })));
-    result(given, |p| p).map(|o| {
-        assert!(o[0] <= 1, "1 for a user linkage, else 0");
-        let kind = if o[0] == 1 { LinkageKind::User } else { LinkageKind::Other };
-        Linkage { kind, place: o[1] as u64, size: o[2] as u64, id: u16::try_from(o[3]).unwrap() }
-    })
+    let o = of_file::<_, 4>(file, |f, o| raw::linkage(f, dim as usize, place as usize, k as usize, o))?;
+    assert!(o[0] <= 1, "1 for a user linkage, else 0");
+    let kind = if o[0] == 1 { LinkageKind::User } else { LinkageKind::Other };
+    Ok(Linkage { kind, place: o[1] as u64, size: o[2] as u64, id: u16::try_from(o[3]).unwrap() })
+}
+
+/// Lends a slice of so many marked numbers. Gives the answer and the numbers; those behind the `written` ones must stay.
+fn filled<const N: usize>(
+    room: usize,
+    written: impl Fn(&[usize; N]) -> usize,
+    call: impl FnOnce(&Lending, &mut [i64]) -> Result<[usize; N], Refused>,
+) -> Result<([usize; N], Vec<i64>), Refusal> {
+    let mut numbers = vec![i64::MARK; room];
+    let out = LENDING.with(|l| lent_to_write(l, &l.numbers, &mut numbers, |n| call(l, n)))?;
+    let behind = numbers.split_off(written(&out));
+    assert!(behind.iter().all(|&number| number == i64::MARK), "what stands behind the numbers stays");
+    Ok((out, numbers))
+}
+
+/// The numbers of the views from element number k on, in a slice of so many numbers.
+pub fn views(file: &[u8], dim: u64, k: u64, room: usize) -> Result<Vec<i64>, Refusal> {
+    let (_, numbers) = filled::<1>(
+        room,
+        |out| 32 * out[0],
+        |l, n| lent(l, &l.file, file, |f| answer(l, |o| raw::views(f, dim as usize, k as usize, n, o))),
+    )?;
+    Ok(numbers)
+}
+
+/// The next element number, and the numbers of the points from element number k on, in a slice of so many numbers.
+pub fn points(file: &[u8], dim: u64, k: u64, room: usize) -> Result<(u64, Vec<i64>), Refusal> {
+    let (out, numbers) = filled::<2>(
+        room,
+        |out| out[1],
+        |l, n| lent(l, &l.file, file, |f| answer(l, |o| raw::points(f, dim as usize, k as usize, n, o))),
+    )?;
+    Ok((out[0] as u64, numbers))
+}
+
+/// Kind, header's place, place, payload words, and the used length before the record.
+pub fn record(journal: &[u8], jused: u64) -> Result<[u64; 5], Refusal> {
+    let out: [usize; 5] =
+        LENDING.with(|l| lent(l, &l.journal, journal, |j| answer(l, |o| raw::record(j, jused as usize, o))))?;
+    Ok(out.map(|number| number as u64))
 }
 
 pub fn pack(text: &[u8]) -> Result<(u16, u16), Refusal> {
-    let n = text.len();
-    let given = LENDING.with(|l| lent(l, &l.text, text, |t| answer::<usize, 2>(l, |o, m| unsafe { dgn_pack(t, n, o, m) })));
-    result(given, |p| p).map(|o| (u16::try_from(o[0]).unwrap(), u16::try_from(o[1]).unwrap()))
+    let o: [usize; 2] = LENDING.with(|l| lent(l, &l.text, text, |t| answer(l, |o| raw::pack(t, o))))?;
+    Ok((u16::try_from(o[0]).unwrap(), u16::try_from(o[1]).unwrap()))
 }
 
-/// The seven bytes of a text. A refusal writes none of them, and its place is 0.
+/// The seven bytes of a text.
 pub fn unpack(first: u64, second: u64) -> Result<[u8; 7], Refusal> {
-    let (number, text) =
-        LENDING.with(|l| answer::<u8, 7>(l, |t, m| unsafe { dgn_unpack(first as usize, second as usize, t, m) }));
-    if number == 0 {
-        return Ok(text);
-    }
-    assert_eq!(text, [u8::MARK; 7], "a refusal leaves the lent text");
-    Err(refusal(number, 0))
+    Ok(LENDING.with(|l| answer(l, |t| raw::unpack(first as usize, second as usize, t)))?)
 }
 
 /// Writes into a copy of the buffer, which is copied back.
 pub fn write(fields: &[usize], points: &[i32], tail: &[u8], dim: u64, buffer: &mut [u8]) -> Result<u64, Refusal> {
-    let (f, p, t, b, d) = (fields.len(), points.len(), tail.len(), buffer.len(), dim as usize);
-    let given = LENDING.with(|l| {
-        let lent_buffer = l.buffer.lend(buffer, l.side.get());
-        let given = lent(l, &l.fields, fields, |fields| {
-            lent(l, &l.points, points, |points| {
-                lent(l, &l.tail, tail, |tail| {
-                    answer::<usize, 1>(l, |o, m| unsafe {
-                        dgn_write(fields, f, points, p, tail, t, d, lent_buffer, b, o, m)
-                    })
+    let out: [usize; 1] = LENDING.with(|l| {
+        lent_to_write(l, &l.buffer, buffer, |b| {
+            lent(l, &l.fields, fields, |f| {
+                lent(l, &l.points, points, |p| {
+                    lent(l, &l.tail, tail, |t| answer(l, |o| raw::write(f, p, t, dim as usize, b, o)))
                 })
             })
-        });
-        buffer.copy_from_slice(unsafe { std::slice::from_raw_parts(lent_buffer, b) });
-        given
-    });
-    result(given, |p| p).map(|o| o[0] as u64)
+        })
+    })?;
+    Ok(out[0] as u64)
 }
 
-/// A session as it is lent.
-struct Session {
-    file: *mut u8,
-    len: usize,
+/// The buffers of a session as they are lent, and its numbers.
+struct Lent<'a> {
+    file: &'a mut [u8],
     used: usize,
-    journal: *mut u8,
-    journal_len: usize,
+    journal: &'a mut [u8],
     jused: usize,
     dim: usize,
 }
 
-/// Lends the buffers of a session as copies, which are copied back, and an answer slice of N numbers. A refusal leaves the
-/// buffers as they were.
-fn in_session<const N: usize>(
+/// Lends the buffers of a session as copies, which are copied back.
+fn in_session<R>(
     l: &Lending,
     state: &mut State,
-    call: impl FnOnce(Session, *mut usize, usize) -> usize,
-) -> (usize, [usize; N]) {
-    let (len, journal_len) = (state.file.len(), state.journal.len());
-    let file = l.buffer.lend(&state.file, l.side.get());
-    let journal = l.journal.lend(&state.journal, l.side.get());
+    call: impl FnOnce(Lent) -> Result<R, Refused>,
+) -> Result<R, Refused> {
     let (used, jused, dim) = (state.used as usize, state.jused as usize, state.dim as usize);
-    let given = answer(l, |o, m| call(Session { file, len, used, journal, journal_len, jused, dim }, o, m));
-    let (file, journal) =
-        unsafe { (std::slice::from_raw_parts(file, len), std::slice::from_raw_parts(journal, journal_len)) };
-    assert!(given.0 == 0 || file == state.file && journal == state.journal, "a refusal changes no byte");
-    state.file.copy_from_slice(file);
-    state.journal.copy_from_slice(journal);
-    given
+    let State { file, journal, .. } = state;
+    lent_to_write(l, &l.buffer, file, |file| {
+        lent_to_write(l, &l.journal, journal, |journal| call(Lent { file, used, journal, jused, dim }))
+    })
+}
+
+/// One call of a session. `ask` lends the answer slice. An undo may not write the journal.
+fn edited<R>(
+    l: &Lending,
+    state: &mut State,
+    call: &Call,
+    ask: impl FnOnce(&Lending, &mut dyn FnMut(&mut [usize]) -> usize) -> Result<R, Refused>,
+) -> Result<R, Refused> {
+    match call {
+        Call::Mark { place, deleted } => marked(l, state, *place, usize::from(*deleted), ask),
+        Call::Rename { place, text } => lent(l, &l.text, text, |t| {
+            in_session(l, state, |s| {
+                ask(l, &mut |o| raw::rename(s.file, s.used, s.journal, s.jused, s.dim, *place as usize, t, o))
+            })
+        }),
+        Call::Insert { header, place, piece } => lent(l, &l.tail, piece, |x| {
+            let (h, p) = (header.unwrap_or(TOP) as usize, *place as usize);
+            in_session(l, state, |s| {
+                ask(l, &mut |o| raw::insert(s.file, s.used, s.journal, s.jused, s.dim, h, p, x, o))
+            })
+        }),
+        Call::Remove { place } => in_session(l, state, |s| {
+            ask(l, &mut |o| raw::remove(s.file, s.used, s.journal, s.jused, s.dim, *place as usize, o))
+        }),
+        Call::Undo => in_session(l, state, |s| {
+            l.journal.read_only();
+            let given = ask(l, &mut |o| raw::undo(s.file, s.used, s.journal, s.jused, s.dim, o));
+            l.journal.writable();
+            given
+        }),
+    }
 }
 
 /// A mark by a number, which should be 0 or 1.
-fn marked<const N: usize>(l: &Lending, state: &mut State, place: u64, deleted: usize) -> (usize, [usize; N]) {
-    in_session(l, state, |s, o, m| unsafe {
-        dgn_mark(s.file, s.len, s.used, s.journal, s.journal_len, s.jused, s.dim, place as usize, deleted, o, m)
-    })
-}
-
-fn renamed<const N: usize>(l: &Lending, state: &mut State, place: u64, text: &[u8]) -> (usize, [usize; N]) {
-    let (p, n) = (place as usize, text.len());
-    lent(l, &l.text, text, |t| {
-        in_session(l, state, |s, o, m| unsafe {
-            dgn_rename(s.file, s.len, s.used, s.journal, s.journal_len, s.jused, s.dim, p, t, n, o, m)
-        })
-    })
-}
-
-fn inserted<const N: usize>(
+fn marked<R>(
     l: &Lending,
     state: &mut State,
-    header: Option<u64>,
     place: u64,
-    piece: &[u8],
-) -> (usize, [usize; N]) {
-    let (h, p, n) = (header.unwrap_or(TOP) as usize, place as usize, piece.len());
-    lent(l, &l.tail, piece, |x| {
-        in_session(l, state, |s, o, m| unsafe {
-            dgn_insert(s.file, s.len, s.used, s.journal, s.journal_len, s.jused, s.dim, h, p, x, n, o, m)
-        })
+    deleted: usize,
+    ask: impl FnOnce(&Lending, &mut dyn FnMut(&mut [usize]) -> usize) -> Result<R, Refused>,
+) -> Result<R, Refused> {
+    in_session(l, state, |s| {
+        ask(l, &mut |o| raw::mark(s.file, s.used, s.journal, s.jused, s.dim, place as usize, deleted, o))
     })
-}
-
-fn removed<const N: usize>(l: &Lending, state: &mut State, place: u64) -> (usize, [usize; N]) {
-    in_session(l, state, |s, o, m| unsafe {
-        dgn_remove(s.file, s.len, s.used, s.journal, s.journal_len, s.jused, s.dim, place as usize, o, m)
-    })
-}
-
-/// An undo, which may not write the journal.
-fn undone<const N: usize>(l: &Lending, state: &mut State) -> (usize, [usize; N]) {
-    in_session(l, state, |s, o, m| {
-        l.journal.read_only();
-        let number =
-            unsafe { dgn_undo(s.file, s.len, s.used, s.journal, s.journal_len, s.jused, s.dim, o, m) };
-        l.journal.writable();
-        number
-    })
-}
-
-fn edited<const N: usize>(l: &Lending, state: &mut State, call: &Call) -> (usize, [usize; N]) {
-    match call {
-        Call::Mark { place, deleted } => marked(l, state, *place, usize::from(*deleted)),
-        Call::Rename { place, text } => renamed(l, state, *place, text),
-        Call::Insert { header, place, piece } => inserted(l, state, *header, *place, piece),
-        Call::Remove { place } => removed(l, state, *place),
-        Call::Undo => undone(l, state),
-    }
 }
 
 /// One call of a session, which takes over the new used lengths.
 pub fn call(state: &mut State, call: &Call) -> Result<(), Refusal> {
-    let given = LENDING.with(|l| edited::<2>(l, state, call));
-    result(given, |p| p).map(|o| {
-        state.used = o[0] as u64;
-        state.jused = o[1] as u64;
-    })
+    let out: [usize; 2] = LENDING.with(|l| edited(l, state, call, |l, ask| answer(l, ask)))?;
+    [state.used, state.jused] = out.map(|length| length as u64);
+    Ok(())
 }
 
 /// The same with answer slices that are too short: 1, and nothing is written.
 pub fn short_call(state: &mut State, call: &Call) {
     LENDING.with(|l| {
-        assert_eq!(edited::<1>(l, state, call), (1, [usize::MARK]));
-        assert_eq!(edited::<0>(l, state, call), (1, []));
+        assert!(edited(l, state, call, |l, ask| short::<_, 1>(l, ask)).is_err());
+        assert!(edited(l, state, call, |l, ask| short::<_, 0>(l, ask)).is_err());
     });
 }
 
 /// A mark by a number that is neither 0 nor 1.
 pub fn mark_by(state: &mut State, place: u64, deleted: usize) -> Result<[usize; 2], Refusal> {
-    result(LENDING.with(|l| marked(l, state, place, deleted)), |p| p)
+    Ok(LENDING.with(|l| marked(l, state, place, deleted, |l, ask| answer(l, ask)))?)
 }
 
-/// Every call with an answer slice of M numbers, one too few: 1, and nothing is written.
+/// Every other call with an answer slice of M numbers, one too few or none: 1, and nothing is written.
 pub fn short_answers(file: &[u8]) {
-    fn short<T: Mark, const M: usize>(l: &Lending, call: impl FnOnce(*mut T, usize) -> usize) {
-        assert_eq!(answer::<T, M>(l, call), (1, [T::MARK; M]));
-    }
-    let n = file.len();
+    // a call that would be made, but for its answer: a 2D line without a tail
+    let fields = [3usize, 0, 0, 0, 0, 0, 0, 0, 0, 0, 0, 0, 0, 0, 0, 0];
     LENDING.with(|l| {
-        lent(l, &l.file, file, |f| unsafe {
-            short::<usize, 2>(l, |o, m| dgn_judge(f, n, 2, o, m));
-            short::<usize, 1>(l, |o, m| dgn_find(f, n, 2, f, 0, o, m));
-            short::<usize, 1>(l, |o, m| dgn_extent(f, n, 2, 0, o, m));
-            short::<usize, 31>(l, |o, m| dgn_view(f, n, 2, 0, o, m));
-            short::<i64, 2>(l, |o, m| dgn_point(f, n, 2, 0, 0, o, m));
-            short::<usize, 3>(l, |o, m| dgn_linkage(f, n, 2, 0, 0, o, m));
-            short::<usize, 1>(l, |o, m| dgn_pack(f, 0, o, m));
-            short::<u8, 6>(l, |o, m| dgn_unpack(0, 0, o, m));
-            // a call that would be made, but for its answer: a 2D line without a tail
-            let fields = [3usize, 0, 0, 0, 0, 0, 0, 0, 0, 0, 0, 0, 0, 0, 0, 0];
-            let points = [0i32; 4];
-            let mut buffer = [7u8; 52];
-            short::<usize, 0>(l, |o, m| {
-                dgn_write(fields.as_ptr(), 16, points.as_ptr(), 4, f, 0, 2, buffer.as_mut_ptr(), 52, o, m)
-            });
-            assert_eq!(buffer, [7; 52]);
+        lent(l, &l.file, file, |f| {
+            let refused = [
+                short::<_, 2>(l, |o| raw::judge(f, 2, o)),
+                short::<_, 0>(l, |o| raw::judge(f, 2, o)),
+                short::<_, 1>(l, |o| raw::find(f, 2, &[], o)),
+                short::<_, 0>(l, |o| raw::find(f, 2, &[], o)),
+                short::<_, 1>(l, |o| raw::extent(f, 2, 0, o)),
+                short::<_, 0>(l, |o| raw::extent(f, 2, 0, o)),
+                short::<_, 31>(l, |o| raw::view(f, 2, 0, o)),
+                short::<_, 0>(l, |o| raw::view(f, 2, 0, o)),
+                short::<_, 2>(l, |o| raw::point(f, 2, 0, 0, o)),
+                short::<_, 0>(l, |o| raw::point(f, 2, 0, 0, o)),
+                short::<_, 3>(l, |o| raw::linkage(f, 2, 0, 0, o)),
+                short::<_, 0>(l, |o| raw::linkage(f, 2, 0, 0, o)),
+                short::<_, 1>(l, |o| raw::pack(&[], o)),
+                short::<_, 0>(l, |o| raw::pack(&[], o)),
+                short::<_, 6>(l, |o| raw::unpack(0, 0, o)),
+                short::<_, 0>(l, |o| raw::unpack(0, 0, o)),
+                lent_to_write(l, &l.buffer, &mut [7; 52], |b| {
+                    short::<_, 0>(l, |o| raw::write(&fields, &[0; 4], &[], 2, b, o))
+                }),
+                lent_to_write(l, &l.numbers, &mut [7; 64], |n| short::<_, 0>(l, |o| raw::views(f, 2, 0, n, o))),
+                lent_to_write(l, &l.numbers, &mut [7; 64], |n| short::<_, 1>(l, |o| raw::points(f, 2, 0, n, o))),
+                lent_to_write(l, &l.numbers, &mut [7; 64], |n| short::<_, 0>(l, |o| raw::points(f, 2, 0, n, o))),
+            ];
+            assert!(refused.iter().all(Result::is_err));
         });
-        // no number at all
-        lent(l, &l.file, file, |f| unsafe {
-            short::<usize, 0>(l, |o, m| dgn_judge(f, n, 2, o, m));
-            short::<usize, 0>(l, |o, m| dgn_find(f, n, 2, f, 0, o, m));
-            short::<usize, 0>(l, |o, m| dgn_extent(f, n, 2, 0, o, m));
-            short::<usize, 0>(l, |o, m| dgn_view(f, n, 2, 0, o, m));
-            short::<i64, 0>(l, |o, m| dgn_point(f, n, 2, 0, 0, o, m));
-            short::<usize, 0>(l, |o, m| dgn_linkage(f, n, 2, 0, 0, o, m));
-            short::<usize, 0>(l, |o, m| dgn_pack(f, 0, o, m));
-            short::<u8, 0>(l, |o, m| dgn_unpack(0, 0, o, m));
+        // a journal whose last record is in order
+        let journal = [1, 0, 255, 255, 255, 255, 0, 0, 0, 0, 0, 0];
+        assert_eq!(record(&journal, 12), Ok([1, TOP, 0, 0, 0]));
+        lent(l, &l.journal, &journal, |j| {
+            assert!(short::<_, 4>(l, |o| raw::record(j, 12, o)).is_err());
+            assert!(short::<_, 0>(l, |o| raw::record(j, 12, o)).is_err());
         });
     });
 }

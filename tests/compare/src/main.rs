@@ -1,11 +1,12 @@
 //! Runs the proved library and the second reader on the same inputs, from a seed, and stops at the first difference.
 //! `compare` is the gate's run; `compare FILES SEED` a run of any length.
 
+mod bindings;
 mod damage;
-mod declared;
 mod edited;
 mod files;
 mod guard;
+mod history;
 mod library;
 mod limits;
 mod program;
@@ -13,6 +14,7 @@ mod real;
 mod runs;
 mod seen;
 mod sessions;
+mod whole;
 mod writes;
 
 use reader::generate::Random;
@@ -56,6 +58,12 @@ fn main() {
     pass("each number at each depth, and two faults in one element: equal".to_string());
     files::cuts(&mut random, &mut runs, 200);
     pass("cuts, and every place: equal".to_string());
+    whole::small(&mut random, &mut runs, 100);
+    pass("every part of small files, views and points: equal".to_string());
+    whole::largest(&mut random, &mut runs);
+    pass("the largest files in parts, views and points: equal".to_string());
+    bindings::generated(&mut random, &mut runs, 500);
+    pass("the bindings' structs: equal".to_string());
     let before = runs.files;
     while runs.files < before + wanted {
         files::generated(&mut random, &mut runs);
@@ -69,6 +77,8 @@ fn main() {
     let before = runs.calls;
     real::sessions(&mut random, &mut runs);
     pass("sessions on real files, every edit at every place: equal".to_string());
+    history::journals(&mut random, &mut runs, 20_000);
+    pass("the last record of journals in order and damaged: equal".to_string());
     limits::records(&mut runs);
     pass("journal records of every kind: equal".to_string());
     limits::room(&mut runs);

@@ -1,7 +1,9 @@
 //! The real files of tests/real, each with the answer of its table, by both; and the same files changed and cut.
 
+use crate::bindings;
 use crate::runs::Runs;
 use crate::sessions;
+use crate::whole;
 use reader::generate::{changes, Random};
 
 /// Each line of the table: file, dimension, and the answer as `accepted E D M` or `refused N P`.
@@ -30,6 +32,8 @@ pub fn run(runs: &mut Runs) {
         };
         assert_eq!(ours, answer, "{name}");
         runs.everywhere(&file, dim);
+        whole::every_part(runs, &file, dim);
+        bindings::file(runs, &file, dim);
         for p in 0..file.len() as u64 / 2 {
             for k in 2..5 {
                 runs.numbered(&file, dim, p, k);

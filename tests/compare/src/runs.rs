@@ -5,6 +5,7 @@ use crate::edited::Edited;
 use crate::guard::Side;
 use crate::library;
 use crate::seen::Seen;
+use crate::whole;
 use reader::generate::writes::Write;
 use reader::generate::{place, places, texts, Random};
 use reader::{Judged, Refusal, View};
@@ -18,8 +19,8 @@ pub struct Runs {
     pub edits: Edited,
 }
 
-/// The numbers of a view, in the order of include/dgn.h.
-fn view_numbers(v: &View) -> [usize; 32] {
+/// The numbers of a view at a place, in the order of include/dgn.h.
+pub fn view_numbers(v: &View, place: u64) -> [i64; 32] {
     let number = |n: Option<u64>| [u64::from(n.is_some()), n.unwrap_or(0)];
     let range = v.range.unwrap_or([0; 6]).map(u64::from);
     let display = v.display.as_ref().map_or([0; 6], |d| {
@@ -37,16 +38,16 @@ fn view_numbers(v: &View) -> [usize; 32] {
     all.extend(name);
     all.extend(number(v.total));
     all.extend(number(v.count));
-    all.push(0);
+    all.push(place);
     let mut numbers = [0; 32];
     for (slot, value) in numbers.iter_mut().zip(all) {
-        *slot = value as usize;
+        *slot = value as i64;
     }
     numbers
 }
 
 /// A point as three numbers; the third is 0 in a 2D file.
-fn point_numbers(point: &[i32]) -> [i64; 3] {
+pub fn point_numbers(point: &[i32]) -> [i64; 3] {
     let mut numbers = [0; 3];
     for (slot, &value) in numbers.iter_mut().zip(point) {
         *slot = i64::from(value);
@@ -101,7 +102,7 @@ impl Runs {
         assert_eq!(library::extent(file, dim, p), reader::extent(file, dim, p), "extent at {p}, {dim}D, {file:02x?}");
         assert_eq!(
             library::view(file, dim, p),
-            reader::view(file, dim, p).map(|v| view_numbers(&v)),
+            reader::view(file, dim, p).map(|v| view_numbers(&v, p)),
             "view at {p}, {dim}D, {file:02x?}"
         );
         self.calls += 2;
@@ -132,6 +133,7 @@ impl Runs {
         self.at(file, dim, p, k);
         let text = texts::any_text(random);
         self.find(file, dim, &text);
+        whole::any_part(random, self, file, dim);
         judged
     }
 

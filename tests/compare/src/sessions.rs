@@ -35,6 +35,7 @@ impl Both {
     pub fn call(&mut self, runs: &mut Runs, call: &Call) -> Result<(), Refusal> {
         let kind = last_kind(&self.ours);
         let good = reader::judge(self.ours.used_file(), self.ours.dim).is_ok();
+        let before = (self.ours.used, runs.record(&self.ours.journal, self.ours.jused));
         let answer = library::call(&mut self.ours, call);
         let expected = self.theirs.run(call);
         assert_eq!(answer, expected, "{call:?} from {:?}", self.start);
@@ -43,6 +44,7 @@ impl Both {
             book.feed(call, answer.is_err());
             assert_eq!(book.words(), Some(words_of(self.ours.used_file())), "{call:?} from {:?}", self.start);
         }
+        runs.record_of(call, &answer, before, &self.ours);
         runs.calls += 1;
         runs.edits.note(self.start.dim, call, &answer, good, kind);
         answer

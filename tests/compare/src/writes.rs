@@ -13,14 +13,14 @@ fn read_back(w: &Write, element: &[u8]) {
     file[0] &= 0x7f;
     file.extend([255, 255]);
     let v = library::view(&file, w.dim, 0).expect("a written element is read");
-    let f = field_numbers(&w.fields);
+    let f = field_numbers(&w.fields).map(|number| number as i64);
     assert_eq!([v[0], v[2], v[3]], [f[1], f[0], f[3]], "level, type, deleted");
-    assert_eq!(v[4], element.len() / 2, "size");
+    assert_eq!((v[4], v[31]), (element.len() as i64 / 2, 0), "size, place");
     assert_eq!((v[8], &v[9..15]), (1, &f[4..10]), "range");
     assert_eq!((v[15], &v[16..22]), (1, &f[10..16]), "words 14 to 17");
     let dim = w.dim as usize;
     let n = w.points.len() / dim;
-    assert_eq!([v[22], v[23]], if f[0] == 3 { [0, 0] } else { [1, n] }, "number of points");
+    assert_eq!([v[22], v[23]], if f[0] == 3 { [0, 0] } else { [1, n as i64] }, "number of points");
     for (k, point) in w.points.chunks(dim).enumerate() {
         let given = library::point(&file, w.dim, 0, k as u64).expect("a written point is there");
         assert_eq!(given[..dim], point.iter().map(|&x| i64::from(x)).collect::<Vec<_>>()[..]);

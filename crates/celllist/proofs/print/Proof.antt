@@ -1,4 +1,4 @@
--- `celllist::print` is safe: its `requires` says that the line has n bytes.
+-- `celllist::print` is safe: its `requires` says that the part has n bytes.
 use mathlib.Core.Path.{sym}
 use borrow.Author.Needs.{needs}
 use lib.Seq.{length-take-le}
@@ -6,7 +6,7 @@ use Rattle.celllist.proofs.print.Statement.{statement}
 use Rattle.celllist.proofs.print.Tie as tie
 
 slice-aggregate-write-all : tie.Need-slice-aggregate-write-all
-slice-aggregate-write-all c = let start = c .before .before in sym (length-take-le (start .args .n) (start .args .line .now) (start .pre))
+slice-aggregate-write-all c = let start = c .before .before in sym (length-take-le (start .args .n) (start .args .part .now) (start .pre))
 
 write-all-requires : tie.Need-write-all-requires
 write-all-requires c κs = search needs

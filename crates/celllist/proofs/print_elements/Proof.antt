@@ -1,6 +1,6 @@
--- `celllist::print_elements` is safe and ends. The loop's invariant: the line's buffer keeps its length. The measure is
--- the number of elements that are left.
-use Prim.Native.Nat.{_-_}
+-- `celllist::print_elements` is safe and ends. The loop's invariant: the part keeps its length, and the bytes that wait are
+-- within it. The measure is the number of elements that are left.
+use Prim.Native.Nat.{_≤_, _-_}
 use mathlib.Core.Path.{_≡_}
 use lib.ListN.{length}
 use borrow.Author.Needs.{needs}
@@ -8,10 +8,10 @@ use Rattle.celllist.proofs.print_elements.Statement.{statement}
 use Rattle.celllist.proofs.print_elements.Tie as tie
 
 abbrev Inv-loop : tie.InvT-loop
-Inv-loop file elements marker line₀ n w₀ k₀ line w k = length line ≡ 128
+Inv-loop file elements marker part₀ n₀ w₀ k₀ part n w k = (length part ≡ 16384) × (n ≤ length part)
 
 abbrev μ-loop : tie.MeasureT-loop
-μ-loop file elements marker line₀ n w₀ k₀ line w k = elements - k
+μ-loop file elements marker part₀ n₀ w₀ k₀ part n w k = elements - k
 
 slice-aggregate-heading : tie.Need-slice-aggregate-heading Inv-loop μ-loop
 slice-aggregate-heading c = search needs
@@ -19,29 +19,29 @@ slice-aggregate-heading c = search needs
 heading-requires : tie.Need-heading-requires Inv-loop μ-loop
 heading-requires c κs = search needs
 
-slice-aggregate-print : tie.Need-slice-aggregate-print Inv-loop μ-loop
-slice-aggregate-print c = search needs
-
-print-requires : tie.Need-print-requires Inv-loop μ-loop
-print-requires c κs = search needs
-
 start-requires : tie.Need-start-requires Inv-loop μ-loop
 start-requires c κs = search needs
 
 loop-holds : tie.Need-loop-holds Inv-loop μ-loop
 loop-holds c = search needs
 
-slice-aggregate-line : tie.Need-slice-aggregate-line Inv-loop μ-loop
-slice-aggregate-line c = search needs
+next-line-requires : tie.Need-next-line-requires Inv-loop μ-loop
+next-line-requires c κs = search needs
 
-line-requires : tie.Need-line-requires Inv-loop μ-loop
-line-requires c κs = search needs
+slice-aggregate-print-full : tie.Need-slice-aggregate-print-full Inv-loop μ-loop
+slice-aggregate-print-full c = search needs
 
-slice-aggregate-print-2 : tie.Need-slice-aggregate-print-2 Inv-loop μ-loop
-slice-aggregate-print-2 c = search needs
+print-full-requires : tie.Need-print-full-requires Inv-loop μ-loop
+print-full-requires c κs = search needs
 
-print-requires-2 : tie.Need-print-requires-2 Inv-loop μ-loop
-print-requires-2 c κs = search needs
+returns : tie.Need-returns Inv-loop μ-loop
+returns c = search needs
+
+slice-aggregate-put-line : tie.Need-slice-aggregate-put-line Inv-loop μ-loop
+slice-aggregate-put-line c = search needs
+
+put-line-requires : tie.Need-put-line-requires Inv-loop μ-loop
+put-line-requires c κs = search needs
 
 next-requires : tie.Need-next-requires Inv-loop μ-loop
 next-requires c κs = search needs
@@ -55,20 +55,32 @@ loop-less c = search needs
 loop-again : tie.Need-loop-again Inv-loop μ-loop
 loop-again c = search needs
 
-slice-aggregate-end-line : tie.Need-slice-aggregate-end-line Inv-loop μ-loop
-slice-aggregate-end-line c = search needs
+next-line-requires-2 : tie.Need-next-line-requires-2 Inv-loop μ-loop
+next-line-requires-2 c κs = search needs
 
-end-line-requires : tie.Need-end-line-requires Inv-loop μ-loop
-end-line-requires c κs = search needs
+slice-aggregate-print-full-2 : tie.Need-slice-aggregate-print-full-2 Inv-loop μ-loop
+slice-aggregate-print-full-2 c = search needs
 
-slice-aggregate-print-3 : tie.Need-slice-aggregate-print-3 Inv-loop μ-loop
-slice-aggregate-print-3 c = search needs
+print-full-requires-2 : tie.Need-print-full-requires-2 Inv-loop μ-loop
+print-full-requires-2 c κs = search needs
 
-print-requires-3 : tie.Need-print-requires-3 Inv-loop μ-loop
-print-requires-3 c κs = search needs
+returns-2 : tie.Need-returns-2 Inv-loop μ-loop
+returns-2 c = search needs
 
-returns : tie.Need-returns Inv-loop μ-loop
-returns c = search needs
+slice-aggregate-put-end : tie.Need-slice-aggregate-put-end Inv-loop μ-loop
+slice-aggregate-put-end c = search needs
+
+put-end-requires : tie.Need-put-end-requires Inv-loop μ-loop
+put-end-requires c κs = search needs
+
+slice-aggregate-print : tie.Need-slice-aggregate-print Inv-loop μ-loop
+slice-aggregate-print c = search needs
+
+print-requires : tie.Need-print-requires Inv-loop μ-loop
+print-requires c κs = search needs
+
+returns-3 : tie.Need-returns-3 Inv-loop μ-loop
+returns-3 c = search needs
 
 pub print-elements-spec : {M : Type 1} → statement M
 print-elements-spec =
@@ -78,20 +90,24 @@ print-elements-spec =
     μ-loop
     slice-aggregate-heading
     heading-requires
-    slice-aggregate-print
-    print-requires
     start-requires
     loop-holds
-    slice-aggregate-line
-    line-requires
-    slice-aggregate-print-2
-    print-requires-2
+    next-line-requires
+    slice-aggregate-print-full
+    print-full-requires
+    returns
+    slice-aggregate-put-line
+    put-line-requires
     next-requires
     add-k
     loop-less
     loop-again
-    slice-aggregate-end-line
-    end-line-requires
-    slice-aggregate-print-3
-    print-requires-3
-    returns)
+    next-line-requires-2
+    slice-aggregate-print-full-2
+    print-full-requires-2
+    returns-2
+    slice-aggregate-put-end
+    put-end-requires
+    slice-aggregate-print
+    print-requires
+    returns-3)

@@ -4,6 +4,7 @@ use mathlib.Core.Path.{ap, sym, _∙_}
 use lib.ListN.{length-set}
 use Rattle.dgn.specs.JudgeFind.{judgeReply}
 use Rattle.answers.proofs.Laws.{too-short, answered}
+use Rattle.answers.proofs.Refusals.{file-small}
 use borrow.Author.Needs.{needs}
 use Rattle.dgn.proofs.dgn_judge.Statement.{statement}
 use Rattle.dgn.proofs.dgn_judge.Tie as tie
@@ -29,8 +30,11 @@ slice-write-out-3 c = simp length-set (omega arith)
 enum-known-number : tie.Need-enum-known-number
 enum-known-number c = search needs
 
-slice-write-out-4 : tie.Need-slice-write-out-4
-slice-write-out-4 c = omega arith
+mul-result : tie.Need-mul-result
+mul-result c = let b = file-small _ _ _ _ (sym (c .before .before .before .judge .ensures) ∙ (c .before .number .given .1)) in omega arith
+
+add-result : tie.Need-add-result
+add-result c = let b = file-small _ _ _ _ (sym (c .before .before .before .judge .ensures) ∙ (c .before .number .given .1)) in omega arith
 
 same-length : tie.Need-same-length
 same-length c = simp length-set
@@ -42,9 +46,6 @@ returns-2 c =
     let start = at-if1 .before .before .before in
     answered 3 _ _ (start .args .out .now)
     (ap judgeReply (sym (at-judge .judge .ensures) ∙ (c .before .elements .given .1))) (at-if1 .if1 .left)
-
-same-length-2 : tie.Need-same-length-2
-same-length-2 c = simp length-set
 
 returns-3 : tie.Need-returns-3
 returns-3 c =
@@ -65,8 +66,8 @@ dgn-judge-spec =
     slice-write-out-2
     slice-write-out-3
     enum-known-number
-    slice-write-out-4
+    mul-result
+    add-result
     same-length
     returns-2
-    same-length-2
     returns-3)

@@ -4,6 +4,7 @@ use mathlib.Core.Path.{ap, sym, _∙_}
 use lib.ListN.{length-set}
 use Rattle.dgn_linkages.specs.LinkageNumbers.{linkageReply}
 use Rattle.answers.proofs.Laws.{too-short, answered}
+use Rattle.dgn_linkages.proofs.Small.{refused-small}
 use borrow.Author.Needs.{needs}
 use Rattle.dgn_linkages.proofs.dgn_linkage.Statement.{statement}
 use Rattle.dgn_linkages.proofs.dgn_linkage.Tie as tie
@@ -35,8 +36,11 @@ slice-write-out-4 c = search needs
 enum-known-number : tie.Need-enum-known-number
 enum-known-number c = search needs
 
-slice-write-out-5 : tie.Need-slice-write-out-5
-slice-write-out-5 c = search needs
+mul-result : tie.Need-mul-result
+mul-result c = let b = refused-small _ _ _ _ _ _ (sym (c .before .before .before .linkage-at .ensures) ∙ (c .before .number .given .1)) in omega arith
+
+add-result : tie.Need-add-result
+add-result c = let b = refused-small _ _ _ _ _ _ (sym (c .before .before .before .linkage-at .ensures) ∙ (c .before .number .given .1)) in omega arith
 
 same-length : tie.Need-same-length
 same-length c = search needs
@@ -50,9 +54,6 @@ returns-2 c =
     (answered 4 _ _ (start .args .out .now)
     (ap linkageReply (sym (at-linkage-at .linkage-at .ensures) ∙ (c .before .before .user .given .1)))
     (at-if1 .if1 .left))
-
-same-length-2 : tie.Need-same-length-2
-same-length-2 c = search needs
 
 returns-3 : tie.Need-returns-3
 returns-3 c =
@@ -75,8 +76,8 @@ dgn-linkage-spec =
     slice-write-out-3
     slice-write-out-4
     enum-known-number
-    slice-write-out-5
+    mul-result
+    add-result
     same-length
     returns-2
-    same-length-2
     returns-3)

@@ -7,12 +7,6 @@ use Rattle.dgn_marks.proofs.dgn_mark.Tie as tie
 returns : tie.Need-returns
 returns c = not-left _ _ _ ((c .if1 .taken))
 
-slice-write-out : tie.Need-slice-write-out
-slice-write-out c = search needs
-
-same-length : tie.Need-same-length
-same-length c = search needs
-
 returns-2 : tie.Need-returns-2
 returns-2 c = mark-not _ _ _ _ _ ((c .before .if1 .left)) ((c .if2 .taken))
 
@@ -22,14 +16,14 @@ mark-requires c κs = search needs
 put-edited-requires : tie.Need-put-edited-requires
 put-edited-requires c κs = tt
 
+same-length : tie.Need-same-length
+same-length c = search needs
+
 same-length-2 : tie.Need-same-length-2
 same-length-2 c = search needs
 
 same-length-3 : tie.Need-same-length-3
 same-length-3 c = search needs
-
-same-length-4 : tie.Need-same-length-4
-same-length-4 c = search needs
 
 returns-3 : tie.Need-returns-3
 returns-3 c =
@@ -44,12 +38,10 @@ dgn-mark-spec =
     tie.close
     (tie.spec
     returns
-    slice-write-out
-    same-length
     returns-2
     mark-requires
     put-edited-requires
+    same-length
     same-length-2
     same-length-3
-    same-length-4
     returns-3)

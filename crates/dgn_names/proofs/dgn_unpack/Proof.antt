@@ -1,7 +1,10 @@
 -- A slice that is too short stays; any other takes the letters, and stays where the words are refused.
+use native.Mathlib.Omega.{arith}
 use mathlib.Core.Path.{sym, ap, _∙_}
+use Rattle.names.specs.declared.Unpacked.{Unpacked}
 use Rattle.dgn_names.specs.PackUnpack.{unpackReply, textReply}
 use Rattle.answers.proofs.Laws.{too-short, answered}
+use Rattle.dgn_names.proofs.Small.{unpack-refused-small}
 use borrow.Author.Needs.{needs}
 use Rattle.dgn_names.proofs.dgn_unpack.Statement.{statement}
 use Rattle.dgn_names.proofs.dgn_unpack.Tie as tie
@@ -20,6 +23,16 @@ put-letters-requires c κs = search needs
 
 enum-known-answer : tie.Need-enum-known-answer
 enum-known-answer c = search needs
+
+mul-result : tie.Need-mul-result
+mul-result c =
+    let b = unpack-refused-small _ _ _ _ (ap (λ (u : Unpacked). u .answer) (sym (c .before .before .before .before .unpack .ensures)) ∙ (c .before .answer .given .1)) in
+    omega arith
+
+add-result : tie.Need-add-result
+add-result c =
+    let b = unpack-refused-small _ _ _ _ (ap (λ (u : Unpacked). u .answer) (sym (c .before .before .before .before .unpack .ensures)) ∙ (c .before .answer .given .1)) in
+    omega arith
 
 same-length : tie.Need-same-length
 same-length c = search needs
@@ -55,6 +68,8 @@ dgn-unpack-spec =
     enum-told
     put-letters-requires
     enum-known-answer
+    mul-result
+    add-result
     same-length
     returns-2
     returns-3)

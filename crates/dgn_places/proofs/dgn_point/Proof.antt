@@ -1,12 +1,12 @@
--- As in the other calls; a coordinate fits its type, and the place of a refusal is small (`point-inside`).
+-- As in the other calls; a coordinate fits its type.
 use native.Mathlib.Omega.{arith}
 use mathlib.Core.Path.{sym, ap, _∙_}
 use lib.ListN.{length-set}
 use mir.Syntax.{w64}
-use mir.ValLaws.{toZ-ofZ, toZ-pos}
+use mir.ValLaws.{toZ-ofZ}
 use Rattle.dgn_places.specs.ExtentPoint.{pointReply}
 use Rattle.answers.proofs.Laws.{too-short, answered}
-use Rattle.dgn_places.proofs.Places.{point-inside}
+use Rattle.dgn_places.proofs.Small.{point-refused-small}
 use borrow.Author.Needs.{needs}
 use Rattle.dgn_places.proofs.dgn_point.Statement.{statement}
 use Rattle.dgn_places.proofs.dgn_point.Tie as tie
@@ -44,11 +44,11 @@ slice-set-from-z c = simp length-set (omega arith)
 enum-known-number : tie.Need-enum-known-number
 enum-known-number c = search needs
 
-cast-out : tie.Need-cast-out
-cast-out c = record { sfits = omega (arith, point-inside _ _ _ _ _ _ (sym ((c .before .before .before .point-at .ensures)) ∙ (c .before .number .given .1))) }
+mul-result : tie.Need-mul-result
+mul-result c = let b = point-refused-small _ _ _ _ _ _ (sym (c .before .before .before .point-at .ensures) ∙ (c .before .number .given .1)) in omega arith
 
-slice-set-from-out : tie.Need-slice-set-from-out
-slice-set-from-out c = omega arith
+add-result : tie.Need-add-result
+add-result c = let b = point-refused-small _ _ _ _ _ _ (sym (c .before .before .before .point-at .ensures) ∙ (c .before .number .given .1)) in omega arith
 
 same-length : tie.Need-same-length
 same-length c = simp length-set
@@ -84,19 +84,13 @@ returns-3 c =
     (answered 3 _ _ (start .args .out .now)
     (ap pointReply (sym (at-point-at .point-at .ensures) ∙ (c .before .x2 .given .1))) (at-if1 .if1 .left))
 
-same-length-3 : tie.Need-same-length-3
-same-length-3 c = simp length-set
-
 returns-4 : tie.Need-returns-4
 returns-4 c =
     let at-point-at = c .before .before .before in
     let at-if1 = at-point-at .before in
     let start = at-if1 .before .before in
-    rw
-    (toZ-pos w64 (c .before .number .given .0 .1 .0)
-    (omega (arith, point-inside _ _ _ _ _ _ (sym (at-point-at .point-at .ensures) ∙ (c .before .number .given .1)))))
-    (answered 3 _ _ (start .args .out .now)
-    (ap pointReply (sym (at-point-at .point-at .ensures) ∙ (c .before .number .given .1))) (at-if1 .if1 .left))
+    answered 3 _ _ (start .args .out .now)
+    (ap pointReply (sym (at-point-at .point-at .ensures) ∙ (c .before .number .given .1))) (at-if1 .if1 .left)
 
 pub dgn-point-spec : {M : Type 1} → statement M
 dgn-point-spec =
@@ -113,11 +107,10 @@ dgn-point-spec =
     slice-set-from-y-2
     slice-set-from-z
     enum-known-number
-    cast-out
-    slice-set-from-out
+    mul-result
+    add-result
     same-length
     returns-2
     same-length-2
     returns-3
-    same-length-3
     returns-4)

@@ -1,8 +1,10 @@
 -- No room for the answer, no header fields, or the writer's own answer (proofs/Writing).
+use native.Mathlib.Omega.{arith}
 use mathlib.Core.Path.{ap}
 use Rattle.headers.proofs.Checks.{refused, accepted}
 use Rattle.dgn_writer.specs.Writing.{writeReply}
 use Rattle.dgn_writer.proofs.Writing.{given-sixteen, not-answered, not-given, written}
+use Rattle.dgn_writer.proofs.Small.{written-small}
 use borrow.Author.Needs.{needs}
 use Rattle.dgn_writer.proofs.dgn_write.Statement.{statement}
 use Rattle.dgn_writer.proofs.dgn_write.Tie as tie
@@ -12,12 +14,6 @@ returns c = not-answered _ _ _ _ _ _ ((c .if1 .taken))
 
 fields-given-requires : tie.Need-fields-given-requires
 fields-given-requires c κs = search needs
-
-slice-write-out : tie.Need-slice-write-out
-slice-write-out c = search needs
-
-same-length : tie.Need-same-length
-same-length c = search needs
 
 returns-2 : tie.Need-returns-2
 returns-2 c = not-given _ _ _ _ _ _ (refused ((c .before .fields-given .ensures)) ((c .if2 .taken))) ((c .before .before .if1 .left))
@@ -31,20 +27,29 @@ write-requires c κs = search needs
 enum-known-words : tie.Need-enum-known-words
 enum-known-words c = search needs
 
-slice-write-out-2 : tie.Need-slice-write-out-2
-slice-write-out-2 c = search needs
+slice-write-out : tie.Need-slice-write-out
+slice-write-out c = search needs
 
 enum-known-number : tie.Need-enum-known-number
 enum-known-number c = search needs
 
-slice-write-out-3 : tie.Need-slice-write-out-3
-slice-write-out-3 c = search needs
+mul-result : tie.Need-mul-result
+mul-result c =
+    let at-write = c .before .before .before .before .before in
+    let b = written-small _ _ _ _ _ (at-write .write .result) _ _ _ (at-write .write .ensures) (c .before .number .given .1) in
+    omega arith
+
+add-result : tie.Need-add-result
+add-result c =
+    let at-write = c .before .before .before .before .before in
+    let b = written-small _ _ _ _ _ (at-write .write .result) _ _ _ (at-write .write .ensures) (c .before .number .given .1) in
+    omega arith
+
+same-length : tie.Need-same-length
+same-length c = search needs
 
 same-length-2 : tie.Need-same-length-2
 same-length-2 c = search needs
-
-same-length-3 : tie.Need-same-length-3
-same-length-3 c = search needs
 
 returns-3 : tie.Need-returns-3
 returns-3 c =
@@ -57,11 +62,8 @@ returns-3 c =
     (accepted (at-fields-given .fields-given .ensures) (at-if2 .if2 .left)) (at-if1 .if1 .left)
     (rw (at-fields-of .fields-of .ensures) at (at-write .write .ensures)) (ap writeReply (c .before .words .given .1))
 
-same-length-4 : tie.Need-same-length-4
-same-length-4 c = search needs
-
-same-length-5 : tie.Need-same-length-5
-same-length-5 c = search needs
+same-length-3 : tie.Need-same-length-3
+same-length-3 c = search needs
 
 returns-4 : tie.Need-returns-4
 returns-4 c =
@@ -80,18 +82,16 @@ dgn-write-spec =
     (tie.spec
     returns
     fields-given-requires
-    slice-write-out
-    same-length
     returns-2
     fields-of-requires
     write-requires
     enum-known-words
-    slice-write-out-2
+    slice-write-out
     enum-known-number
-    slice-write-out-3
+    mul-result
+    add-result
+    same-length
     same-length-2
-    same-length-3
     returns-3
-    same-length-4
-    same-length-5
+    same-length-3
     returns-4)

@@ -1,0 +1,164 @@
+/* All views and all points of a file in plain C, for the bench alone: judges once by plain_judge and then goes from
+ * element to element and fills in the numbers of include/dgn.h, written from the rules. From an element number on, and as
+ * many as there is room for. It promises nothing beyond what the bench compares. */
+#include <stdbool.h>
+#include <stddef.h>
+#include <stdint.h>
+#include <string.h>
+
+#define DEEPEST 8
+
+size_t plain_judge(const uint8_t *file, size_t len, size_t dim, size_t *out);
+
+static const unsigned headers = 1u << 1 | 1u << 2 | 1u << 7 | 1u << 12 | 1u << 14 | 1u << 18 | 1u << 19;
+static const unsigned counted = 1u << 7 | 1u << 12 | 1u << 14 | 1u << 18 | 1u << 19;
+static const unsigned pointed = 1u << 4 | 1u << 6 | 1u << 11 | 1u << 21;
+static const unsigned known = 1u << 1 | 1u << 2 | 1u << 3 | 1u << 4 | 1u << 6 | 1u << 7 | 1u << 11 | 1u << 12 | 1u << 14 |
+                              1u << 17 | 1u << 18 | 1u << 19 | 1u << 21;
+
+static inline bool among(unsigned types, unsigned type)
+{
+    return type < 32 && types >> type & 1;
+}
+
+/* Word k from p, low byte first as on x86-64. */
+static inline unsigned word(const uint8_t *p, size_t k)
+{
+    uint16_t w;
+    memcpy(&w, p + 2 * k, 2);
+    return w;
+}
+
+/* The long at word k, high word first. */
+static inline uint32_t whole(const uint8_t *p, size_t k)
+{
+    return (uint32_t)word(p, k) << 16 | word(p, k + 1);
+}
+
+/* A walk in file order over an accepted file: the element that it stands at, and the headers around it. */
+struct walk {
+    size_t at;
+    size_t depth;
+    size_t header[DEEPEST + 1];
+    size_t end[DEEPEST + 1];
+};
+
+/* To the next element; `type` and `size` are those of the one that it stands at. */
+static inline void step(const uint8_t *file, struct walk *w, unsigned type, size_t size)
+{
+    if (among(headers, type)) {
+        w->header[w->depth] = w->at;
+        w->end[w->depth] = w->at + 19 + word(file + 2 * w->at, 18);
+        w->depth++;
+    }
+    w->at += size;
+    while (w->depth > 0 && w->end[w->depth - 1] == w->at)
+        w->depth--;
+}
+
+static inline void fill(const uint8_t *p, const struct walk *w, unsigned type, size_t size, int64_t *v)
+{
+    unsigned first = word(p, 0);
+    memset(v, 0, 32 * sizeof *v);
+    v[0] = first & 63;
+    v[1] = first >> 7 & 1;
+    v[2] = type;
+    v[3] = first >> 15;
+    v[4] = (int64_t)size;
+    v[5] = (int64_t)w->depth;
+    if (w->depth > 0) {
+        v[6] = 1;
+        v[7] = (int64_t)w->header[w->depth - 1];
+    }
+    if (size >= 14) {
+        v[8] = 1;
+        for (size_t k = 0; k < 6; k++)
+            v[9 + k] = whole(p, 2 + 2 * k);
+    }
+    if (among(known, type)) {
+        if (type != 1) {
+            unsigned symbology = word(p, 17);
+            v[15] = 1;
+            v[16] = word(p, 14);
+            v[17] = word(p, 15);
+            v[18] = word(p, 16);
+            v[19] = symbology & 7;
+            v[20] = symbology >> 3 & 31;
+            v[21] = symbology >> 8;
+        }
+        if (among(pointed, type)) {
+            v[22] = 1;
+            v[23] = word(p, 18);
+        }
+        if (type <= 2) {
+            v[24] = 1;
+            v[25] = word(p, type == 1 ? 16 : 19);
+            v[26] = word(p, type == 1 ? 17 : 20);
+        }
+        if (among(headers, type)) {
+            v[27] = 1;
+            v[28] = word(p, 18);
+        }
+        if (among(counted, type)) {
+            v[29] = 1;
+            v[30] = word(p, 19);
+        }
+    }
+    v[31] = (int64_t)w->at;
+}
+
+/* The views from element number k on, out[0] how many; or the number of a refusal, and nothing is written. */
+size_t plain_views(const uint8_t *file, size_t len, size_t dim, size_t k, int64_t *views, size_t room, size_t *out)
+{
+    size_t judged[3];
+    size_t number = plain_judge(file, len, dim, judged);
+    if (number != 0)
+        return number;
+    if (k < judged[0] && room < 32)
+        return 15;
+    struct walk w = {.at = 0};
+    size_t n = 0;
+    for (size_t e = 0; e < judged[0] && 32 * (n + 1) <= room; e++) {
+        const uint8_t *p = file + 2 * w.at;
+        unsigned type = word(p, 0) >> 8 & 127;
+        size_t size = word(p, 1) + 2;
+        if (e >= k)
+            fill(p, &w, type, size, views + 32 * n++);
+        step(file, &w, type, size);
+    }
+    out[0] = n;
+    return 0;
+}
+
+/* The points from element number k on, out the next element number and how many numbers were written; or the number of a
+ * refusal, and nothing is written. */
+size_t plain_points(const uint8_t *file, size_t len, size_t dim, size_t k, int64_t *numbers, size_t room, size_t *out)
+{
+    size_t judged[3];
+    size_t number = plain_judge(file, len, dim, judged);
+    if (number != 0)
+        return number;
+    size_t at = 0, used = 0, e = 0;
+    for (; e < judged[0]; e++) {
+        const uint8_t *p = file + 2 * at;
+        unsigned type = word(p, 0) >> 8 & 127;
+        at += word(p, 1) + 2;
+        if (e < k || !(type == 3 || among(pointed, type)))
+            continue;
+        size_t n = type == 3 ? 2 : word(p, 18);
+        size_t from = type == 3 ? 18 : 19;
+        if (room - used < 2 + n * dim) {
+            if (used == 0)
+                return 15;
+            break;
+        }
+        numbers[used] = (p - file) / 2;
+        numbers[used + 1] = (int64_t)n;
+        for (size_t i = 0; i < n * dim; i++)
+            numbers[used + 2 + i] = (int32_t)whole(p, from + 2 * i);
+        used += 2 + n * dim;
+    }
+    out[0] = e > k ? e : k;
+    out[1] = used;
+    return 0;
+}

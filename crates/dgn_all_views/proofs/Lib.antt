@@ -1,0 +1,5 @@
+pub mod Heads
+pub mod Tours
+pub mod Puts
+pub mod Replies
+pub mod All

@@ -1,0 +1,4 @@
+pub mod Tour
+pub mod Views
+pub mod Answers
+pub mod Calls

@@ -1,0 +1,45 @@
+-- What dgn_points answers, and what it leaves in the slice of numbers.
+use Prim.Native.Nat.{ℕ, _+_, _-_}
+use mathlib.Core.Path.{_≡_}
+use mathlib.Core.List.{List, [], _∷_}
+use mathlib.Core.Bool.{cond, _&&_}
+use lib.IntN.{ℤ}
+use lib.ListN.{length}
+use lib.Seq.{sets}
+use lib.Dec.{eqb, leb, ltb}
+use Rattle.words.specs.Words.{words}
+use Rattle.files.specs.Judge.{judgeOf}
+use Rattle.files.specs.declared.Judged.{Judged}
+use Rattle.files.specs.declared.Judged.the-variants.{Accepted, Refused}
+use Rattle.answers.specs.Answers.{Reply, done, refuse, withRoom, Replied}
+use Rattle.answers.specs.Besides.{besides}
+use Rattle.dgn_points.specs.Points.{Fitting, pointsPart}
+use Rattle.dgn_points.specs.declared.Taken.{Taken}
+use Rattle.dgn_points.specs.declared.Taken.the-variants.{Full, Used}
+use Rattle.dgn_points.specs.declared.Part.{Part}
+
+-- the file's own refusals, then 15 where an element is left and none fits; done: the next element's number and how many
+-- numbers
+abbrev pub pointsBy : Judged → Fitting → Reply ℕ
+pointsBy (Refused n p) q = refuse n p
+pointsBy (Accepted elements deepest marker) q =
+    cond (eqb (length (q .given)) 0 && ltb (q .next) elements) (refuse 15 0) (done (q .next ∷ length (q .given) ∷ []))
+
+unfoldable pub pointsReply : ℕ → List ℕ → ℕ → ℕ → Reply ℕ
+pointsReply dim s k room = pointsBy (judgeOf dim s) (pointsPart dim (words s) room k)
+
+-- the answer, and the slice of numbers, which takes them at its front where the call is done
+pub record PointsGiven (dim : ℕ) (s : List ℕ) (k : ℕ) (numbers : List ℤ) (out : List ℕ) (r : ℕ) (numbers' : List ℤ) (out' : List ℕ) : Type 0 where
+  pub replied : Replied 2 (pointsReply dim s k (length numbers)) out r out'
+  pub given : numbers' ≡ besides (withRoom 2 (pointsReply dim s k (length numbers)) out) (pointsPart dim (words s) (length numbers) k .given) numbers
+
+-- an element whose numbers e are put behind those that are used, where they fit
+pub record ElementPut (e numbers : List ℤ) (used : ℕ) (r : Taken) (numbers' : List ℤ) : Type 0 where
+  pub is : r ≡ cond (leb (length e) (length numbers - used)) (Used (used + length e)) Full
+  pub given : numbers' ≡ cond (leb (length e) (length numbers - used)) (sets numbers used e) numbers
+
+-- the elements that were taken
+pub record PartPut (q : Fitting) (numbers : List ℤ) (r : Part) (numbers' : List ℤ) : Type 0 where
+  pub next : r .next ≡ q .next
+  pub used : r .used ≡ length (q .given)
+  pub given : numbers' ≡ sets numbers 0 (q .given)

@@ -1,0 +1,141 @@
+// The C interface of the points of a whole file, as in include/dgn.h: the file is judged once, and then one pass goes over
+// its elements, each of which begins where the words of the one before end. Definitions: specs/Points.
+ghost use mathlib.Core.Path.{_≡_};
+ghost use mathlib.Core.Bool.{_&&_};
+ghost use Prim.Native.Nat.{_+_, _-_, _*_, _≤_, _<_, _^_};
+ghost use lib.ListN.{length};
+ghost use lib.Seq.{sets};
+ghost use lib.Dec.{eqb, ltb};
+ghost use Rattle.words.specs.Words.{words};
+ghost use Rattle.order.specs.Order.{placeOf};
+ghost use Rattle.dgn_points.specs.Points.{longs, pointNumbers, pointsFrom, partOf};
+ghost use Rattle.dgn_points.specs.Answers.{ElementPut, PartPut, PointsGiven};
+
+// An element does not fit, or so many numbers are used with it.
+enum Taken {
+    Full,
+    Used { used: usize },
+}
+
+// The number of the next element, and how many numbers are used.
+struct Part {
+    next: usize,
+    used: usize,
+}
+
+// The place of element number k.
+fn place_of(file: &[u8], k: usize) -> usize
+    requires { ⌜ k ≤ 1048576 ⌝ }
+    ensures { λ r. ⌜ r ≡ placeOf (words (now (file .entry))) k ⌝ }
+{
+    let mut at = 0;
+    let mut i = 0;
+    while i < k {
+        at += headers::size_at(file, at);
+        i += 1;
+    }
+    at
+}
+
+// n signed longs, from a place of the numbers on.
+fn put_longs(file: &[u8], first: usize, n: usize, numbers: &mut [i64], from: usize)
+    requires { ⌜ (from + n ≤ length (now numbers)) × (first + 2 * n < 2 ^ 64) ⌝ }
+    ensures { λ _. ⌜ now (numbers .exit) ≡ sets (now (numbers .entry)) from (longs n (words (now (file .entry))) first) ⌝ }
+{
+    let mut j = 0;
+    while j < n {
+        numbers[from + j] = words::signed_long(file, first + 2 * j);
+        j += 1;
+    }
+}
+
+// The numbers of the element at a place behind those that are used, where they fit; none of one without points.
+fn put_element(file: &[u8], dim: usize, at: usize, numbers: &mut [i64], used: usize) -> Taken
+    requires { ⌜ (dim ≤ 3) × ((at < 2 ^ 40) × (used ≤ length (now numbers))) ⌝ }
+    ensures { λ r. ⌜ ElementPut (pointNumbers dim (words (now (file .entry))) at) (now (numbers .entry)) used r (now (numbers .exit)) ⌝ }
+{
+    let n = points_linkages::point_count(file, at);
+    if n == 0 {
+        return Taken::Used { used };
+    }
+    let coordinates = n * dim;
+    if numbers.len() - used < 2 + coordinates {
+        return Taken::Full;
+    }
+    let first = at + points_linkages::before_points(file, at);
+    numbers[used] = at as i64;
+    numbers[used + 1] = n as i64;
+    put_longs(file, first, coordinates, numbers, used + 2);
+    Taken::Used {
+        used: used + 2 + coordinates,
+    }
+}
+
+// The numbers of the elements number k, k + 1, .., up to the first that does not fit.
+fn put_points(file: &[u8], dim: usize, elements: usize, k: usize, numbers: &mut [i64]) -> Part
+    requires { ⌜ (dim ≤ 3) × (elements ≤ 1048576) ⌝ }
+    ensures { λ r. ⌜ PartPut (partOf (length (now (numbers .entry))) k (pointsFrom (elements - k) dim (words (now (file .entry))) k)) (now (numbers .entry)) r (now (numbers .exit)) ⌝ }
+{
+    if elements <= k {
+        return Part { next: k, used: 0 };
+    }
+    let mut at = place_of(file, k);
+    let mut i = k;
+    let mut used = 0;
+    while i < elements {
+        match put_element(file, dim, at, numbers, used) {
+            Taken::Full => {
+                return Part { next: i, used };
+            }
+            Taken::Used { used: more } => {
+                used = more;
+                at += headers::size_at(file, at);
+                i += 1;
+            }
+        }
+    }
+    Part { next: i, used }
+}
+
+// Whether an element is left and none was put.
+fn none_fits(used: usize, next: usize, elements: usize) -> bool
+    ensures { λ r. ⌜ r ≡ (eqb used 0 && ltb next elements) ⌝ }
+{
+    if used == 0 {
+        return next < elements;
+    }
+    false
+}
+
+#[no_mangle]
+pub extern "C" fn dgn_points(
+    file: &[u8],
+    dim: usize,
+    k: usize,
+    numbers: &mut [i64],
+    out: &mut [usize],
+) -> usize
+    ensures { λ r. ⌜ PointsGiven dim (now (file .entry)) k (now (numbers .entry)) (now (out .entry)) r (now (numbers .exit)) (now (out .exit)) ⌝ }
+{
+    if out.len() < 2 {
+        return 1;
+    }
+    match files::judge(file, dim) {
+        files::Judged::Refused { number, place } => number + 256 * place,
+        files::Judged::Accepted {
+            elements,
+            deepest: _,
+            marker: _,
+        } => {
+            let part = put_points(file, dim, elements, k, numbers);
+            let next = part.next;
+            let used = part.used;
+            if none_fits(used, next, elements) {
+                return 15;
+            }
+            out[0] = next;
+            out[1] = used;
+            0
+        }
+    }
+}

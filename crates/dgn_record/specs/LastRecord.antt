@@ -1,0 +1,60 @@
+-- The last record of a journal's used bytes as numbers: its kind, header place, place and payload words, and the used length
+-- before it.
+use Prim.Native.Nat.{ℕ, _+_, _*_}
+use mathlib.Core.Path.{_≡_}
+use mathlib.Core.Bool.{true, cond}
+use mathlib.Core.List.{List, [], _∷_}
+use mathlib.Core.Option.{Option, none, some}
+use lib.ListN.{length}
+use lib.Dec.{eqb}
+use Rattle.limits.specs.Limits.{usedOk}
+use Rattle.edits.specs.Calls.{usedWords}
+use Rattle.edits.specs.Records.{Rec, flag, renamed, inserted, removed, Newest, placeOf, lastRecord}
+use Rattle.journals.specs.declared.Last.{Last}
+use Rattle.journals.specs.declared.Last.the-variants.{Bad, Flag, Renamed, Inserted, Removed}
+use Rattle.answers.specs.Answers.{Reply, done, refuse}
+
+-- a header's place, 18446744073709551615 for the top
+abbrev pub headerNumber : Option ℕ → ℕ
+headerNumber none = 18446744073709551615
+headerNumber (some h) = h
+
+abbrev pub recordNumbers : Rec → ℕ → List ℕ
+recordNumbers (flag p) before = 1 ∷ headerNumber none ∷ p ∷ 0 ∷ before ∷ []
+recordNumbers (renamed p a b) before = 2 ∷ headerNumber none ∷ p ∷ 2 ∷ before ∷ []
+recordNumbers (inserted h p) before = 3 ∷ headerNumber h ∷ p ∷ 0 ∷ before ∷ []
+recordNumbers (removed h p x) before = 4 ∷ headerNumber h ∷ p ∷ length x ∷ before ∷ []
+
+-- 19 where it is ill-formed
+abbrev pub newestReply : Newest → Reply ℕ
+newestReply none = refuse 19 0
+newestReply (some l) = done (recordNumbers (l .0) (2 * length (l .1)))
+
+-- 1 unless the journal may be lent with so many bytes used, then 17 where none is
+unfoldable pub recordReply : List ℕ → ℕ → Reply ℕ
+recordReply journal jused =
+    cond (usedOk (length journal) jused)
+    (cond (eqb jused 0) (refuse 17 0) (newestReply (lastRecord (usedWords journal jused))))
+    (refuse 1 0)
+
+---- of a private function: the same by what was read
+
+abbrev pub lastReply : Last → Reply ℕ
+lastReply Bad = refuse 19 0
+lastReply (Flag p before) = done (1 ∷ headerNumber none ∷ p ∷ 0 ∷ before ∷ [])
+lastReply (Renamed p a b before) = done (2 ∷ headerNumber none ∷ p ∷ 2 ∷ before ∷ [])
+lastReply (Inserted h p before) = done (3 ∷ headerNumber (placeOf h) ∷ p ∷ 0 ∷ before ∷ [])
+lastReply (Removed h p n before) = done (4 ∷ headerNumber (placeOf h) ∷ p ∷ n ∷ before ∷ [])
+
+---- what the numbers are good for
+
+-- the record stands at the end of the used bytes: n payload words from `before` on, then six words. So it has a payload to look
+-- at, and `before` may be handed in next, for the record before it
+pub record Ends (journal : List ℕ) (used n before : ℕ) : Type 0 where
+  pub all : before + 2 * n + 12 ≡ used
+  pub lent : usedOk (length journal) before ≡ true
+
+abbrev pub EndsThere : Type 0
+EndsThere =
+    (journal : List ℕ) (used kind header place n before : ℕ) →
+    recordReply journal used ≡ done (kind ∷ header ∷ place ∷ n ∷ before ∷ []) → Ends journal used n before

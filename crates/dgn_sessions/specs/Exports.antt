@@ -1,0 +1,83 @@
+-- Demand 3 of the C interface: a list of calls of its five functions of a session, each lent the buffers that the last one left
+-- and the used lengths that `out` then held.
+use Prim.Native.Nat.{ℕ}
+use mathlib.Core.Path.{_≡_}
+use mathlib.Core.Bool.{cond, not}
+use mathlib.Core.List.{List, [], _∷_}
+use lib.ListN.{getD}
+use lib.Dec.{eqb}
+use Rattle.edits.specs.Calls.{Session, Call, mark-call, rename-call, insert-call, remove-call, undo-call}
+use Rattle.edits.specs.Book.{Run, noted}
+use Rattle.edits.specs.Demand.{OpenedEmpty, PiecesBytes, Demand3}
+use Rattle.edit_answers.specs.Editing.{StepLeft, MarkLeft, headerGiven}
+
+-- a function with its arguments as they are handed in: a mark's flag and an insert's header place are numbers
+pub data Export : Type 0 where
+  dgn-mark : ℕ → ℕ → Export
+  dgn-rename : ℕ → List ℕ → Export
+  dgn-insert : ℕ → ℕ → List ℕ → Export
+  dgn-remove : ℕ → Export
+  dgn-undo : Export
+
+-- the call that it asks for
+abbrev pub callOf : Export → Call
+callOf (dgn-mark place deleted) = mark-call place (eqb deleted 1)
+callOf (dgn-rename place text) = rename-call place text
+callOf (dgn-insert header place piece) = insert-call (headerGiven header) place piece
+callOf (dgn-remove place) = remove-call place
+callOf dgn-undo = undo-call
+
+abbrev pub callsOf : List Export → List Call
+callsOf [] = []
+callsOf (x ∷ xs) = callOf x ∷ callsOf xs
+
+-- what its contract says of the session s, lent the slice `out`: the number n that is returned, and the two buffers and the slice
+-- t as they then are. A mark by a flag that is neither 0 nor 1, and every call with too short a slice, is refused
+abbrev pub Answers : ℕ → Session → Export → List ℕ → ℕ → List ℕ → List ℕ → List ℕ → Type 0
+Answers dim s (dgn-mark place deleted) out n file journal t = MarkLeft dim s place deleted out n file journal t
+Answers dim s (dgn-rename place text) out n file journal t = StepLeft dim s (rename-call place text) out n file journal t
+Answers dim s (dgn-insert header place piece) out n file journal t = StepLeft dim s (insert-call (headerGiven header) place piece) out n file journal t
+Answers dim s (dgn-remove place) out n file journal t = StepLeft dim s (remove-call place) out n file journal t
+Answers dim s dgn-undo out n file journal t = StepLeft dim s undo-call out n file journal t
+
+-- the session that the next call is lent: the two buffers as they are, and the used lengths that the slice holds; where the
+-- call was refused, the last ones
+abbrev pub lends : ℕ → List ℕ → Session → List ℕ → List ℕ → Session
+lends n t s file journal = record {
+  file = file;
+  used = cond (eqb n 0) (getD t 0 0) (s .used);
+  journal = journal;
+  jused = cond (eqb n 0) (getD t 1 0) (s .jused);
+}
+
+-- and the book, which is fed the calls and whether each was refused
+abbrev pub after : Run → Export → ℕ → List ℕ → List ℕ → List ℕ → Run
+after r x n file journal t = record {
+  session = lends n t (r .session) file journal;
+  book = noted (r .book) (callOf x) (not (eqb n 0));
+}
+
+-- the calls of a list made one after another, with any slices, and any numbers and bytes that their contracts allow; one that is
+-- not refused has the session's dimension
+pub data Called (dim : ℕ) : Run → List Export → Run → Type 0 where
+  none : (r : Run) → Called dim r [] r
+  next : (r : Run) (x : Export) (xs : List Export) (d : ℕ) (out : List ℕ) (n : ℕ) (file journal t : List ℕ) (last : Run) →
+      Answers d (r .session) x out n file journal t → (n ≡ 0 → d ≡ dim) →
+      Called dim (after r x n file journal t) xs last → Called dim r (x ∷ xs) last
+
+-- the demand, of every dimension, session and list of calls
+abbrev pub EveryExport : Type 0
+EveryExport =
+    (dim : ℕ) (s : Session) (xs : List Export) (last : Run) → OpenedEmpty dim s → PiecesBytes (callsOf xs) →
+    Called dim (record { session = s; book = [] }) xs last → Demand3 dim s last
+
+-- the first two numbers of a slice are a session's used lengths
+pub record Holds (out : List ℕ) (s : Session) : Type 0 where
+  pub used : getD out 0 0 ≡ s .used
+  pub jused : getD out 1 0 ≡ s .jused
+
+-- so a host may keep the used lengths in the slice alone: whatever a call answers, it then holds those of the next one
+abbrev pub KeptInOut : Type 0
+KeptInOut =
+    (dim : ℕ) (s : Session) (x : Export) (out : List ℕ) (n : ℕ) (file journal t : List ℕ) → Answers dim s x out n file journal t →
+    Holds out s → Holds t (lends n t s file journal)

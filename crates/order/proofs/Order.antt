@@ -1,0 +1,109 @@
+-- The elements of an accepted file follow one another: so they are few, element number k is at `placeOf` k, and each is the
+-- one that is found at its place.
+use Prim.Native.Nat.{ℕ, zero, suc, _+_, _-_, _*_, _≤_, _<_}
+use mathlib.Core.Path.{_≡_, refl, sym, ap, _∙_, subst}
+use mathlib.Core.List.{List, [], _∷_, _++_}
+use mathlib.Core.Option.{Option, none, some}
+use native.Mathlib.Omega.{arith}
+use native.Mathlib.Numerals.{add-one}
+use lib.ListN.{length, drop}
+use lib.Seq.{drop-cons}
+use borrow.Author.Tests.{eq-eqb, ne-eqb}
+use Rattle.words.specs.Words.{words, Below}
+use Rattle.headers.specs.Header.{typeAt, sizeAt}
+use Rattle.headers.proofs.Laws.{size-small}
+use Rattle.files.specs.Judge.{judgeOf}
+use Rattle.files.specs.Spots.{Spot, spotsOf, spotIn}
+use Rattle.files.specs.declared.Judged.the-variants.{Accepted}
+use Rattle.grammar.proofs.Forest.{Forest, nil, node, flat, Wf, spots, weight, length-node, own-stands, components-stand, rest-stand}
+use Rattle.grammar.proofs.Stands.{Stands}
+use Rattle.grammar.proofs.Rules.{own-size}
+use Rattle.grammar.proofs.Whole.{FileTree, file-tree}
+use Rattle.grammar.proofs.Exact.{accepted-is}
+use Rattle.order.specs.Order.{placeOf, InOrder}
+
+---- the elements of a tree
+
+order-append : (ws : List ℕ) (at mid end : ℕ) (xs ys : List Spot) → InOrder ws at xs mid → InOrder ws mid ys end → InOrder ws at (xs ++ ys) end
+order-append ws at mid end [] ys p q = subst (λ i. InOrder ws i ys end) (sym p) q
+order-append ws at mid end (x ∷ xs) ys p q = (p .0, order-append ws (at + sizeAt ws at) mid end xs ys (p .1) q)
+
+order-tree : (dim : ℕ) (ws : List ℕ) (d under : ℕ) (header : Option ℕ) (at end : ℕ) (f : Forest) → Wf dim d under f → Stands (flat f) at ws →
+    at + length (flat f) ≡ end → InOrder ws at (spots d header at f) end
+order-tree dim ws d under header at end nil w s e = omega arith
+order-tree dim ws d under header at end (node own k r) w s e =
+    let m = length-node own k r in
+    let z : at + sizeAt ws at ≡ at + length own = ap (λ n. at + n) (own-size (w .0) (own-stands own k r s)) in (
+      refl,
+      subst (λ i. InOrder ws i (spots (suc d) (some at) (at + length own) k ++ spots d header (at + weight own k) r) end) (sym z)
+          (order-append ws (at + length own) (at + weight own k) end (spots (suc d) (some at) (at + length own) k) (spots d header (at + weight own k) r)
+          (order-tree dim ws (suc d) (typeAt own 0) (some at) (at + length own) (at + weight own k) k (w .1) (components-stand own k r s) (omega arith))
+          (order-tree dim ws d under header (at + weight own k) end r (w .2) (rest-stand own k r s) (omega arith))),
+    )
+
+---- elements in order
+
+-- every element has two words
+pub order-few : (ws : List ℕ) (at end : ℕ) (xs : List Spot) → InOrder ws at xs end → at + 2 * length xs ≤ end
+order-few ws at end [] p = omega arith
+order-few ws at end (x ∷ xs) p = let h = order-few ws (at + sizeAt ws at) end xs (p .1) in omega arith
+
+-- from element number k on
+pub order-from : (ws : List ℕ) (end : ℕ) (xs : List Spot) (k : ℕ) → k ≤ length xs → InOrder ws 0 xs end → InOrder ws (placeOf ws k) (drop k xs) end
+order-from ws end xs zero h p = p
+order-from ws end xs (suc k) h p =
+    let x : Spot = record { place = 0; end = 0; depth = 0; header = none } in
+    let q = order-from ws end xs k (omega arith) p in
+    let r = subst (λ ys. InOrder ws (placeOf ws k) ys end) (drop-cons xs k x h) q in
+    r .1
+
+-- to the next element
+pub place-next : (ws : List ℕ) (i at n : ℕ) → at ≡ placeOf ws i → n ≡ sizeAt ws at → at + n ≡ placeOf ws (i + 1)
+place-next ws i at n e z = rw (add-one, z, e) refl
+
+-- places are small
+pub place-small : (s : List ℕ) → Below 256 s → (k : ℕ) → placeOf (words s) k ≤ 65537 * k
+place-small s b zero = omega arith
+place-small s b (suc k) = let h = place-small s b k in let z = size-small s b (placeOf (words s) k) in omega arith
+
+-- each of xs is the one that `all` has at its place
+abbrev pub FoundIn : List Spot → List Spot → Type 0
+FoundIn all [] = Unit {0}
+FoundIn all (x ∷ xs) = (spotIn all (x .place) ≡ some x) × FoundIn all xs
+
+found-behind : (ws : List ℕ) (at end : ℕ) (y : Spot) (all xs : List Spot) → y .place < at → InOrder ws at xs end → FoundIn all xs → FoundIn (y ∷ all) xs
+found-behind ws at end y all [] h p q = tt
+found-behind ws at end y all (x ∷ xs) h p q =
+    let e = p .0 in (
+      rw (ne-eqb (y .place) (x .place) (λ z. omega arith)) (q .0),
+      found-behind ws (at + sizeAt ws at) end y all xs (omega arith) (p .1) (q .1),
+    )
+
+found-all : (ws : List ℕ) (at end : ℕ) (xs : List Spot) → InOrder ws at xs end → FoundIn xs xs
+found-all ws at end [] p = tt
+found-all ws at end (x ∷ xs) p =
+    let e = p .0 in (
+      rw (eq-eqb (x .place) (x .place) refl) refl,
+      found-behind ws (at + sizeAt ws at) end x xs xs (omega arith) (p .1) (found-all ws (at + sizeAt ws at) end xs (p .1)),
+    )
+
+---- an accepted file
+
+module _ (dim : ℕ) (s : List ℕ) (e d m : ℕ) (accepted : judgeOf dim s ≡ Accepted e d m) where
+  tree : FileTree dim (words s) (spotsOf dim (words s)) m
+  tree = file-tree (accepted-is dim s e d m accepted .file)
+
+  pub file-order : InOrder (words s) 0 (spotsOf dim (words s)) m
+  file-order =
+      let l = tree .end in
+      subst (λ xs. InOrder (words s) 0 xs m) (tree .read) (order-tree dim (words s) 0 0 none 0 m (tree .tree) (tree .wf) (tree .stands) (omega arith))
+
+  pub count-is : e ≡ length (spotsOf dim (words s))
+  count-is = accepted-is dim s e d m accepted .elements
+
+  pub marker-inside : m < length (words s)
+  marker-inside = let y = tree .ends .0 in let z = tree .end in omega arith
+
+  -- each is found at its place
+  pub file-found : FoundIn (spotsOf dim (words s)) (spotsOf dim (words s))
+  file-found = found-all (words s) 0 m (spotsOf dim (words s)) file-order

@@ -1,0 +1,1 @@
+// The elements of an accepted file in file order, by places. No code: specs/Order, proofs/Order.

@@ -1,0 +1,168 @@
+// A view as 32 signed numbers in a lent slice. Definitions: specs/Numbers.
+ghost use mathlib.Core.Path.{_≡_};
+ghost use mathlib.Core.List.{map};
+ghost use Prim.Native.Nat.{_+_, _≤_};
+ghost use lib.ListN.{length};
+ghost use lib.Seq.{sets};
+ghost use Rattle.view_numbers.specs.Numbers.{aboveNumbers, numberNumbers, rangeNumbers, displayNumbers, nameNumbers, commonNumbers, kindNumbers, viewNumbers, asSigned, putView};
+
+// Numbers, from a place of a slice on.
+fn put_numbers(out: &mut [usize], at: usize, numbers: &[usize])
+    requires { ⌜ at + length (now numbers) ≤ length (now out) ⌝ }
+    ensures { λ _. ⌜ now (out .exit) ≡ sets (now (out .entry)) at (now (numbers .entry)) ⌝ }
+{
+    let mut k = 0;
+    while k < numbers.len() {
+        out[at + k] = numbers[k];
+        k += 1;
+    }
+}
+
+// The direct header.
+fn above_numbers(above: places::Above) -> [usize; 2]
+    ensures { λ r. ⌜ r ≡ aboveNumbers above ⌝ }
+{
+    match above {
+        places::Above::Top => [0, 0],
+        places::Above::Under { place } => [1, place],
+    }
+}
+
+// A number that only some types have.
+fn number_numbers(number: views::Number) -> [usize; 2]
+    ensures { λ r. ⌜ r ≡ numberNumbers number ⌝ }
+{
+    match number {
+        views::Number::Absent => [0, 0],
+        views::Number::Value { value } => [1, value],
+    }
+}
+
+// The range.
+fn range_numbers(range: views::Range) -> [usize; 7]
+    ensures { λ r. ⌜ r ≡ rangeNumbers range ⌝ }
+{
+    match range {
+        views::Range::Absent => [0; 7],
+        views::Range::Longs {
+            low_x,
+            low_y,
+            low_z,
+            high_x,
+            high_y,
+            high_z,
+        } => [1, low_x, low_y, low_z, high_x, high_y, high_z],
+    }
+}
+
+// Words 14 to 17.
+fn display_numbers(display: views::Display) -> [usize; 7]
+    ensures { λ r. ⌜ r ≡ displayNumbers display ⌝ }
+{
+    match display {
+        views::Display::Absent => [0; 7],
+        views::Display::Words {
+            group,
+            index,
+            properties,
+            style,
+            weight,
+            colour,
+        } => [1, group, index, properties, style, weight, colour],
+    }
+}
+
+// The name words.
+fn name_numbers(name: views::Name) -> [usize; 3]
+    ensures { λ r. ⌜ r ≡ nameNumbers name ⌝ }
+{
+    match name {
+        views::Name::Absent => [0, 0, 0],
+        views::Name::Words { first, second } => [1, first, second],
+    }
+}
+
+// Numbers 0 to 14 of a view.
+fn put_common(out: &mut [usize], element: views::Element)
+    requires { ⌜ 15 ≤ length (now out) ⌝ }
+    ensures { λ _. ⌜ now (out .exit) ≡ sets (now (out .entry)) 0 (commonNumbers element) ⌝ }
+{
+    let c = kinds::pick(element.c, 1, 0);
+    let deleted = kinds::pick(element.deleted, 1, 0);
+    let own = [
+        element.level,
+        c,
+        element.kind,
+        deleted,
+        element.size,
+        element.depth,
+    ];
+    put_numbers(out, 0, &own);
+    let above = element.above;
+    put_numbers(out, 6, &above_numbers(above));
+    let range = element.range;
+    put_numbers(out, 8, &range_numbers(range));
+}
+
+// Numbers 15 to 31 of a view.
+fn put_kind(out: &mut [usize], place: usize, element: views::Element)
+    requires { ⌜ 32 ≤ length (now out) ⌝ }
+    ensures { λ _. ⌜ now (out .exit) ≡ sets (now (out .entry)) 15 (kindNumbers place element) ⌝ }
+{
+    let display = element.display;
+    put_numbers(out, 15, &display_numbers(display));
+    let points = element.points;
+    put_numbers(out, 22, &number_numbers(points));
+    let name = element.name;
+    put_numbers(out, 24, &name_numbers(name));
+    let total = element.total;
+    put_numbers(out, 27, &number_numbers(total));
+    let count = element.count;
+    put_numbers(out, 29, &number_numbers(count));
+    out[31] = place;
+}
+
+// A view as numbers.
+fn numbers_of(place: usize, element: views::Element) -> [usize; 32]
+    ensures { λ r. ⌜ r ≡ viewNumbers place element ⌝ }
+{
+    let mut numbers = [0; 32];
+    put_common(&mut numbers, element);
+    put_kind(&mut numbers, place, element);
+    numbers
+}
+
+// A number as a signed one.
+fn as_signed(n: usize) -> i64
+    ensures { λ r. ⌜ r ≡ asSigned n ⌝ }
+{
+    if n < 9223372036854775808 {
+        return n as i64;
+    }
+    0
+}
+
+// Numbers as signed ones, from a place of a slice on.
+fn put_signed(out: &mut [i64], at: usize, numbers: &[usize])
+    requires { ⌜ at + length (now numbers) ≤ length (now out) ⌝ }
+    ensures { λ _. ⌜ now (out .exit) ≡ sets (now (out .entry)) at (map asSigned (now (numbers .entry))) ⌝ }
+{
+    let mut k = 0;
+    while k < numbers.len() {
+        out[at + k] = as_signed(numbers[k]);
+        k += 1;
+    }
+}
+
+// The view of the element at a place, from a place of a slice on; a slice with no room for it stays.
+pub fn put_view(out: &mut [i64], at: usize, place: usize, element: views::Element)
+    ensures { λ _. ⌜ now (out .exit) ≡ putView (now (out .entry)) at place element ⌝ }
+{
+    if out.len() < 32 {
+        return;
+    }
+    if out.len() - 32 < at {
+        return;
+    }
+    put_signed(out, at, &numbers_of(place, element));
+}

@@ -1,0 +1,103 @@
+/* dgn_session.h: the calls of dgn.h that edit, over a struct that holds the buffers and keeps the used lengths.
+ *
+ * Set all fields but the used lengths, each by its name, then open the session:
+ *   struct dgn_session s;
+ *   s.file = bytes;        s.file_len = sizeof bytes;
+ *   s.journal = records;   s.journal_len = sizeof records;
+ *   s.dimension = 2;
+ *   r = dgn_session_open(&s, read);
+ * Each function returns what that of dgn.h returns, and a refusal changes neither buffers nor struct. Of a session that
+ * is saved, the file is the first s.used bytes and the journal the first s.jused: keep both together.
+ */
+#ifndef DGN_SESSION_H
+#define DGN_SESSION_H
+
+#include <string.h>
+
+#include "dgn.h"
+
+struct dgn_session {
+    uint8_t *file;
+    size_t file_len; /* bytes of the buffer: room for the file to grow */
+    size_t used;     /* bytes of the file through its end marker */
+    uint8_t *journal;
+    size_t journal_len;
+    size_t jused; /* bytes of the journal's records */
+    size_t dimension;
+};
+
+/* Whether a buffer of so many bytes can be a session's. */
+static inline int dgn_session_fits(size_t len)
+{
+    return len % 2 == 0 && len <= DGN_FILE_BYTES;
+}
+
+/* Judges the first `read` bytes of the file's buffer, those that were read, and opens a session on them with an empty
+ * journal. Words behind the end marker are left out of the file; edits may write over them. For a session that was
+ * saved set s->jused afterwards to the length of its journal. Refusals: 1 (dimension, a buffer, more bytes than the
+ * buffer has), the file's own. */
+static inline size_t dgn_session_open(struct dgn_session *s, size_t read)
+{
+    size_t out[DGN_JUDGE_NUMBERS];
+    size_t r;
+    if (!dgn_session_fits(s->file_len) || !dgn_session_fits(s->journal_len) || read > s->file_len)
+        return DGN_CALL;
+    r = dgn_judge(s->file, read, s->dimension, out, DGN_JUDGE_NUMBERS);
+    if (r == 0) {
+        s->used = 2 * out[DGN_JUDGE_MARKER] + 2;
+        s->jused = 0;
+    }
+    return r;
+}
+
+/* Keeps the used lengths of a call that is made. */
+static inline size_t dgn_session_keep(struct dgn_session *s, size_t r, const size_t *out)
+{
+    if (r == 0) {
+        s->used = out[DGN_EDIT_USED];
+        s->jused = out[DGN_EDIT_JOURNAL_USED];
+    }
+    return r;
+}
+
+/* dgn_mark: deleted is 1 or 0. */
+static inline size_t dgn_session_mark(struct dgn_session *s, size_t place, size_t deleted)
+{
+    size_t out[DGN_EDIT_NUMBERS];
+    size_t r = dgn_mark(s->file, s->file_len, s->used, s->journal, s->journal_len, s->jused, s->dimension, place, deleted, out, DGN_EDIT_NUMBERS);
+    return dgn_session_keep(s, r, out);
+}
+
+/* dgn_rename: the name is a string. */
+static inline size_t dgn_session_rename(struct dgn_session *s, size_t place, const char *name)
+{
+    size_t out[DGN_EDIT_NUMBERS];
+    size_t r = dgn_rename(s->file, s->file_len, s->used, s->journal, s->journal_len, s->jused, s->dimension, place, (const uint8_t *)name, strlen(name), out, DGN_EDIT_NUMBERS);
+    return dgn_session_keep(s, r, out);
+}
+
+/* dgn_insert: beneath the header at a place, or DGN_TOP. */
+static inline size_t dgn_session_insert(struct dgn_session *s, size_t header, size_t place, const uint8_t *piece, size_t piece_len)
+{
+    size_t out[DGN_EDIT_NUMBERS];
+    size_t r = dgn_insert(s->file, s->file_len, s->used, s->journal, s->journal_len, s->jused, s->dimension, header, place, piece, piece_len, out, DGN_EDIT_NUMBERS);
+    return dgn_session_keep(s, r, out);
+}
+
+/* dgn_remove. */
+static inline size_t dgn_session_remove(struct dgn_session *s, size_t place)
+{
+    size_t out[DGN_EDIT_NUMBERS];
+    size_t r = dgn_remove(s->file, s->file_len, s->used, s->journal, s->journal_len, s->jused, s->dimension, place, out, DGN_EDIT_NUMBERS);
+    return dgn_session_keep(s, r, out);
+}
+
+/* dgn_undo. */
+static inline size_t dgn_session_undo(struct dgn_session *s)
+{
+    size_t out[DGN_EDIT_NUMBERS];
+    size_t r = dgn_undo(s->file, s->file_len, s->used, s->journal, s->journal_len, s->jused, s->dimension, out, DGN_EDIT_NUMBERS);
+    return dgn_session_keep(s, r, out);
+}
+
+#endif

@@ -1,0 +1,56 @@
+//! Reads, writes and edits Intergraph design files and cell libraries (DGN version 7) with the proved library of this
+//! repository. include/dgn.h says more of each function; here lengths are those of slices, and answers are structs.
+//!
+//! A file is a slice of an even number of bytes, at most [`FILE_BYTES`]. A place is the index of a 16-bit word, from 0.
+//! Every file is allowed, and no caller has to check one first. Each call judges the whole file, one pass over its
+//! bytes, so a whole file is read by [`views`] and [`points`] and not by a call for each element. There is no state:
+//! any thread may call.
+//!
+//! A call that is refused answers a [`Refusal`] and changes no byte of what it was lent.
+//!
+//! ```
+//! use dgn::Dimension;
+//!
+//! let file = std::fs::read(concat!(env!("CARGO_MANIFEST_DIR"), "/../samples/nested.dgn"))?;
+//! let part = dgn::find(&file, Dimension::Two, "00417")?;
+//! assert_eq!(dgn::extent(&file, Dimension::Two, part.place)?, 111..284);
+//!
+//! // all cells with their names, and all points, in one pass each
+//! for view in dgn::all_views(&file, Dimension::Two)? {
+//!     if let Some(name) = view.name {
+//!         println!("{} {}", view.place, dgn::unpack(name)?);
+//!     }
+//! }
+//! for drawn in dgn::all_points(&file, Dimension::Two)? {
+//!     println!("{}: {:?}", drawn.place, drawn.points);
+//! }
+//! # Ok::<(), Box<dyn std::error::Error>>(())
+//! ```
+
+#![deny(missing_docs)]
+
+#[cfg(not(target_pointer_width = "64"))]
+compile_error!("the library's numbers have 64 bits");
+
+mod declared;
+mod elements;
+mod journals;
+mod names;
+pub mod raw;
+mod reading;
+mod refusals;
+mod sessions;
+mod whole;
+mod writing;
+
+pub use elements::{Bounds, Dimension, DisplayHeader, Linkage, LinkageKind, Point, Type, View};
+pub use journals::{record, Edit, History, Record};
+pub use names::{pack, unpack, Name};
+pub use reading::{extent, find, judge, linkage, point, view, Found, Judged};
+pub use refusals::{Number, Refusal};
+pub use sessions::Session;
+pub use whole::{all_points, all_views, points, views, AllPoints, AllViews, Drawn, Pointed, Points, Views};
+pub use writing::{write, Fields};
+
+/// The most bytes of a file, of a session's buffer and of a piece to insert.
+pub const FILE_BYTES: usize = 1_048_576;

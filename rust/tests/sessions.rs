@@ -1,0 +1,148 @@
+//! Sessions: edits of the worked cell, their records, and all undone.
+
+mod common;
+
+use common::{cell, fields, line, sample, TWO};
+use dgn::{Edit, Fields, Number, Record, Refusal, Session, Type};
+
+fn refused(number: Number, place: usize) -> Result<(), Refusal> {
+    Err(Refusal { number, place, count: 0 })
+}
+
+/// A session with room for more.
+fn session() -> Session {
+    let mut file = cell();
+    let read = file.len();
+    file.resize(1000, 0xa7);
+    Session::open(file, read, vec![0x5c; 1000], TWO).unwrap()
+}
+
+#[test]
+fn edited_and_undone() {
+    let mut session = session();
+    let original = session.file().to_vec();
+    assert_eq!((session.used(), session.journal_used()), (146, 0));
+    let top = line(&Fields { component: false, ..fields() });
+
+    session.mark(46, false).unwrap();
+    session.rename(0, "417").unwrap();
+    session.insert(Some(0), 72, &line(&fields())).unwrap();
+    session.insert(None, 0, &top).unwrap();
+    session.remove(72).unwrap();
+    assert_eq!(dgn::judge(session.file(), TWO).map(|j| (j.elements, j.marker)), Ok((3, 98)));
+    assert_eq!(dgn::find(session.file(), TWO, "417").map(|f| f.place), Ok(26));
+    assert_eq!(dgn::view(session.file(), TWO, 72).map(|v| (v.kind, v.deleted)), Ok((Type::Line, true)));
+
+    let history: Vec<Record> = session.history().collect::<Result<_, _>>().unwrap();
+    let edits: Vec<_> = history.iter().map(|r| (r.edit, r.header, r.place, r.payload_words)).collect();
+    let wanted = [
+        (Edit::Remove, Some(26), 72, 26),
+        (Edit::Insert, None, 0, 0),
+        (Edit::Insert, Some(0), 72, 0),
+        (Edit::Rename, None, 0, 2),
+        (Edit::Mark, None, 46, 0),
+    ];
+    assert_eq!(edits, wanted);
+    assert_eq!(history.iter().map(|r| r.before).collect::<Vec<_>>(), [52, 40, 28, 12, 0]);
+    let old = dgn::pack("00417").unwrap();
+    let payload = [old.first.to_le_bytes(), old.second.to_le_bytes()].concat();
+    assert_eq!(history[3].payload(session.journal()), payload);
+
+    for _ in 0..5 {
+        session.undo().unwrap();
+    }
+    assert_eq!(session.file(), original);
+    assert_eq!(session.undo(), refused(Number::Nothing, 0));
+    assert_eq!(session.history().count(), 0);
+    let (file, journal) = session.into_buffers();
+    assert_eq!((file.len(), journal.len()), (1000, 1000));
+}
+
+#[test]
+fn refusals_leave_all() {
+    let mut session = session();
+    session.mark(46, false).unwrap();
+    let before = session.clone();
+    let mut cut = line(&fields());
+    cut.truncate(50);
+    let answers = [
+        session.mark(46, false),
+        session.mark(1, true),
+        session.rename(46, "417"),
+        session.rename(0, "small"),
+        session.insert(None, 1, &line(&fields())),
+        session.insert(Some(usize::MAX), 72, &line(&fields())),
+        session.insert(Some(0), 72, &cut),
+        session.insert(Some(0), 72, &[0]),
+        session.remove(417),
+    ];
+    let numbers = [
+        Number::Already,
+        Number::NoSuch,
+        Number::NotACell,
+        Number::Name,
+        Number::NoSuch,
+        Number::NoSuch,
+        Number::Cut,
+        Number::Call,
+        Number::NoSuch,
+    ];
+    for (answer, number) in answers.into_iter().zip(numbers) {
+        assert_eq!(answer, refused(number, 0));
+    }
+    assert_eq!((session.used(), session.journal_used()), (before.used(), before.journal_used()));
+    assert_eq!(session.into_buffers(), before.into_buffers());
+}
+
+#[test]
+fn borrowed_buffers_and_room() {
+    let mut file = cell();
+    let mut journal = [0u8; 12];
+    let mut session = Session::open(&mut file[..], 146, &mut journal[..], TWO).unwrap();
+    assert_eq!(session.insert(Some(0), 72, &line(&fields())), refused(Number::Room, 0));
+    assert_eq!(session.rename(0, "417"), refused(Number::Journal, 0));
+    session.mark(0, true).unwrap();
+    assert_eq!(session.mark(0, false), refused(Number::Journal, 0));
+    let (used, journal_used) = (session.used(), session.journal_used());
+    assert_eq!((used, journal_used), (146, 12));
+    assert_ne!(file, cell());
+
+    // left and taken up again
+    let mut session = Session::resume(&mut file[..], used, &mut journal[..], journal_used, TWO);
+    session.undo().unwrap();
+    assert_eq!(file, cell());
+}
+
+#[test]
+fn opened_and_resumed_wrongly() {
+    let shortened = sample("shortened.cel");
+    let read = shortened.len();
+    let refusal = Session::open(shortened, read, vec![], TWO).unwrap_err();
+    assert_eq!((refusal.number, refusal.place), (Number::Cut, 155));
+    // what was not read is not judged, and the buffers are looked at
+    for (read, journal) in [(144, 0), (145, 0), (148, 0), (146, 1)] {
+        assert!(Session::open(cell(), read, vec![0; journal], TWO).is_err());
+    }
+    for (used, journal_used) in [(144, 0), (148, 0), (145, 0), (146, 2000), (0, 0)] {
+        let mut session = Session::resume(cell(), used, vec![0; 100], journal_used, TWO);
+        assert_eq!(session.mark(0, true), refused(Number::Call, 0), "{used} {journal_used}");
+        assert_eq!(session.into_buffers(), (cell(), vec![0; 100]));
+    }
+}
+
+#[test]
+fn records() {
+    let number = |journal: &[u8], used: usize| dgn::record(journal, used).map_err(|r| (r.number, r.place));
+    assert_eq!(number(&[], 0), Err((Number::Nothing, 0)));
+    assert_eq!(number(&[0; 3], 0), Err((Number::Call, 0)));
+    assert_eq!(number(&[0; 20], 22), Err((Number::Call, 0)));
+    assert_eq!(number(&[0; 20], 11), Err((Number::Call, 0)));
+    assert_eq!(number(&[0; 20], 10), Err((Number::BadJournal, 0)));
+    assert_eq!(number(&[0; 20], 12), Err((Number::BadJournal, 0)));
+    let mut session = session();
+    session.mark(46, false).unwrap();
+    let mut journal = session.journal().to_vec();
+    assert_eq!(number(&journal, 12).map(|r| (r.edit, r.place, r.before)), Ok((Edit::Mark, 46, 0)));
+    journal[10] = 1;
+    assert_eq!(number(&journal, 12), Err((Number::BadJournal, 0)));
+}

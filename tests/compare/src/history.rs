@@ -1,0 +1,115 @@
+//! The last record of a journal, against a reading of the rules and against the second reader's undo.
+
+use crate::library::{self, TOP};
+use crate::runs::Runs;
+use reader::generate::journals::undo_state;
+use reader::generate::Random;
+use reader::words::words_of;
+use reader::{Call, Refusal, State};
+
+/// "A record is its payload, then six words": the last one of the used bytes, by the rules.
+fn by_the_rules(journal: &[u8], jused: u64) -> Result<[u64; 5], Refusal> {
+    let refused = |number| Err(Refusal { number, place: 0 });
+    if journal.len() % 2 != 0 || journal.len() > 1_048_576 || jused % 2 != 0 || jused > journal.len() as u64 {
+        return refused(1);
+    }
+    let words = words_of(&journal[..jused as usize]);
+    if words.is_empty() {
+        return refused(17);
+    }
+    let [before @ .., kind, header_high, header_low, place_high, place_low, payload] = &words[..] else {
+        return refused(19);
+    };
+    let long = |high: u16, low: u16| u64::from(high) << 16 | u64::from(low);
+    let (header, place) = (long(*header_high, *header_low), long(*place_high, *place_low));
+    let payload = usize::from(*payload);
+    let top = header == 0xffff_ffff;
+    let well_formed = payload <= before.len()
+        && match kind {
+            1 => payload == 0 && top,
+            2 => payload == 2 && top,
+            3 => payload == 0,
+            4 => true,
+            _ => false,
+        };
+    if !well_formed {
+        return refused(19);
+    }
+    let header = if top { TOP } else { header };
+    Ok([u64::from(*kind), header, place, payload as u64, 2 * (before.len() - payload) as u64])
+}
+
+impl Runs {
+    pub fn record(&mut self, journal: &[u8], jused: u64) -> Result<[u64; 5], Refusal> {
+        let ours = library::record(journal, jused);
+        assert_eq!(ours, by_the_rules(journal, jused), "record of {jused} bytes of {journal:02x?}");
+        self.calls += 1;
+        ours
+    }
+
+    /// The last record before a call and after it: an edit that was made leaves its own behind the used bytes, an undo that
+    /// was made takes off the last one, and an undo says 17 and 19 where there is none and where it is ill-formed.
+    pub fn record_of(
+        &mut self,
+        call: &Call,
+        answer: &Result<(), Refusal>,
+        (used, last): (u64, Result<[u64; 5], Refusal>),
+        after: &State,
+    ) {
+        match (call, answer) {
+            (Call::Undo, Ok(())) => {
+                assert_eq!(last.map(|record| record[4]), Ok(after.jused), "the used length before the record");
+            }
+            (Call::Undo, Err(r)) if r.number == 17 => assert_eq!(last, Err(r.clone())),
+            (Call::Undo, Err(r)) if r.number == 15 => assert_eq!(last.map(|record| record[0]), Ok(4)),
+            (Call::Undo, Err(r)) => assert!(last.is_ok() || r.number < 13 || r.number == 19),
+            (_, Err(_)) => {}
+            (edit, Ok(())) => {
+                let record = self.record(&after.journal, after.jused).expect("an edit leaves a record");
+                let (kind, header, place, payload) = match edit {
+                    Call::Mark { place, .. } => (1, TOP, *place, 0),
+                    Call::Rename { place, .. } => (2, TOP, *place, 2),
+                    Call::Insert { header, place, .. } => (3, header.unwrap_or(TOP), *place, 0),
+                    // the header of what was removed stands in the record alone
+                    _ => (4, record[1], record[2], (used - after.used) / 2),
+                };
+                let before = after.jused - 12 - 2 * payload;
+                assert_eq!(record, [kind, header, place, payload, before], "the record of {edit:?}");
+                assert!(!matches!(edit, Call::Remove { place } if *place != record[2]), "the record of {edit:?}");
+            }
+        }
+    }
+}
+
+/// Journals in order and damaged, of every used length.
+pub fn journals(random: &mut Random, runs: &mut Runs, times: u64) {
+    for _ in 0..times {
+        let state = undo_state(random);
+        let answer = runs.record(&state.journal, state.jused);
+        // what undo finds ill-formed or empty is so here
+        let mut undone = state.clone();
+        match (undone.run(&Call::Undo), answer) {
+            (Ok(()), record) => assert_eq!(record.map(|r| r[4]), Ok(undone.jused)),
+            (Err(r), record) if r.number == 17 => assert_eq!(record, Err(r)),
+            (Err(r), Err(ours)) => assert!([1, 17, 19].contains(&ours.number) && r.number <= 19),
+            (Err(_), Ok(_)) => {}
+        }
+    }
+    // every used length, in and out of order, of journals of a few lengths
+    let bytes = random.bytes(64);
+    for length in [0, 1, 2, 11, 12, 13, 63, 64] {
+        for used in (0..70).chain([1_048_576, 1_048_578, 1 << 32, u64::MAX - 1, u64::MAX]) {
+            let _ = runs.record(&bytes[..length], used);
+        }
+    }
+    for length in [1_048_574, 1_048_575, 1_048_576, 1_048_577, 1_048_578] {
+        let mut journal = vec![0; length];
+        for used in [0, 12, length as u64, length as u64 - 1] {
+            let _ = runs.record(&journal, used);
+        }
+        // the longest payload that a journal can name
+        let end = length & !1;
+        journal[end - 12..end].copy_from_slice(&[4, 0, 255, 255, 255, 255, 0, 0, 7, 0, 255, 255]);
+        let _ = runs.record(&journal, end as u64);
+    }
+}
