@@ -1,6 +1,6 @@
 /* A small host: judges a 2D file, finds a part code and prints its extent.
  *   host FILE CODE
- * Status: 0 found, 1 refused, 2 wrongly called, 3 the file cannot be read.
+ * Status: 0 found, 1 refused or not there, 2 wrongly called, 3 the file cannot be read or standard output not written.
  */
 #include <stdio.h>
 #include <string.h>
@@ -9,11 +9,20 @@
 
 static uint8_t file[DGN_FILE_BYTES + 2]; /* a longer file is then refused with 1 */
 
+/* the status of a program that has printed all, or 3 */
+static int ended(int status)
+{
+    if (!ferror(stdout) && fflush(stdout) == 0)
+        return status;
+    perror("host: standard output");
+    return 3;
+}
+
 /* says what was refused */
 static int refused(const char *what, size_t r)
 {
     printf("%s: refused %zu %s at %zu: %s\n", what, DGN_NUMBER(r), dgn_refusal_name(r), DGN_PLACE(r), dgn_refusal_text(r));
-    return 1;
+    return ended(1);
 }
 
 int main(int argc, char **argv)
@@ -24,11 +33,10 @@ int main(int argc, char **argv)
     }
     FILE *in = fopen(argv[1], "rb");
     size_t len = in == NULL ? 0 : fread(file, 1, sizeof file, in);
-    if (in == NULL || ferror(in)) {
+    if (in == NULL || ferror(in) || fclose(in) != 0) {
         perror(argv[1]);
         return 3;
     }
-    fclose(in);
 
     size_t judged[DGN_JUDGE_NUMBERS];
     size_t r = dgn_judge(file, len, 2, judged, DGN_JUDGE_NUMBERS);
@@ -40,7 +48,7 @@ int main(int argc, char **argv)
     r = dgn_find(file, len, 2, (const uint8_t *)argv[2], strlen(argv[2]), found, DGN_FIND_NUMBERS);
     if (DGN_NUMBER(r) == DGN_NO_SUCH) {
         printf("%s: in none of %zu elements\n", argv[2], DGN_COUNT(r));
-        return 1;
+        return ended(1);
     }
     if (r != 0)
         return refused(argv[2], r);
@@ -49,5 +57,5 @@ int main(int argc, char **argv)
     if (r != 0)
         return refused("extent", r);
     printf("%s: place %zu, looked at %zu, words %zu to %zu\n", argv[2], found[DGN_FIND_PLACE], found[DGN_FIND_LOOKED], extent[DGN_EXTENT_FIRST], extent[DGN_EXTENT_END]);
-    return 0;
+    return ended(0);
 }

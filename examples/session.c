@@ -1,5 +1,9 @@
-/* A small session in memory: a 2D cell with one line is edited, what was done is shown, then all is undone. */
+/* A small session in memory: a 2D cell with one line is edited, what was done is shown, then all is undone. Every answer is
+ * held to the one that is due. Status: 0 all as due, 1 another answer of an edit or undo, 2 what is to be edited cannot be
+ * made, 3 a record of the journal cannot be read, 4 other bytes than at the start, 5 standard output cannot be written.
+ */
 #include <stdio.h>
+#include <stdlib.h>
 #include <string.h>
 
 #include "dgn_session.h"
@@ -7,9 +11,19 @@
 static uint8_t file[400], journal[400];
 static struct dgn_session s;
 
-/* the answer of a call, and the session after it */
-static void show(const char *what, size_t r)
+/* ends with a status where the answer of a call is not the one that is due */
+static void hold(const char *what, size_t r, size_t due, int status)
 {
+    if (DGN_NUMBER(r) == due)
+        return;
+    fprintf(stderr, "session: %s: %zu %s at %zu: %s\n", what, DGN_NUMBER(r), dgn_refusal_name(r), DGN_PLACE(r), dgn_refusal_text(r));
+    exit(status);
+}
+
+/* the answer of a call, and the session after it */
+static void show(const char *what, size_t r, size_t due)
+{
+    hold(what, r, due, 1);
     if (r == 0)
         printf("%s: made", what);
     else
@@ -25,7 +39,7 @@ static void make_line(uint8_t *line, int32_t x, size_t component)
     fields[DGN_WRITE_TYPE] = DGN_LINE;
     fields[DGN_WRITE_LEVEL] = 1;
     fields[DGN_WRITE_COMPONENT] = component;
-    dgn_write(fields, DGN_WRITE_FIELDS, points, 4, NULL, 0, 2, line, 52, out, 1);
+    hold("write a line", dgn_write(fields, DGN_WRITE_FIELDS, points, 4, NULL, 0, 2, line, 52, out, 1), DGN_DONE, 2);
 }
 
 static void put(size_t place, size_t word)
@@ -38,14 +52,15 @@ static void put(size_t place, size_t word)
 static void history(void)
 {
     static const char *const kinds[] = {"", "mark", "rename", "insert", "remove"};
-    size_t jused = s.jused, record[DGN_RECORD_NUMBERS];
-    while (dgn_record(journal, sizeof journal, jused, record, DGN_RECORD_NUMBERS) == 0) {
+    size_t r, jused = s.jused, record[DGN_RECORD_NUMBERS];
+    while ((r = dgn_record(journal, sizeof journal, jused, record, DGN_RECORD_NUMBERS)) == 0) {
         printf("%s at %zu", kinds[record[DGN_RECORD_KIND]], record[DGN_RECORD_PLACE]);
         if (record[DGN_RECORD_KIND] >= DGN_INSERT && record[DGN_RECORD_HEADER] != DGN_TOP)
             printf(" beneath %zu", record[DGN_RECORD_HEADER]);
         printf(", %zu words kept\n", record[DGN_RECORD_PAYLOAD]);
         jused = record[DGN_RECORD_BEFORE];
     }
+    hold("the record before", r, DGN_NOTHING, 3);
 }
 
 int main(void)
@@ -57,7 +72,7 @@ int main(void)
     put(0, DGN_CELL << 8);
     put(1, 44);
     put(18, 53);
-    dgn_pack((const uint8_t *)"00417", 5, name, DGN_NAME_NUMBERS);
+    hold("pack a name", dgn_pack((const uint8_t *)"00417", 5, name, DGN_NAME_NUMBERS), DGN_DONE, 2);
     put(19, name[0]);
     put(20, name[1]);
     make_line(line, 7, 1);
@@ -70,23 +85,27 @@ int main(void)
     s.journal = journal;
     s.journal_len = sizeof journal;
     s.dimension = 2;
-    show("open", dgn_session_open(&s, sizeof file));
-    show("mark the line deleted", dgn_session_mark(&s, 46, 1));
-    show("mark it again", dgn_session_mark(&s, 46, 1));
-    show("rename the cell", dgn_session_rename(&s, 0, "417"));
+    show("open", dgn_session_open(&s, sizeof file), DGN_DONE);
+    show("mark the line deleted", dgn_session_mark(&s, 46, 1), DGN_DONE);
+    show("mark it again", dgn_session_mark(&s, 46, 1), DGN_ALREADY);
+    show("rename the cell", dgn_session_rename(&s, 0, "417"), DGN_DONE);
     make_line(line, 8, 1);
-    show("insert a line at the cell's end", dgn_session_insert(&s, 0, 72, line, sizeof line));
+    show("insert a line at the cell's end", dgn_session_insert(&s, 0, 72, line, sizeof line), DGN_DONE);
     make_line(line, 9, 0);
-    show("insert a line at the top", dgn_session_insert(&s, DGN_TOP, 0, line, sizeof line));
-    show("remove the cell", dgn_session_remove(&s, 26));
+    show("insert a line at the top", dgn_session_insert(&s, DGN_TOP, 0, line, sizeof line), DGN_DONE);
+    show("remove the cell", dgn_session_remove(&s, 26), DGN_DONE);
     history();
-    while (s.jused > 0) {
-        size_t r = dgn_session_undo(&s);
-        show("undo", r);
-        if (r != 0)
-            return 1;
+    while (s.jused > 0)
+        show("undo", dgn_session_undo(&s), DGN_DONE);
+    show("undo", dgn_session_undo(&s), DGN_NOTHING);
+    if (memcmp(file, original, sizeof file) != 0) {
+        fprintf(stderr, "session: the bytes are not the original's\n");
+        return 4;
     }
-    show("undo", dgn_session_undo(&s));
-    printf("the bytes are %s\n", memcmp(file, original, sizeof file) == 0 ? "the original's" : "others");
+    printf("the bytes are the original's\n");
+    if (ferror(stdout) || fflush(stdout) != 0) {
+        perror("session: standard output");
+        return 5;
+    }
     return 0;
 }

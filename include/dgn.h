@@ -31,7 +31,8 @@
  *
  * Cost. Each call that is handed a file judges all of it: one pass, on the machine of docs/BENCH.md below a millisecond
  * for 1 MiB. To read all elements use dgn_views and dgn_points, which make one pass for many elements; dgn_view and
- * dgn_point make one for each. Nothing is allocated, and 256 KiB of stack are enough.
+ * dgn_point make one for each. With room for DGN_FILE_ELEMENTS views and for DGN_FILE_NUMBERS numbers one call of each
+ * reads any file. Nothing is allocated, and 256 KiB of stack are enough.
  *
  * Threads. The library keeps no state: calls may be made from any threads at once, on separate buffers. A buffer that a
  * call writes to is no other thread's until it returns.
@@ -57,8 +58,11 @@ extern "C" {
 #define DGN_PLACE(r) (DGN_NUMBER(r) == 13 ? 0 : (r) >> 8)
 #define DGN_COUNT(r) (DGN_NUMBER(r) == 13 ? (r) >> 8 : 0)
 
-/* Limits: bytes of a file, piece or buffer of a session; words of an extent; depth; points of an element. */
+/* Limits: bytes of a file, piece or buffer of a session; elements of a file, each of two words or more; numbers that
+ * dgn_points writes of a file, at most one for two of its words; words of an extent; depth; points of an element. */
 #define DGN_FILE_BYTES 1048576
+#define DGN_FILE_ELEMENTS 262143
+#define DGN_FILE_NUMBERS 262144
 #define DGN_EXTENT_WORDS 65535
 #define DGN_DEEPEST 8
 #define DGN_MOST_POINTS 101

@@ -148,6 +148,26 @@ static void whole(void)
     check(refused(dgn_points(file, len, 4, 0, fresh_numbers(), 6, fresh(), 2), DGN_CALL, 0), "dimension 4");
 }
 
+/* the files of the most elements and of the most points: one call reads all of them */
+static void largest(void)
+{
+    static uint8_t large[DGN_FILE_BYTES];
+    static int64_t all[DGN_FILE_ELEMENTS * DGN_VIEW_NUMBERS];
+    static const int32_t points[3 * DGN_MOST_POINTS];
+    const size_t fields[DGN_WRITE_FIELDS] = {DGN_SHAPE}, shapes = (DGN_FILE_BYTES - 2) / 1250;
+    size_t at;
+    for (at = 0; at + 6 <= sizeof large; at += 4)
+        large[at + 1] = 5;
+    large[at] = large[at + 1] = 255;
+    check(dgn_views(large, sizeof large, 2, 0, all, sizeof all / sizeof *all, fresh(), 1) == 0 && ARE(DGN_FILE_ELEMENTS), "the most elements");
+
+    check(dgn_write(fields, DGN_WRITE_FIELDS, points, 303, NULL, 0, 3, large, 1250, fresh(), 1) == 0 && ARE(625), "a shape");
+    for (at = 1250; at < 1250 * shapes; at += 1250)
+        memcpy(large + at, large, 1250);
+    large[at] = large[at + 1] = 255;
+    check(dgn_points(large, sizeof large, 3, 0, all, DGN_FILE_NUMBERS, fresh(), 2) == 0 && ARE(shapes, 305 * shapes), "the most points");
+}
+
 static void names(void)
 {
     uint8_t text[8] = "";
@@ -250,6 +270,7 @@ int main(void)
     writing();
     reading();
     whole();
+    largest();
     names();
     editing();
     session();

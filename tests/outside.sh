@@ -52,61 +52,119 @@ else
     count 1 0
 fi
 
+# check NAME COMMAND..: counts whether the command succeeds
+check() {
+    local name=$1 status
+    shift
+    "$@"
+    status=$?
+    [ $status -eq 0 ] || echo "outside: $name"
+    count $status 1
+}
+
 # every function as the C headers declare it
 strict="-std=c99 -pedantic -O2 -Wall -Wextra -Werror -Iinclude"
-gcc $strict -o "$work/header" tests/header.c target/staticlib/libdgn.a
-count $? 1
+check "header.c does not build" gcc $strict -o "$work/header" tests/header.c target/staticlib/libdgn.a
 run header.out "$work/header"
 
-# prints STATUS OUT COMMAND..: whether the command ends with this status and prints just what the file OUT has
+# ends STATUS COMMAND..: whether the command ends with this status; its output is kept
+ends() {
+    local status=$1
+    shift
+    "$@" > "$work/out" 2> "$work/err"
+    [ $? -eq "$status" ]
+}
+
+# prints STATUS OUT COMMAND..: whether it also prints just what the file OUT has
 prints() {
     local status=$1 out=$2
     shift 2
-    "$@" > "$work/out" 2> "$work/err"
-    [ $? -eq "$status" ] && diff "$work/out" "$out"
-    count $? 1
+    ends "$status" "$@" && diff "$work/out" "$out"
+}
+
+# full STATUS COMMAND..: whether the command ends with this status and says why where its output cannot be written
+full() {
+    local status=$1
+    shift
+    "$@" > /dev/full 2> "$work/err"
+    [ $? -eq "$status" ] && grep -q "standard output" "$work/err"
 }
 
 # hosts FOLDER: the C examples, built into the folder, print what is stored
 hosts() {
-    local saved=$work/saved.dgn
-    prints 0 examples/host.out "$1/host" tests/real/a11_cells_2d.dgn 00417
-    prints 1 examples/host-refused.out "$1/host" tests/real/a18_cell_hdr_link_dgnlib_2d.dgn 00417
-    prints 3 /dev/null "$1/host" tests/real 00417
-    prints 3 /dev/null "$1/host" "$work/none.dgn" 00417
-    prints 0 examples/session.out "$1/session"
-    prints 0 examples/parts.out "$1/parts" samples/nested.dgn 00417 00418 "$saved"
-    prints 0 <(sed '$d; s/ 00417/ 00418/' examples/parts.out && echo "00418 is now 00417") "$1/parts" "$saved" 00418 00417 "$saved.2"
-    cmp "$saved.2" samples/nested.dgn
-    count $? 1
+    local cells=tests/real/a11_cells_2d.dgn nested=samples/nested.dgn saved=$work/saved.dgn
+    check "host" prints 0 examples/host.out "$1/host" $cells 00417
+    check "host, a refused file" prints 1 examples/host-refused.out "$1/host" tests/real/a18_cell_hdr_link_dgnlib_2d.dgn 00417
+    check "host, a folder" prints 3 /dev/null "$1/host" tests/real 00417
+    check "host, a missing file" prints 3 /dev/null "$1/host" "$work/none.dgn" 00417
+    check "host, a full disk" full 3 "$1/host" $cells 00417
+    check "host, no such part and a full disk" full 3 "$1/host" $cells NONE
+    check "session" prints 0 examples/session.out "$1/session"
+    check "session, a full disk" full 5 "$1/session"
+    check "parts" prints 0 examples/parts.out "$1/parts" $nested 00417 00418 "$saved"
+    sed '$d; s/ 00417/ 00418/' examples/parts.out > "$work/renamed"
+    echo "00418 is now 00417" >> "$work/renamed"
+    check "parts, renamed back" prints 0 "$work/renamed" "$1/parts" "$saved" 00418 00417 "$saved.2"
+    check "parts, renamed back: the file" cmp "$saved.2" $nested
+    check "parts, a full disk" full 3 "$1/parts" $nested 00417 00418 "$saved"
+    check "parts, a file that cannot be saved" ends 3 "$1/parts" $nested 00417 00418 /dev/full
 }
 
 # with the archive
 mkdir "$work/archived"
 for name in host session parts; do
-    gcc $strict -o "$work/archived/$name" "examples/$name.c" target/staticlib/libdgn.a
-    count $? 1
+    check "$name.c does not build" gcc $strict -o "$work/archived/$name" "examples/$name.c" target/staticlib/libdgn.a
 done
 hosts "$work/archived"
 
-# with the installed copy, from C and from C++, by pkg-config
+# other NAME FUNCTION STATUS ARGUMENT..: whether an example ends with this status where one function returns 19 for all
+# that it is handed
+other() {
+    local name=$1 function=$2 status=$3
+    shift 3
+    echo "unsigned long __wrap_$function(void) { return 19; }" > "$work/other.c"
+    gcc -std=c99 -fno-builtin -Iinclude -o "$work/other" "examples/$name.c" "$work/other.c" \
+        "-Wl,--wrap=$function" target/staticlib/libdgn.a || return 1
+    ends "$status" "$work/other" "$@"
+}
+
+# every answer that an example gets is looked at
+called() { gcc -std=c99 -Iinclude -c -o "$work/called.o" "examples/$1.c" && nm -u "$work/called.o" | sed -nE 's/^ *U (dgn_[a-z]+)$/\1/p'; }
+for name in host session parts; do
+    case $name in
+    host) arguments=(tests/real/a11_cells_2d.dgn 00417) ;;
+    session) arguments=() ;;
+    parts) arguments=(samples/nested.dgn 00417 00418 "$work/saved.dgn") ;;
+    esac
+    functions=$(called "$name")
+    check "$name calls nothing" test -n "$functions"
+    for function in $functions; do
+        case $name:$function in
+        session:dgn_write | session:dgn_pack) status=2 ;;
+        session:dgn_record) status=3 ;;
+        *) status=1 ;;
+        esac
+        check "$name does not look at the answer of $function" other "$name" "$function" $status "${arguments[@]}"
+    done
+done
+check "session does not look at the bytes" other session memcmp 4
+
+# with the installed copy, from C and from C++, by pkg-config, which is installed where it is missing
 prefix=$work/prefix
-(cd "$work" && "$top/archive" install prefix)
-count $? 1
-if command -v pkg-config > /dev/null; then
-    flags=$(PKG_CONFIG_PATH=$prefix/lib/pkgconfig pkg-config --cflags --libs dgn)
-    count $? 1
-else
-    echo "outside: no pkg-config on this machine: dgn.pc is read here"
-    flags=$(sed -nE "s,\\$\{(include|lib)dir\},$prefix/\1,g; s,^(Cflags|Libs): ,,p" "$prefix/lib/pkgconfig/dgn.pc" | tr '\n' ' ')
+check "the library is not installed" env -C "$work" "$top/archive" install prefix
+as_root() { if [ "$(id -u)" -eq 0 ]; then "$@"; else sudo -n "$@"; fi; }
+if ! command -v pkg-config > /dev/null; then
+    { as_root apt-get update && as_root apt-get install -y --no-install-recommends pkg-config; } > "$work/apt" 2>&1 || cat "$work/apt"
 fi
+flags=$(PKG_CONFIG_PATH=$prefix/lib/pkgconfig pkg-config --cflags --libs dgn)
+check "pkg-config does not read dgn.pc" test $? -eq 0
 for language in "c -std=c99" "c++ -std=c++11"; do
     mkdir -p "$work/installed"
     for name in host session parts; do
         compiler=gcc
         [ "${language%% *}" = c ] || compiler=g++
-        (cd "$work" && $compiler -x $language -Wall -Wextra -Wpedantic -Werror -O2 -o "installed/$name" "$top/examples/$name.c" -x none $flags)
-        count $? 1
+        check "$name.c does not build by $compiler" env -C "$work" $compiler -x $language -Wall -Wextra -Wpedantic -Werror -O2 \
+            -o "installed/$name" "$top/examples/$name.c" -x none $flags
     done
     export LD_LIBRARY_PATH=$prefix/lib
     hosts "$work/installed"

@@ -22,12 +22,11 @@ else
     failed=$((failed + 1))
 fi
 
-# the declarations of the C functions are unsafe, but their module is not public
-if grep -rnE 'pub unsafe|pub mod declared|pub use .*declared' rust/src; then failed=$((failed + 1)); else passed=$((passed + 1)); fi
+if grep -rnE 'pub unsafe|pub extern' rust/src; then failed=$((failed + 1)); else passed=$((passed + 1)); fi
 
 # every function of the header is declared, and no other
-names() { sed -nE "s/^ *($1)(dgn_[a-z_]+)\(.*/\2/p" "$2" | sort; }
-if diff <(names 'size_t |const char \*' include/dgn.h) <(names 'pub fn ' rust/src/declared.rs); then
+names() { sed -nE "s/$1/\\2/p" "${@:2}" | sort; }
+if diff <(names '^(size_t |const char \*)(dgn_[a-z_]+)\(.*' include/dgn.h) <(names '^.*(\) = |    fn )(dgn_[a-z_]+)[;(].*' rust/src/*.rs); then
     passed=$((passed + 1))
 else
     failed=$((failed + 1))

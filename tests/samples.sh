@@ -149,5 +149,15 @@ for listing in "" "$heading" "${heading}0 0 3 26 live\n" "${heading}0 0 3 26 liv
     check "a listing that is not whole: $listing" unwhole "$listing"
 done
 
+# a celllist that cannot be run, by stand-ins: an interpreter that is not there, a signal before the end, a folder
+unrun() { first; [ $? -eq 2 ] && [ ! -s "$work/out" ] && said "cannot be run"; }
+for stand_in in '#!/none/sh\n' '#!/bin/sh\necho END 0\nkill -9 $$\n'; do
+    printf "$stand_in" > "$work/copy/target/bin/celllist"
+    check "a celllist that cannot be run: $stand_in" unrun
+done
+rm "$work/copy/target/bin/celllist"
+mkdir "$work/copy/target/bin/celllist"
+check "a celllist that is a folder" unrun
+
 echo "$passed passed, $failed failed"
 [ "$failed" -eq 0 ]

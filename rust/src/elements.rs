@@ -12,68 +12,64 @@ pub enum Dimension {
     Three = 3,
 }
 
-/// The type of an element.
-#[derive(Clone, Copy, PartialEq, Eq, Hash, Debug)]
-pub enum Type {
-    /// 1, a header with a name.
-    LibraryCell,
-    /// 2, a header with a name.
-    Cell,
-    /// 3, with two points.
-    Line,
-    /// 4, with points.
-    LineString,
-    /// 6, with points.
-    Shape,
-    /// 7, a header of texts.
-    TextNode,
-    /// 11, with points.
-    Curve,
-    /// 12, a header.
-    ComplexChain,
-    /// 14, a header.
-    ComplexShape,
-    /// 17.
-    Text,
-    /// 18, a header, in 3D files alone.
-    Surface,
-    /// 19, a header, in 3D files alone.
-    Solid,
-    /// 21, with points.
-    BsplinePole,
-    /// Any other type, by its number: only its first two words are judged.
-    Raw(u8),
+/// Makes the enum of the types, each with its number.
+macro_rules! types {
+    ($($(#[$doc:meta])* $name:ident = $number:literal,)*) => {
+        /// The type of an element.
+        #[derive(Clone, Copy, PartialEq, Eq, Hash, Debug)]
+        pub enum Type {
+            $($(#[$doc])* $name,)*
+            /// Any other type, by its number: only its first two words are judged.
+            Raw(u8),
+        }
+
+        impl Type {
+            /// The type of a number.
+            pub fn of(number: u8) -> Type {
+                match number {
+                    $($number => Type::$name,)*
+                    _ => Type::Raw(number),
+                }
+            }
+
+            /// Its number.
+            pub fn number(self) -> u8 {
+                match self {
+                    $(Type::$name => $number,)*
+                    Type::Raw(number) => number,
+                }
+            }
+        }
+    };
 }
 
-const KNOWN: [(Type, u8); 13] = [
-    (Type::LibraryCell, 1),
-    (Type::Cell, 2),
-    (Type::Line, 3),
-    (Type::LineString, 4),
-    (Type::Shape, 6),
-    (Type::TextNode, 7),
-    (Type::Curve, 11),
-    (Type::ComplexChain, 12),
-    (Type::ComplexShape, 14),
-    (Type::Text, 17),
-    (Type::Surface, 18),
-    (Type::Solid, 19),
-    (Type::BsplinePole, 21),
-];
-
-impl Type {
-    /// The type of a number.
-    pub fn of(number: u8) -> Type {
-        KNOWN.iter().find(|known| known.1 == number).map_or(Type::Raw(number), |known| known.0)
-    }
-
-    /// Its number.
-    pub fn number(self) -> u8 {
-        match self {
-            Type::Raw(number) => number,
-            _ => KNOWN.iter().find(|known| known.0 == self).map_or(0, |known| known.1),
-        }
-    }
+types! {
+    /// A header with a name.
+    LibraryCell = 1,
+    /// A header with a name.
+    Cell = 2,
+    /// With two points.
+    Line = 3,
+    /// With points.
+    LineString = 4,
+    /// With points.
+    Shape = 6,
+    /// A header of texts.
+    TextNode = 7,
+    /// With points.
+    Curve = 11,
+    /// A header.
+    ComplexChain = 12,
+    /// A header.
+    ComplexShape = 14,
+    /// A text.
+    Text = 17,
+    /// A header, in 3D files alone.
+    Surface = 18,
+    /// A header, in 3D files alone.
+    Solid = 19,
+    /// With points.
+    BsplinePole = 21,
 }
 
 /// The range of an element: x, y, z of its low and of its high corner as stored, unsigned. Nothing ties it to its points,

@@ -32,10 +32,10 @@
 #[cfg(not(target_pointer_width = "64"))]
 compile_error!("the library's numbers have 64 bits");
 
-mod declared;
 mod elements;
 mod journals;
 mod names;
+mod numbered;
 pub mod raw;
 mod reading;
 mod refusals;
@@ -49,7 +49,7 @@ pub use names::{pack, unpack, Name};
 pub use reading::{extent, find, judge, linkage, point, view, Found, Judged};
 pub use refusals::{Number, Refusal};
 pub use sessions::Session;
-pub use whole::{all_points, all_views, points, views, AllPoints, AllViews, Drawn, Pointed, Points, Views};
+pub use whole::{all_points, all_views, points, views, Drawn, Pointed, Points, Views};
 pub use writing::{write, Fields};
 
 /// The most bytes of a file, of a session's buffer and of a piece to insert.

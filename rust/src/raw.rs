@@ -3,8 +3,7 @@
 //! Any slices and numbers may be handed over.
 //!
 //! [`Refusal::of`]: crate::Refusal::of
-
-use crate::declared::*;
+#![allow(clippy::too_many_arguments)]
 
 /// The top of the file, for a header's place.
 pub const TOP: usize = usize::MAX;
@@ -12,157 +11,103 @@ pub const TOP: usize = usize::MAX;
 /// The numbers of a view.
 pub const VIEW_NUMBERS: usize = 32;
 
-/// The fields that [`write`] takes.
+/// The fields that [`write()`] takes.
 pub const WRITE_FIELDS: usize = 16;
 
-/// out: elements, greatest depth, marker's place.
-pub fn judge(file: &[u8], dim: usize, out: &mut [usize]) -> usize {
-    unsafe { dgn_judge(file.as_ptr(), file.len(), dim, out.as_mut_ptr(), out.len()) }
+/// Makes each `pub fn NAME(ARGUMENTS) = C_NAME;` a function that declares the C one and calls it: a slice becomes a
+/// pointer and a length, a number stays. In brackets, as far as they are made: the arguments in C's declaration, and what
+/// is handed to it.
+macro_rules! functions {
+    () => {};
+    ($(#[$doc:meta])* pub fn $name:ident($($arguments:tt)*) = $c:ident; $($rest:tt)*) => {
+        $(#[$doc])*
+        pub fn $name($($arguments)*) -> usize {
+            functions!(@call $c [] [] $($arguments)*,)
+        }
+        functions!($($rest)*);
+    };
+    (@call $c:ident [$($declared:tt)*] [$($handed:tt)*] $slice:ident: &[$of:ty], $($rest:tt)*) => {
+        functions!(@call $c [$($declared)* _: *const $of, _: usize,] [$($handed)* $slice.as_ptr(), $slice.len(),] $($rest)*)
+    };
+    (@call $c:ident [$($declared:tt)*] [$($handed:tt)*] $slice:ident: &mut [$of:ty], $($rest:tt)*) => {
+        functions!(@call $c [$($declared)* _: *mut $of, _: usize,] [$($handed)* $slice.as_mut_ptr(), $slice.len(),] $($rest)*)
+    };
+    (@call $c:ident [$($declared:tt)*] [$($handed:tt)*] $number:ident: usize, $($rest:tt)*) => {
+        functions!(@call $c [$($declared)* _: usize,] [$($handed)* $number,] $($rest)*)
+    };
+    (@call $c:ident [$($declared:tt)*] [$($handed:tt)*]) => {{
+        extern "C" {
+            fn $c($($declared)*) -> usize;
+        }
+        // any slices and numbers are allowed, and the borrows keep what is written from overlapping
+        unsafe { $c($($handed)*) }
+    }};
 }
 
-/// out: the place, how many elements were looked at.
-pub fn find(file: &[u8], dim: usize, text: &[u8], out: &mut [usize]) -> usize {
-    unsafe { dgn_find(file.as_ptr(), file.len(), dim, text.as_ptr(), text.len(), out.as_mut_ptr(), out.len()) }
-}
+functions! {
+    /// out: elements, greatest depth, marker's place.
+    pub fn judge(file: &[u8], dim: usize, out: &mut [usize]) = dgn_judge;
 
-/// out: the first word, the word after the last.
-pub fn extent(file: &[u8], dim: usize, place: usize, out: &mut [usize]) -> usize {
-    unsafe { dgn_extent(file.as_ptr(), file.len(), dim, place, out.as_mut_ptr(), out.len()) }
-}
+    /// out: the place, how many elements were looked at.
+    pub fn find(file: &[u8], dim: usize, text: &[u8], out: &mut [usize]) = dgn_find;
 
-/// out: the 32 numbers of a view.
-pub fn view(file: &[u8], dim: usize, place: usize, out: &mut [i64]) -> usize {
-    unsafe { dgn_view(file.as_ptr(), file.len(), dim, place, out.as_mut_ptr(), out.len()) }
-}
+    /// out: the first word, the word after the last.
+    pub fn extent(file: &[u8], dim: usize, place: usize, out: &mut [usize]) = dgn_extent;
 
-/// out: x, y, z.
-pub fn point(file: &[u8], dim: usize, place: usize, k: usize, out: &mut [i64]) -> usize {
-    unsafe { dgn_point(file.as_ptr(), file.len(), dim, place, k, out.as_mut_ptr(), out.len()) }
-}
+    /// out: the 32 numbers of a view.
+    pub fn view(file: &[u8], dim: usize, place: usize, out: &mut [i64]) = dgn_view;
 
-/// out: 1 for a user linkage, place, size, id.
-pub fn linkage(file: &[u8], dim: usize, place: usize, k: usize, out: &mut [usize]) -> usize {
-    unsafe { dgn_linkage(file.as_ptr(), file.len(), dim, place, k, out.as_mut_ptr(), out.len()) }
-}
+    /// out: x, y, z.
+    pub fn point(file: &[u8], dim: usize, place: usize, k: usize, out: &mut [i64]) = dgn_point;
 
-/// out: how many views were put into `views`, 32 numbers each.
-pub fn views(file: &[u8], dim: usize, k: usize, views: &mut [i64], out: &mut [usize]) -> usize {
-    let (v, o) = (views.as_mut_ptr(), out.as_mut_ptr());
-    unsafe { dgn_views(file.as_ptr(), file.len(), dim, k, v, views.len(), o, out.len()) }
-}
+    /// out: 1 for a user linkage, place, size, id.
+    pub fn linkage(file: &[u8], dim: usize, place: usize, k: usize, out: &mut [usize]) = dgn_linkage;
 
-/// out: the next element number, how many numbers were put into `numbers`.
-pub fn points(file: &[u8], dim: usize, k: usize, numbers: &mut [i64], out: &mut [usize]) -> usize {
-    let (n, o) = (numbers.as_mut_ptr(), out.as_mut_ptr());
-    unsafe { dgn_points(file.as_ptr(), file.len(), dim, k, n, numbers.len(), o, out.len()) }
-}
+    /// out: how many views were put into `views`, 32 numbers each.
+    pub fn views(file: &[u8], dim: usize, k: usize, views: &mut [i64], out: &mut [usize]) = dgn_views;
 
-/// out: two words.
-pub fn pack(text: &[u8], out: &mut [usize]) -> usize {
-    unsafe { dgn_pack(text.as_ptr(), text.len(), out.as_mut_ptr(), out.len()) }
-}
+    /// out: the next element number, how many numbers were put into `numbers`.
+    pub fn points(file: &[u8], dim: usize, k: usize, numbers: &mut [i64], out: &mut [usize]) = dgn_points;
 
-/// text: seven bytes, the letters and zeros behind them.
-pub fn unpack(first: usize, second: usize, text: &mut [u8]) -> usize {
-    unsafe { dgn_unpack(first, second, text.as_mut_ptr(), text.len()) }
-}
+    /// out: two words.
+    pub fn pack(text: &[u8], out: &mut [usize]) = dgn_pack;
 
-/// out: the words written to the front of `buffer`.
-pub fn write(fields: &[usize], points: &[i32], tail: &[u8], dim: usize, buffer: &mut [u8], out: &mut [usize]) -> usize {
-    unsafe {
-        dgn_write(
-            fields.as_ptr(),
-            fields.len(),
-            points.as_ptr(),
-            points.len(),
-            tail.as_ptr(),
-            tail.len(),
-            dim,
-            buffer.as_mut_ptr(),
-            buffer.len(),
-            out.as_mut_ptr(),
-            out.len(),
-        )
-    }
-}
+    /// text: seven bytes, the letters and zeros behind them.
+    pub fn unpack(first: usize, second: usize, text: &mut [u8]) = dgn_unpack;
 
-/// out: the used lengths of file and journal.
-#[allow(clippy::too_many_arguments)]
-pub fn mark(
-    file: &mut [u8],
-    used: usize,
-    journal: &mut [u8],
-    jused: usize,
-    dim: usize,
-    place: usize,
-    deleted: usize,
-    out: &mut [usize],
-) -> usize {
-    let (f, j) = (file.as_mut_ptr(), journal.as_mut_ptr());
-    let (n, m) = (file.len(), journal.len());
-    unsafe { dgn_mark(f, n, used, j, m, jused, dim, place, deleted, out.as_mut_ptr(), out.len()) }
-}
+    /// out: the words written to the front of `buffer`.
+    pub fn write(
+        fields: &[usize], points: &[i32], tail: &[u8],
+        dim: usize, buffer: &mut [u8], out: &mut [usize]
+    ) = dgn_write;
 
-/// out: the used lengths of file and journal.
-#[allow(clippy::too_many_arguments)]
-pub fn rename(
-    file: &mut [u8],
-    used: usize,
-    journal: &mut [u8],
-    jused: usize,
-    dim: usize,
-    place: usize,
-    text: &[u8],
-    out: &mut [usize],
-) -> usize {
-    let (f, j) = (file.as_mut_ptr(), journal.as_mut_ptr());
-    let (n, m) = (file.len(), journal.len());
-    let (t, o) = (text.as_ptr(), out.as_mut_ptr());
-    unsafe { dgn_rename(f, n, used, j, m, jused, dim, place, t, text.len(), o, out.len()) }
-}
+    /// out: the used lengths of file and journal.
+    pub fn mark(
+        file: &mut [u8], used: usize, journal: &mut [u8], jused: usize, dim: usize,
+        place: usize, deleted: usize, out: &mut [usize]
+    ) = dgn_mark;
 
-/// out: the used lengths of file and journal.
-#[allow(clippy::too_many_arguments)]
-pub fn insert(
-    file: &mut [u8],
-    used: usize,
-    journal: &mut [u8],
-    jused: usize,
-    dim: usize,
-    header: usize,
-    place: usize,
-    piece: &[u8],
-    out: &mut [usize],
-) -> usize {
-    let (f, j) = (file.as_mut_ptr(), journal.as_mut_ptr());
-    let (n, m) = (file.len(), journal.len());
-    let (p, o) = (piece.as_ptr(), out.as_mut_ptr());
-    unsafe { dgn_insert(f, n, used, j, m, jused, dim, header, place, p, piece.len(), o, out.len()) }
-}
+    /// out: the used lengths of file and journal. `text` is the new name.
+    pub fn rename(
+        file: &mut [u8], used: usize, journal: &mut [u8], jused: usize, dim: usize,
+        place: usize, text: &[u8], out: &mut [usize]
+    ) = dgn_rename;
 
-/// out: the used lengths of file and journal.
-pub fn remove(
-    file: &mut [u8],
-    used: usize,
-    journal: &mut [u8],
-    jused: usize,
-    dim: usize,
-    place: usize,
-    out: &mut [usize],
-) -> usize {
-    let (f, j) = (file.as_mut_ptr(), journal.as_mut_ptr());
-    let (n, m) = (file.len(), journal.len());
-    unsafe { dgn_remove(f, n, used, j, m, jused, dim, place, out.as_mut_ptr(), out.len()) }
-}
+    /// out: the used lengths of file and journal. `header` is a place or [`TOP`].
+    pub fn insert(
+        file: &mut [u8], used: usize, journal: &mut [u8], jused: usize, dim: usize,
+        header: usize, place: usize, piece: &[u8], out: &mut [usize]
+    ) = dgn_insert;
 
-/// out: the used lengths of file and journal.
-pub fn undo(file: &mut [u8], used: usize, journal: &[u8], jused: usize, dim: usize, out: &mut [usize]) -> usize {
-    let (f, j) = (file.as_mut_ptr(), journal.as_ptr());
-    let (n, m) = (file.len(), journal.len());
-    unsafe { dgn_undo(f, n, used, j, m, jused, dim, out.as_mut_ptr(), out.len()) }
-}
+    /// out: the used lengths of file and journal.
+    pub fn remove(
+        file: &mut [u8], used: usize, journal: &mut [u8], jused: usize, dim: usize,
+        place: usize, out: &mut [usize]
+    ) = dgn_remove;
 
-/// out: kind, header's place or [`TOP`], place, payload words, the used length before the record.
-pub fn record(journal: &[u8], jused: usize, out: &mut [usize]) -> usize {
-    unsafe { dgn_record(journal.as_ptr(), journal.len(), jused, out.as_mut_ptr(), out.len()) }
+    /// out: the used lengths of file and journal.
+    pub fn undo(file: &mut [u8], used: usize, journal: &[u8], jused: usize, dim: usize, out: &mut [usize]) = dgn_undo;
+
+    /// out: kind, header's place or [`TOP`], place, payload words, the used length before the record.
+    pub fn record(journal: &[u8], jused: usize, out: &mut [usize]) = dgn_record;
 }

@@ -1,51 +1,56 @@
 //! Refusals: the number, its name and its sentence.
 
-use crate::declared::{dgn_refusal_name, dgn_refusal_text};
+use crate::numbered::numbered;
 use std::ffi::{c_char, CStr};
 use std::fmt;
 
-/// The number of a refusal. Judging a file can answer those to [`Number::Name`]; the others are about a call.
-#[derive(Clone, Copy, PartialEq, Eq, PartialOrd, Ord, Hash, Debug)]
-#[repr(u8)]
-pub enum Number {
-    /// A length, a field out of its range, a used file without its end.
-    Call = 1,
-    /// No word left where the end marker or an element is due.
-    NoEnd = 2,
-    /// An element or piece is cut off, or words are left over after a piece.
-    Cut = 3,
-    /// Bit 6 of an element's first word is set.
-    Reserved = 4,
-    /// The component bit is wrong.
-    Place = 5,
-    /// The type may not stand there, or is not read.
-    Kind = 6,
-    /// An element is below its fixed part, or its number of points is out of range.
-    Short = 7,
-    /// An extent or a size is wrong or above 65,535 words.
-    Total = 8,
-    /// A header's count differs from its components.
-    Count = 9,
-    /// Nesting above depth 8.
-    Deep = 10,
-    /// An attribute part is wrong.
-    Linkage = 11,
-    /// A stored name or a text is wrong.
-    Name = 12,
-    /// Place, point, linkage or name not there.
-    NoSuch = 13,
-    /// The deleted flag is already as wanted.
-    Already = 14,
-    /// An output or file buffer is too small.
-    Room = 15,
-    /// Too few free journal words.
-    Journal = 16,
-    /// Undo of an empty journal.
-    Nothing = 17,
-    /// Rename of another type.
-    NotACell = 18,
-    /// The last record is ill-formed or its reversal is not allowed.
-    BadJournal = 19,
+extern "C" {
+    fn dgn_refusal_name(number: usize) -> *const c_char;
+    fn dgn_refusal_text(number: usize) -> *const c_char;
+}
+
+numbered! {
+    /// The number of a refusal. Judging a file can answer those to [`Number::Name`]; the others are about a call.
+    pub enum Number {
+        /// A length, a field out of its range, a used file without its end.
+        Call = 1,
+        /// No word left where the end marker or an element is due.
+        NoEnd = 2,
+        /// An element or piece is cut off, or words are left over after a piece.
+        Cut = 3,
+        /// Bit 6 of an element's first word is set.
+        Reserved = 4,
+        /// The component bit is wrong.
+        Place = 5,
+        /// The type may not stand there, or is not read.
+        Kind = 6,
+        /// An element is below its fixed part, or its number of points is out of range.
+        Short = 7,
+        /// An extent or a size is wrong or above 65,535 words.
+        Total = 8,
+        /// A header's count differs from its components.
+        Count = 9,
+        /// Nesting above depth 8.
+        Deep = 10,
+        /// An attribute part is wrong.
+        Linkage = 11,
+        /// A stored name or a text is wrong.
+        Name = 12,
+        /// Place, point, linkage or name not there.
+        NoSuch = 13,
+        /// The deleted flag is already as wanted.
+        Already = 14,
+        /// An output or file buffer is too small.
+        Room = 15,
+        /// Too few free journal words.
+        Journal = 16,
+        /// Undo of an empty journal.
+        Nothing = 17,
+        /// Rename of another type.
+        NotACell = 18,
+        /// The last record is ill-formed or its reversal is not allowed.
+        BadJournal = 19,
+    }
 }
 
 /// The string of a function of the library, which never goes away.
@@ -55,29 +60,6 @@ fn said(by: unsafe extern "C" fn(usize) -> *const c_char, number: Number) -> &'s
 }
 
 impl Number {
-    /// All of them, from 1 on.
-    pub const ALL: [Number; 19] = [
-        Number::Call,
-        Number::NoEnd,
-        Number::Cut,
-        Number::Reserved,
-        Number::Place,
-        Number::Kind,
-        Number::Short,
-        Number::Total,
-        Number::Count,
-        Number::Deep,
-        Number::Linkage,
-        Number::Name,
-        Number::NoSuch,
-        Number::Already,
-        Number::Room,
-        Number::Journal,
-        Number::Nothing,
-        Number::NotACell,
-        Number::BadJournal,
-    ];
-
     /// Its name, as README.md has it.
     pub fn name(self) -> &'static str {
         said(dgn_refusal_name, self)
@@ -103,7 +85,7 @@ pub struct Refusal {
 impl Refusal {
     /// What a function of [`raw`](crate::raw) other than `find` returned; none for 0, and for what none returns.
     pub fn of(returned: usize) -> Option<Refusal> {
-        let number = *Number::ALL.get((returned % 256).checked_sub(1)?)?;
+        let number = Number::of(returned % 256)?;
         Some(Refusal { number, place: returned / 256, count: 0 })
     }
 
@@ -126,7 +108,7 @@ pub(crate) fn done(returned: usize) -> Result<(), Refusal> {
 pub(crate) fn refused_by(returned: usize, of: fn(usize) -> Option<Refusal>) -> Result<(), Refusal> {
     match returned {
         0 => Ok(()),
-        _ => Err(of(returned).expect("a refusal's number is 1 to 19")),
+        _ => Err(of(returned).expect("a refusal's number")),
     }
 }
 

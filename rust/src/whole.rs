@@ -1,8 +1,9 @@
-//! All views and all points of a file, in parts: each part judges the file once.
+//! All views and all points of a file, at once or in parts: each part judges the file once.
 
 use crate::elements::{Dimension, Point, View};
 use crate::raw::{self, VIEW_NUMBERS};
 use crate::refusals::{done, Refusal};
+use crate::FILE_BYTES;
 use std::slice::{Chunks, ChunksExact};
 
 /// The views of a part, in file order.
@@ -78,49 +79,19 @@ pub fn points<'n>(file: &[u8], dimension: Dimension, k: usize, numbers: &'n mut 
     Ok(Points { numbers: &numbers[..out[1]], dimension, next_element: out[0] })
 }
 
-/// So many views, and so many numbers of points, are read at a time.
-const VIEWS: usize = 4096;
-const NUMBERS: usize = 65_536;
-
-/// The first part decides: a file that is borrowed stays as it is.
-const SAME: &str = "the file was accepted, and a part has room for one element";
-
-/// All views of a file, in file order.
-#[derive(Clone, Debug)]
-pub struct AllViews<'f> {
-    file: &'f [u8],
-    dimension: Dimension,
-    /// The number of the next element.
-    k: usize,
-    part: std::vec::IntoIter<View>,
-}
-
-impl AllViews<'_> {
-    fn read(&mut self) -> Result<(), Refusal> {
-        let mut numbers = vec![0; VIEW_NUMBERS * VIEWS];
-        let part: Vec<View> = views(self.file, self.dimension, self.k, &mut numbers)?.collect();
-        self.k += part.len();
-        self.part = part.into_iter();
-        Ok(())
+/// All views of a file, in file order: one pass where its elements have 16 words or more on average, as all of known types
+/// have, else two. Refusals: 1, the file's own.
+pub fn all_views(file: &[u8], dimension: Dimension) -> Result<Vec<View>, Refusal> {
+    let bytes = file.len().min(FILE_BYTES);
+    let mut numbers = vec![0; VIEW_NUMBERS * (bytes / 32 + 1)];
+    let mut all: Vec<View> = views(file, dimension, 0, &mut numbers)?.collect();
+    if let Some(last) = all.last().filter(|_| VIEW_NUMBERS * all.len() == numbers.len()) {
+        // what follows the last one has two words or more for each element
+        let rest = bytes / 2 - (last.place + last.size);
+        numbers = vec![0; VIEW_NUMBERS * (rest / 2)];
+        all.extend(views(file, dimension, all.len(), &mut numbers)?);
     }
-}
-
-/// All views of a file, in file order and in parts of 4,096. Refusals: 1, the file's own.
-pub fn all_views(file: &[u8], dimension: Dimension) -> Result<AllViews<'_>, Refusal> {
-    let mut all = AllViews { file, dimension, k: 0, part: Vec::new().into_iter() };
-    all.read()?;
     Ok(all)
-}
-
-impl Iterator for AllViews<'_> {
-    type Item = View;
-
-    fn next(&mut self) -> Option<View> {
-        if self.part.len() == 0 {
-            self.read().expect(SAME);
-        }
-        self.part.next()
-    }
 }
 
 /// An element with its points.
@@ -132,41 +103,10 @@ pub struct Drawn {
     pub points: Vec<Point>,
 }
 
-/// All elements of a file that have points, in file order.
-#[derive(Clone, Debug)]
-pub struct AllPoints<'f> {
-    file: &'f [u8],
-    dimension: Dimension,
-    /// The number of the next element.
-    k: usize,
-    part: std::vec::IntoIter<Drawn>,
-}
-
-impl AllPoints<'_> {
-    fn read(&mut self) -> Result<(), Refusal> {
-        let mut numbers = vec![0; NUMBERS];
-        let points = points(self.file, self.dimension, self.k, &mut numbers)?;
-        self.k = points.next_element;
-        let part: Vec<Drawn> = points.map(|p| Drawn { place: p.place, points: p.points().collect() }).collect();
-        self.part = part.into_iter();
-        Ok(())
-    }
-}
-
-/// All elements of a file that have points, in file order and in parts of 65,536 numbers. Refusals: 1, the file's own.
-pub fn all_points(file: &[u8], dimension: Dimension) -> Result<AllPoints<'_>, Refusal> {
-    let mut all = AllPoints { file, dimension, k: 0, part: Vec::new().into_iter() };
-    all.read()?;
-    Ok(all)
-}
-
-impl Iterator for AllPoints<'_> {
-    type Item = Drawn;
-
-    fn next(&mut self) -> Option<Drawn> {
-        if self.part.len() == 0 {
-            self.read().expect(SAME);
-        }
-        self.part.next()
-    }
+/// All elements of a file that have points, in file order: one pass. Refusals: 1, the file's own.
+pub fn all_points(file: &[u8], dimension: Dimension) -> Result<Vec<Drawn>, Refusal> {
+    // an element gives no more numbers than half its words: two for more than four, and a coordinate for two
+    let mut numbers = vec![0; file.len().min(FILE_BYTES) / 4];
+    let all = points(file, dimension, 0, &mut numbers)?;
+    Ok(all.map(|p| Drawn { place: p.place, points: p.points().collect() }).collect())
 }

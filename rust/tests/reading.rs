@@ -71,7 +71,7 @@ fn one_element() {
 #[test]
 fn views_in_parts() {
     let file = sample("nested.dgn");
-    let all: Vec<View> = dgn::all_views(&file, TWO).unwrap().collect();
+    let all: Vec<View> = dgn::all_views(&file, TWO).unwrap();
     assert_eq!(all.iter().map(|v| v.place).collect::<Vec<_>>(), [0, 26, 72, 111, 157, 183, 229, 284, 314]);
     for view in &all {
         assert_eq!(dgn::view(&file, TWO, view.place), Ok(*view));
@@ -100,7 +100,7 @@ fn views_in_parts() {
 #[test]
 fn points_in_parts() {
     let file = sample("nested.dgn");
-    let all: Vec<_> = dgn::all_points(&file, TWO).unwrap().collect();
+    let all = dgn::all_points(&file, TWO).unwrap();
     assert_eq!(all.iter().map(|d| d.place).collect::<Vec<_>>(), [0, 72, 157, 229, 284, 314]);
     for drawn in &all {
         for (k, point) in drawn.points.iter().enumerate() {
@@ -127,6 +127,28 @@ fn points_in_parts() {
     assert_eq!(room(0, 5), Err(refused(Number::Room, 0)));
     assert_eq!(room(9, 0), Ok(9));
     assert_eq!(room(417, 0), Ok(417));
+}
+
+#[test]
+fn all_of_any_size() {
+    // raw elements of so many words, on both sides of 16 on average, and what stands behind the end marker
+    for (elements, words) in [(0, 2), (1, 2), (2, 2), (1000, 2), (1000, 15), (1000, 16), (1000, 17), (7, 1000)] {
+        for behind in [0, 2, 4, 1000, 10_000] {
+            let mut element = vec![0; 2 * words];
+            element[1] = 5;
+            element[2..4].copy_from_slice(&(words as u16 - 2).to_le_bytes());
+            let mut file = element.repeat(elements);
+            file.extend([255, 255]);
+            file.resize(file.len() + behind, 5);
+            let places: Vec<usize> = dgn::all_views(&file, TWO).unwrap().iter().map(|view| view.place).collect();
+            assert_eq!(places, (0..elements).map(|k| k * words).collect::<Vec<_>>());
+            assert_eq!(dgn::all_points(&file, TWO), Ok(vec![]));
+        }
+    }
+    for len in [1, dgn::FILE_BYTES + 2] {
+        assert_eq!(dgn::all_views(&vec![255; len], TWO), Err(refused(Number::Call, 0)));
+        assert_eq!(dgn::all_points(&vec![255; len], TWO), Err(refused(Number::Call, 0)));
+    }
 }
 
 #[test]

@@ -5,7 +5,7 @@ use dgn::{Number, Refusal};
 #[test]
 fn taken_apart() {
     assert_eq!(Refusal::of(0), None);
-    for (k, number) in Number::ALL.into_iter().enumerate() {
+    for (k, number) in Number::ALL.iter().copied().enumerate() {
         let n = k + 1;
         assert_eq!(number as usize, n);
         assert_eq!(Refusal::of(n + 256 * 417), Some(Refusal { number, place: 417, count: 0 }));
@@ -19,7 +19,7 @@ fn taken_apart() {
 #[test]
 fn said() {
     let mut names = Vec::new();
-    for number in Number::ALL {
+    for &number in Number::ALL {
         let (name, text) = (number.name(), number.text());
         assert!(!name.is_empty() && name.chars().all(|c| c.is_ascii_uppercase() || c == ' '), "{name}");
         assert!(text.len() > 10 && text.is_ascii(), "{text}");

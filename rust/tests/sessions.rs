@@ -28,13 +28,14 @@ fn edited_and_undone() {
     session.rename(0, "417").unwrap();
     session.insert(Some(0), 72, &line(&fields())).unwrap();
     session.insert(None, 0, &top).unwrap();
+    let removed = session.file()[144..196].to_vec();
     session.remove(72).unwrap();
     assert_eq!(dgn::judge(session.file(), TWO).map(|j| (j.elements, j.marker)), Ok((3, 98)));
     assert_eq!(dgn::find(session.file(), TWO, "417").map(|f| f.place), Ok(26));
     assert_eq!(dgn::view(session.file(), TWO, 72).map(|v| (v.kind, v.deleted)), Ok((Type::Line, true)));
 
     let history: Vec<Record> = session.history().collect::<Result<_, _>>().unwrap();
-    let edits: Vec<_> = history.iter().map(|r| (r.edit, r.header, r.place, r.payload_words)).collect();
+    let edits: Vec<_> = history.iter().map(|r| (r.edit, r.header, r.place, r.payload.len() / 2)).collect();
     let wanted = [
         (Edit::Remove, Some(26), 72, 26),
         (Edit::Insert, None, 0, 0),
@@ -46,7 +47,7 @@ fn edited_and_undone() {
     assert_eq!(history.iter().map(|r| r.before).collect::<Vec<_>>(), [52, 40, 28, 12, 0]);
     let old = dgn::pack("00417").unwrap();
     let payload = [old.first.to_le_bytes(), old.second.to_le_bytes()].concat();
-    assert_eq!(history[3].payload(session.journal()), payload);
+    assert_eq!(history.iter().map(|r| r.payload).collect::<Vec<_>>(), [&removed[..], &[], &[], &payload, &[]]);
 
     for _ in 0..5 {
         session.undo().unwrap();
@@ -132,7 +133,9 @@ fn opened_and_resumed_wrongly() {
 
 #[test]
 fn records() {
-    let number = |journal: &[u8], used: usize| dgn::record(journal, used).map_err(|r| (r.number, r.place));
+    fn number(journal: &[u8], used: usize) -> Result<Record<'_>, (Number, usize)> {
+        dgn::record(journal, used).map_err(|r| (r.number, r.place))
+    }
     assert_eq!(number(&[], 0), Err((Number::Nothing, 0)));
     assert_eq!(number(&[0; 3], 0), Err((Number::Call, 0)));
     assert_eq!(number(&[0; 20], 22), Err((Number::Call, 0)));

@@ -1,11 +1,11 @@
--- A slice beside the one for the answer, by whether that has room; and numbers put behind others.
+-- A slice beside the one for the answer, by whether that has room; numbers put behind others, and numbers at the front read back.
 use Prim.Native.Nat.{ℕ, suc, _+_, _<_, _≤_}
-use mathlib.Core.Path.{_≡_, ap, _∙_}
+use mathlib.Core.Path.{_≡_, refl, ap, _∙_}
 use mathlib.Core.List.{List, [], _∷_, _++_}
 use native.Mathlib.Omega.{arith}
 use native.Mathlib.Nat.{add-zero}
-use lib.ListN.{length, set}
-use lib.Seq.{sets}
+use lib.ListN.{length, getD, take, drop, set, List·getD-append}
+use lib.Seq.{take-at, sets, sets-eq}
 use borrow.Author.Tests.{le-leb, lt-leb}
 use Rattle.answers.specs.Answers.{Reply, withRoom}
 use Rattle.answers.specs.Besides.{besides}
@@ -20,3 +20,10 @@ module _ {A B : Type 0} (needed : ℕ) where
 pub put-then : {A : Type 0} (s : List A) (at : ℕ) (x y : List A) (m : ℕ) → m ≡ at + length x → sets (sets s at x) m y ≡ sets s at (x ++ y)
 put-then s at [] y m e = ap (λ i. sets s i y) (e ∙ add-zero at)
 put-then s at (a ∷ x) y m e = put-then (set s at a) (suc at) x y m (omega arith)
+
+-- numbers at the front of a slice are read there
+pub front-read : {A : Type 0} (vs s : List A) → length vs ≤ length s → take (length vs) (sets s 0 vs) ≡ vs
+front-read vs s h = ap (take (length vs)) (sets-eq vs s 0 (omega arith)) ∙ take-at vs (drop (0 + length vs) s) (length vs) refl
+
+pub front-at : {A : Type 0} (vs s : List A) (i : ℕ) (z : A) → i < length vs → length vs ≤ length s → getD (sets s 0 vs) i z ≡ getD vs i z
+front-at vs s i z h l = ap (λ t. getD t i z) (sets-eq vs s 0 (omega arith)) ∙ List·getD-append vs (drop (0 + length vs) s) z i h

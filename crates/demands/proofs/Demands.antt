@@ -61,7 +61,8 @@ use Rattle.writer.specs.Writing.{Writes, writtenBy}
 use Rattle.writer.specs.declared.Written.{Written}
 use Rattle.writer.specs.declared.Written.the-variants as written
 use Rattle.writer.proofs.Refusals as writes
-use Rattle.round_trips.specs.RoundTrip.{ReadsBack, Rewrites}
+use Rattle.round_trips.specs.RoundTrip.{ReadsBack, Rewrites, EveryGiven}
+use Rattle.round_trips.proofs.Given as given
 use Rattle.round_trips.proofs.InFile as back
 use Rattle.round_trips.proofs.Again as again
 use Rattle.demands.specs.Listing.{listingOf, walkLines, walkPlace}
@@ -100,9 +101,14 @@ use Rattle.dgn_places.specs.ExtentPoint.{extentReply, pointReply}
 use Rattle.dgn_places.proofs.Small as dgn-places
 use Rattle.dgn_views.specs.Views.{viewReply}
 use Rattle.dgn_views.proofs.Small as dgn-views
-use Rattle.dgn_all_views.specs.Views.{viewsOf}
-use Rattle.dgn_all_views.specs.Calls.{Holds, called}
+use Rattle.dgn_all_views.specs.Answers.{viewsReply}
+use Rattle.dgn_all_views.specs.Calls.{AllViews, ViewsWithin}
+use Rattle.dgn_all_views.proofs.Small as small-views
 use Rattle.dgn_all_views.proofs.All as whole
+use Rattle.dgn_points.specs.Answers.{pointsReply}
+use Rattle.dgn_points.specs.Calls.{AllPoints, PointsWithin}
+use Rattle.dgn_points.proofs.Small as small-points
+use Rattle.dgn_points.proofs.All as every-point
 use Rattle.dgn_linkages.specs.LinkageNumbers.{linkageReply}
 use Rattle.dgn_linkages.proofs.Small as dgn-linkages
 use Rattle.dgn_names.specs.PackUnpack.{packReply, unpackReply}
@@ -110,10 +116,12 @@ use Rattle.dgn_names.proofs.Small as dgn-names
 use Rattle.dgn_writer.specs.Writing.{givenFault, writeReply}
 use Rattle.dgn_writer.proofs.Small as dgn-writer
 use Rattle.edit_answers.proofs.Places as fits
-use Rattle.dgn_record.specs.LastRecord.{EndsThere}
+use Rattle.dgn_record.specs.LastRecord.{EndsThere, recordReply, RecordWithin}
+use Rattle.dgn_record.proofs.Small as small-record
 use Rattle.dgn_record.proofs.Ends as ends
-use Rattle.dgn_sessions.specs.Exports.{EveryExport, KeptInOut}
-use Rattle.dgn_sessions.specs.History.{EditShown, UndoShown}
+use Rattle.dgn_sessions.specs.Exports.{EveryExport, KeptInOut, EveryInSlice}
+use Rattle.dgn_sessions.specs.History.{EditShown, UndoShown, EveryHistory}
+use Rattle.dgn_sessions.proofs.WholeHistory as walked-back
 use Rattle.dgn_sessions.proofs.Exports as exported
 use Rattle.dgn_sessions.proofs.History as history
 
@@ -230,11 +238,35 @@ unpack-small = dgn-names.unpack-small
 pub write-small : (dim : ℕ) (f : List ℕ) (points : List ℤ) (tail : List ℕ) (room size : ℕ) → SmallReply (writeReply (writtenBy (givenFault dim f points tail room) size))
 write-small = dgn-writer.write-small
 
--- reading all views: calls from element 0 on, each from where the last one stopped, with slices that hold a view, as many
--- calls as there are elements or more, give the views of all elements once each, in file order
-pub all-views : (dim : ℕ) (s : List ℕ) (e d m : ℕ) → judgeOf dim s ≡ Accepted e d m → (rooms : List ℕ) → Holds rooms → e ≤ length rooms →
-    called dim s e 0 rooms ≡ viewsOf dim s (spotsOf dim (words s))
-all-views dim s e d m j rooms h l = whole.all-views dim s e d m j rooms h l
+pub views-small : (dim : ℕ) (s : List ℕ) (k room : ℕ) → SmallReply (viewsReply dim s k room)
+views-small = small-views.views-small
+
+pub points-small : (dim : ℕ) (s : List ℕ) (k room : ℕ) → SmallReply (pointsReply dim s k room)
+points-small = small-points.points-small
+
+pub record-small : (journal : List ℕ) (used : ℕ) → SmallReply (recordReply journal used)
+record-small = small-record.record-small
+
+-- the numbers that these three put into their slices
+pub views-within : ViewsWithin
+views-within = small-views.views-within
+
+pub points-within : PointsWithin
+points-within = small-points.points-within
+
+pub record-within : RecordWithin
+record-within = small-record.record-within
+
+-- reading all views: calls from element 0 on, each from where the last one stopped, with any slices and any answers and numbers that
+-- the contract of dgn_views allows, give the views of the elements up to there, once each, in file order; and of all elements where as
+-- many of the calls as there are elements have slices that hold a view and the answer
+pub all-views : AllViews
+all-views = whole.all-views
+
+-- the same of all points by dgn_points: of each element that has any its place, how many, and the coordinates that the calls for point
+-- 0, 1, .. give; 305 numbers hold any element
+pub all-points : AllPoints
+all-points = every-point.all-points
 
 -- every number of a view is below 4,294,967,296
 pub view-below : (dim : ℕ) (s : List ℕ) (at : ℕ) (e : Element) → Below 256 s → viewOf dim s at ≡ view.Seen e → Below 4294967296 (viewNumbers at e)
@@ -356,6 +388,10 @@ reads-back = back.reads-back
 pub rewrites : Rewrites
 rewrites = again.rewrites
 
+-- and each element of such a type in an accepted file of bytes gives them: fields, points and tail
+pub every-given : EveryGiven
+every-given = given.every-given
+
 ---- demand 2 and demand 3: the worked cases that RULES.md marks with *, its table of fixed parts, and cases of its rules, of
 ---- its orders of checks and of sessions, as one list
 
@@ -426,6 +462,11 @@ every-export = exported.every-export
 pub kept-in-out : KeptInOut
 kept-in-out = exported.kept-in-out
 
+-- and demand 3 holds of lists of calls, with any answers and bytes that their contracts allow, where each is lent the slice as the last
+-- one left it and the used lengths that it holds
+pub every-in-slice : EveryInSlice
+every-in-slice = exported.every-in-slice
+
 -- what dgn_record answers stands at the end of the used bytes, and the used length before it may be handed in next
 pub record-ends : EndsThere
 record-ends = ends.ends-there
@@ -437,6 +478,11 @@ edit-shown = history.edit-shown
 
 pub undo-shown : UndoShown
 undo-shown = history.undo-shown
+
+-- walking back from the used length, each time by the one before the record that was given, with any answers that dgn_record's contract
+-- allows, gives the records of the book's edits, those made and not undone, each once, newest first, and then 17
+pub every-history : EveryHistory
+every-history = walked-back.every-history
 
 -- an edit is made exactly where nothing refuses it, and answers the used lengths after it
 pub made-exactly : MadeExactly

@@ -3,3 +3,4 @@ pub mod Tours
 pub mod Puts
 pub mod Replies
 pub mod All
+pub mod Small

@@ -26,7 +26,7 @@ use Rattle.views.specs.declared.View.the-variants as view
 use Rattle.view_numbers.specs.Numbers.{viewNumbers, asSigned}
 use Rattle.view_numbers.proofs.Small.{as-is, view-numbers-small}
 use Rattle.order.specs.Order.{placeOf, InOrder}
-use Rattle.order.proofs.Order.{FoundIn, order-few, order-from, file-order, file-found, count-is, marker-inside}
+use Rattle.order.proofs.Order.{FoundIn, order-few, order-from, found-drop, file-order, file-found, count-is, marker-inside}
 use Rattle.dgn_all_views.specs.Tour.{Tour, kept, headerIn, tourStart, tourNext, tourOf}
 use Rattle.dgn_all_views.specs.Views.{seenNumbers, viewsOf, viewsPart, shownAt, tourView, viewsFrom}
 use Rattle.dgn_all_views.proofs.Heads.{Before, at-depth, past, Heads, heads-tree}
@@ -73,11 +73,6 @@ tour-view ws t x p d h =
     ∙ ap (λ i. map asSigned (viewNumbers i (elementView ws i (t .walk .depth) (aboveOf (x .header))))) p
     ∙ ap (λ i. map asSigned (viewNumbers (x .place) (elementView ws (x .place) i (aboveOf (x .header))))) d
 
-found-drop : (all xs : List Spot) (k : ℕ) → FoundIn all xs → FoundIn all (drop k xs)
-found-drop all xs zero f = f
-found-drop all [] (suc k) f = tt
-found-drop all (x ∷ xs) (suc k) f = found-drop all xs k (f .1)
-
 ---- an accepted file
 
 module _ (dim : ℕ) (s : List ℕ) (e d m : ℕ) (accepted : judgeOf dim s ≡ Accepted e d m) where
@@ -89,7 +84,7 @@ module _ (dim : ℕ) (s : List ℕ) (e d m : ℕ) (accepted : judgeOf dim s ≡ 
       toured (words s) tourStart b (h .0) (spotsOf dim (words s)) (walk-is dim s e d m accepted .0) (subst (λ xs. Heads b xs (h .0)) (t .read) (h .1)) refl
 
   -- what a call at the place of an element gives
-  seen : (x : Spot) → spotIn (spotsOf dim (words s)) (x .place) ≡ some x →
+  pub seen : (x : Spot) → spotIn (spotsOf dim (words s)) (x .place) ≡ some x →
       viewOf dim s (x .place) ≡ view.Seen (elementView (words s) (x .place) (x .depth) (aboveOf (x .header)))
   unfolding viewOf
   seen x f = ap (λ o. viewBy o (words s) (x .place)) (spotted-found dim s (x .place) e d m accepted ∙ ap foundBy f)

@@ -1,16 +1,34 @@
--- Calls for views one after another, each from where the last one stopped.
-use Prim.Native.Nat.{ℕ, _+_, _≤_}
-use mathlib.Core.List.{List, [], _∷_, _++_}
+-- Calls of dgn_views one after another, from element 0 on, each from where the last one stopped: they give all views of the file, in
+-- small numbers.
+use Prim.Native.Nat.{ℕ, _+_, _*_, _≤_}
+use mathlib.Core.Path.{_≡_}
+use mathlib.Core.List.{List}
 use lib.IntN.{ℤ}
-use Rattle.dgn_all_views.specs.Views.{viewsMany, viewsPart}
+use lib.ListN.{getD, take}
+use Rattle.words.specs.Words.{words, Below}
+use Rattle.files.specs.Judge.{judgeOf}
+use Rattle.files.specs.Spots.{spotsOf}
+use Rattle.files.specs.declared.Judged.the-variants.{Accepted}
+use Rattle.order.specs.Parts.{Lent, InParts, Called, GivesAll, Within}
+use Rattle.dgn_all_views.specs.Views.{viewsOf}
+use Rattle.dgn_all_views.specs.Answers.{ViewsGiven}
 
--- each slice holds a view
-abbrev pub Holds : List ℕ → Type 0
-Holds [] = Unit {0}
-Holds (room ∷ rooms) = (32 ≤ room) × Holds rooms
+-- the call by its contract; the first number of its answer is how many views there are, of 32 numbers each
+abbrev pub viewsCall : ℕ → List ℕ → InParts
+viewsCall dim s = record {
+  Answers = λ k x n y. ViewsGiven dim s k (x .numbers) (x .out) n (y .numbers) (y .out);
+  next = λ k out. k + getD out 0 0;
+  written = λ out. 32 * getD out 0 0;
+}
 
--- what calls from element number k on give of a file with so many elements, by the room of each call's slice
-abbrev pub called : ℕ → List ℕ → ℕ → ℕ → List ℕ → List ℤ
-called dim s elements k [] = []
-called dim s elements k (room ∷ rooms) =
-    viewsPart dim s k (viewsMany room k elements) ++ called dim s elements (k + viewsMany room k elements) rooms
+-- a slice of 32 numbers holds any view, and one of 1 the answer
+abbrev pub AllViews : Type 0
+AllViews =
+    (dim : ℕ) (s : List ℕ) (e d m : ℕ) → judgeOf dim s ≡ Accepted e d m → (calls : List Lent) (got : List ℤ) (last : ℕ) →
+    Called (viewsCall dim s) 0 calls got last → GivesAll (spotsOf dim (words s)) (viewsOf dim s) 32 1 calls got last
+
+-- a call that is done gives at most 524,288 views, whose numbers are below 4,294,967,296
+abbrev pub ViewsWithin : Type 0
+ViewsWithin =
+    (dim : ℕ) (s : List ℕ) (k : ℕ) (views views' : List ℤ) (out out' : List ℕ) → Below 256 s → ViewsGiven dim s k views out 0 views' out' →
+    (getD out' 0 0 ≤ 524288) × Within 4294967296 (take (32 * getD out' 0 0) views')

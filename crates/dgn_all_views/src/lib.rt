@@ -1,11 +1,11 @@
 // The C interface of the views of a whole file, as in include/dgn.h: the file is judged once, and then one walk goes over
 // its elements and keeps the header of each depth. Definitions: specs/Tour, specs/Views.
 ghost use mathlib.Core.Path.{_≡_};
-ghost use mathlib.Core.Bool.{true, cond, _&&_};
+ghost use mathlib.Core.Bool.{true, cond};
 ghost use Prim.Native.Nat.{ℕ, _+_, _-_, _*_, _≤_, _<_, _^_};
 ghost use lib.ListN.{length, getD};
 ghost use lib.Seq.{sets};
-ghost use lib.Dec.{eqb, ltb};
+ghost use lib.Dec.{ltb};
 ghost use Rattle.words.specs.Words.{words};
 ghost use Rattle.places.specs.Places.{aboveOf};
 ghost use Rattle.dgn_all_views.specs.Tour.{kept, headerIn, GoesOn, tourOf};
@@ -147,16 +147,6 @@ fn many(room: usize, k: usize, elements: usize) -> usize
     if fit <= left { fit } else { left }
 }
 
-// Whether an element is left and no view fits.
-fn none_fits(n: usize, k: usize, elements: usize) -> bool
-    ensures { λ r. ⌜ r ≡ (eqb n 0 && ltb k elements) ⌝ }
-{
-    if n == 0 {
-        return k < elements;
-    }
-    false
-}
-
 #[no_mangle]
 pub extern "C" fn dgn_views(
     file: &[u8],
@@ -167,18 +157,11 @@ pub extern "C" fn dgn_views(
 ) -> usize
     ensures { λ r. ⌜ ViewsGiven dim (now (file .entry)) k (now (views .entry)) (now (out .entry)) r (now (views .exit)) (now (out .exit)) ⌝ }
 {
-    if out.len() < 1 {
-        return 1;
-    }
-    match files::judge(file, dim) {
-        files::Judged::Refused { number, place } => number + 256 * place,
-        files::Judged::Accepted {
-            elements,
-            deepest: _,
-            marker: _,
-        } => {
+    match order::begin(file, dim, 1, out.len()) {
+        order::Begun::Refused { answer } => answer,
+        order::Begun::Elements { elements } => {
             let n = many(views.len(), k, elements);
-            if none_fits(n, k, elements) {
+            if order::none_fits(n, k, elements) {
                 return 15;
             }
             put_views(file, k, n, views);

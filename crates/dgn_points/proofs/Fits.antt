@@ -13,19 +13,17 @@ use borrow.Author.Tests.{leb-true, leb-false, le-leb, lt-leb, ne-eqb}
 use Rattle.words.specs.Words.{words, Below, longAt, signed}
 use Rattle.answers.proofs.Besides.{put-then}
 use Rattle.points_linkages.specs.Points.{pointCount, beforePoints}
+use Rattle.points_linkages.specs.Coordinates.{longs}
+use Rattle.points_linkages.proofs.Coordinates.{length-longs}
 use Rattle.points_linkages.proofs.Numbered.{count-small}
 use Rattle.order.specs.Order.{placeOf}
-use Rattle.dgn_points.specs.Points.{longs, pointNumbers, Fitting, behind, partOf, pointsFrom}
+use Rattle.dgn_points.specs.Points.{pointNumbers, Fitting, behind, partOf, pointsFrom}
 use Rattle.dgn_points.specs.Answers.{ElementPut, PartPut}
 use Rattle.dgn_points.specs.declared.Taken.{Taken}
 use Rattle.dgn_points.specs.declared.Taken.the-variants.{Full, Used}
 use Rattle.dgn_points.specs.declared.Part.{Part}
 
 ---- signed longs
-
-pub length-longs : (n : ℕ) (ws : List ℕ) (q : ℕ) → length (longs n ws q) ≡ n
-length-longs zero ws q = refl
-length-longs (suc n) ws q = ap suc (length-longs n ws (q + 2))
 
 longs-more : (n : ℕ) (ws : List ℕ) (q : ℕ) → longs (suc n) ws q ≡ longs n ws q ++ (signed (longAt ws (q + 2 * n)) ∷ [])
 longs-more zero ws q = ap (λ i. signed (longAt ws i) ∷ []) (omega arith)

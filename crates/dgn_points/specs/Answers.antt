@@ -2,31 +2,26 @@
 use Prim.Native.Nat.{ℕ, _+_, _-_}
 use mathlib.Core.Path.{_≡_}
 use mathlib.Core.List.{List, [], _∷_}
-use mathlib.Core.Bool.{cond, _&&_}
+use mathlib.Core.Bool.{cond}
 use lib.IntN.{ℤ}
 use lib.ListN.{length}
 use lib.Seq.{sets}
-use lib.Dec.{eqb, leb, ltb}
+use lib.Dec.{leb}
 use Rattle.words.specs.Words.{words}
 use Rattle.files.specs.Judge.{judgeOf}
-use Rattle.files.specs.declared.Judged.{Judged}
-use Rattle.files.specs.declared.Judged.the-variants.{Accepted, Refused}
-use Rattle.answers.specs.Answers.{Reply, done, refuse, withRoom, Replied}
+use Rattle.answers.specs.Answers.{Reply, withRoom, Replied}
 use Rattle.answers.specs.Besides.{besides}
+use Rattle.order.specs.Calls.{replyBy}
 use Rattle.dgn_points.specs.Points.{Fitting, pointsPart}
 use Rattle.dgn_points.specs.declared.Taken.{Taken}
 use Rattle.dgn_points.specs.declared.Taken.the-variants.{Full, Used}
 use Rattle.dgn_points.specs.declared.Part.{Part}
 
--- the file's own refusals, then 15 where an element is left and none fits; done: the next element's number and how many
--- numbers
-abbrev pub pointsBy : Judged → Fitting → Reply ℕ
-pointsBy (Refused n p) q = refuse n p
-pointsBy (Accepted elements deepest marker) q =
-    cond (eqb (length (q .given)) 0 && ltb (q .next) elements) (refuse 15 0) (done (q .next ∷ length (q .given) ∷ []))
-
+-- 15 where an element is left and none fits; done: the next element's number and how many numbers
 unfoldable pub pointsReply : ℕ → List ℕ → ℕ → ℕ → Reply ℕ
-pointsReply dim s k room = pointsBy (judgeOf dim s) (pointsPart dim (words s) room k)
+pointsReply dim s k room =
+    let q = pointsPart dim (words s) room k in
+    replyBy (judgeOf dim s) (length (q .given)) (q .next) (q .next ∷ length (q .given) ∷ [])
 
 -- the answer, and the slice of numbers, which takes them at its front where the call is done
 pub record PointsGiven (dim : ℕ) (s : List ℕ) (k : ℕ) (numbers : List ℤ) (out : List ℕ) (r : ℕ) (numbers' : List ℤ) (out' : List ℕ) : Type 0 where

@@ -5,15 +5,10 @@ use mathlib.Core.Bool.{cond}
 use lib.IntN.{ℤ, pos}
 use lib.ListN.{length, drop}
 use lib.Dec.{eqb, leb}
-use Rattle.words.specs.Words.{longAt, signed}
 use Rattle.files.specs.Spots.{spotsOf}
 use Rattle.order.specs.Order.{placeOf}
 use Rattle.points_linkages.specs.Points.{pointCount, beforePoints}
-
--- n signed longs, one after another
-abbrev pub longs : ℕ → List ℕ → ℕ → List ℤ
-longs zero ws q = []
-longs (suc n) ws q = signed (longAt ws q) ∷ longs n ws (q + 2)
+use Rattle.points_linkages.specs.Coordinates.{longs}
 
 -- the numbers of the element at a place: none where it has no points; else its place, how many points it has, and their
 -- coordinates, as many longs for each as the file has dimensions

@@ -1,14 +1,13 @@
 // The C interface of the points of a whole file, as in include/dgn.h: the file is judged once, and then one pass goes over
 // its elements, each of which begins where the words of the one before end. Definitions: specs/Points.
 ghost use mathlib.Core.Path.{_≡_};
-ghost use mathlib.Core.Bool.{_&&_};
 ghost use Prim.Native.Nat.{_+_, _-_, _*_, _≤_, _<_, _^_};
 ghost use lib.ListN.{length};
 ghost use lib.Seq.{sets};
-ghost use lib.Dec.{eqb, ltb};
 ghost use Rattle.words.specs.Words.{words};
+ghost use Rattle.points_linkages.specs.Coordinates.{longs};
 ghost use Rattle.order.specs.Order.{placeOf};
-ghost use Rattle.dgn_points.specs.Points.{longs, pointNumbers, pointsFrom, partOf};
+ghost use Rattle.dgn_points.specs.Points.{pointNumbers, pointsFrom, partOf};
 ghost use Rattle.dgn_points.specs.Answers.{ElementPut, PartPut, PointsGiven};
 
 // An element does not fit, or so many numbers are used with it.
@@ -97,16 +96,6 @@ fn put_points(file: &[u8], dim: usize, elements: usize, k: usize, numbers: &mut 
     Part { next: i, used }
 }
 
-// Whether an element is left and none was put.
-fn none_fits(used: usize, next: usize, elements: usize) -> bool
-    ensures { λ r. ⌜ r ≡ (eqb used 0 && ltb next elements) ⌝ }
-{
-    if used == 0 {
-        return next < elements;
-    }
-    false
-}
-
 #[no_mangle]
 pub extern "C" fn dgn_points(
     file: &[u8],
@@ -117,20 +106,13 @@ pub extern "C" fn dgn_points(
 ) -> usize
     ensures { λ r. ⌜ PointsGiven dim (now (file .entry)) k (now (numbers .entry)) (now (out .entry)) r (now (numbers .exit)) (now (out .exit)) ⌝ }
 {
-    if out.len() < 2 {
-        return 1;
-    }
-    match files::judge(file, dim) {
-        files::Judged::Refused { number, place } => number + 256 * place,
-        files::Judged::Accepted {
-            elements,
-            deepest: _,
-            marker: _,
-        } => {
+    match order::begin(file, dim, 2, out.len()) {
+        order::Begun::Refused { answer } => answer,
+        order::Begun::Elements { elements } => {
             let part = put_points(file, dim, elements, k, numbers);
             let next = part.next;
             let used = part.used;
-            if none_fits(used, next, elements) {
+            if order::none_fits(used, next, elements) {
                 return 15;
             }
             out[0] = next;

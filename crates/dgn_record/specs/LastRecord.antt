@@ -1,18 +1,20 @@
 -- The last record of a journal's used bytes as numbers: its kind, header place, place and payload words, and the used length
 -- before it.
-use Prim.Native.Nat.{ℕ, _+_, _*_}
+use Prim.Native.Nat.{ℕ, _+_, _*_, _≤_, _<_}
 use mathlib.Core.Path.{_≡_}
+use mathlib.Core.Logic.{_⊎_}
 use mathlib.Core.Bool.{true, cond}
 use mathlib.Core.List.{List, [], _∷_}
 use mathlib.Core.Option.{Option, none, some}
-use lib.ListN.{length}
+use lib.ListN.{length, getD}
 use lib.Dec.{eqb}
+use Rattle.words.specs.Words.{Below}
 use Rattle.limits.specs.Limits.{usedOk}
 use Rattle.edits.specs.Calls.{usedWords}
 use Rattle.edits.specs.Records.{Rec, flag, renamed, inserted, removed, Newest, placeOf, lastRecord}
 use Rattle.journals.specs.declared.Last.{Last}
 use Rattle.journals.specs.declared.Last.the-variants.{Bad, Flag, Renamed, Inserted, Removed}
-use Rattle.answers.specs.Answers.{Reply, done, refuse}
+use Rattle.answers.specs.Answers.{Reply, done, refuse, Replied}
 
 -- a header's place, 18446744073709551615 for the top
 abbrev pub headerNumber : Option ℕ → ℕ
@@ -58,3 +60,18 @@ abbrev pub EndsThere : Type 0
 EndsThere =
     (journal : List ℕ) (used kind header place n before : ℕ) →
     recordReply journal used ≡ done (kind ∷ header ∷ place ∷ n ∷ before ∷ []) → Ends journal used n before
+
+-- its kind is one of four, its header's place, but for the top, and its place are longs, its payload's words are counted by a word, and
+-- the used length before it is one of a buffer
+pub record SmallRecord (kind header place n before : ℕ) : Type 0 where
+  pub a-kind : (1 ≤ kind) × (kind ≤ 4)
+  pub a-header : (header < 4294967295) ⊎ (header ≡ headerNumber none)
+  pub a-place : place < 4294967296
+  pub payload : n < 65536
+  pub back : before ≤ 1048576
+
+-- of a call that is done, with any slice and any numbers that its contract allows
+abbrev pub RecordWithin : Type 0
+RecordWithin =
+    (journal : List ℕ) (used : ℕ) (out t : List ℕ) → Below 256 journal → Replied 5 (recordReply journal used) out 0 t →
+    SmallRecord (getD t 0 0) (getD t 1 0) (getD t 2 0) (getD t 3 0) (getD t 4 0)

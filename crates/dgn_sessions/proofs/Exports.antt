@@ -2,27 +2,28 @@
 use Prim.Native.Nat.{ℕ, _+_, _*_, _≤_}
 use mathlib.Core.Path.{_≡_, refl, sym, subst, ap, _∙_}
 use mathlib.Core.Logic.{_≢_}
-use mathlib.Core.Bool.{Bool, true, false, cond}
+use mathlib.Core.Bool.{Bool, true, false, not, cond}
 use mathlib.Core.List.{List, [], _∷_}
 use native.Mathlib.Omega.{arith}
-use lib.ListN.{length, getD, set, length-set}
-use lib.Seq.{getD-set-same, getD-set-other}
+use lib.ListN.{length, getD, set}
 use lib.Dec.{eqb, leb}
 use borrow.Author.Tests.{leb-true, eq-eqb, ne-eqb}
 use Rattle.edits.specs.declared.Edited.{Edited}
 use Rattle.edits.specs.declared.Edited.the-variants.{Made, Refused}
 use Rattle.edits.specs.Calls.{Session, Call, mark-call, Result, refused, step}
 use Rattle.edits.specs.Book.{Run, noted, wasRefused}
-use Rattle.edits.specs.Demand.{PiecesBytes}
+use Rattle.edits.specs.Demand.{PiecesBytes, runOf, Demand3}
 use Rattle.edits.proofs.Refusals.{refusal-keeps}
 use Rattle.edits.proofs.Numbers.{call-number}
+use Rattle.edits.proofs.Every.{demand-three}
 use Rattle.opening.specs.Steps.{Stepped}
 use Rattle.sessions.specs.Runs as calls
 use Rattle.sessions.specs.Runs.{leaves}
-use Rattle.sessions.proofs.Runs.{every-call}
+use Rattle.sessions.proofs.Runs.{called-run}
+use Rattle.answers.proofs.Besides.{front-at}
 use Rattle.edit_answers.specs.Editing.{Left, MarkLeft}
 use Rattle.dgn_sessions.specs.Exports as exports
-use Rattle.dgn_sessions.specs.Exports.{Export, dgn-mark, dgn-rename, dgn-insert, dgn-remove, dgn-undo, callOf, callsOf, Answers, lends, after, Called, EveryExport, Holds, KeptInOut}
+use Rattle.dgn_sessions.specs.Exports.{Export, dgn-mark, dgn-rename, dgn-insert, dgn-remove, dgn-undo, callOf, callsOf, Answers, lends, after, Called, EveryExport, Holds, KeptInOut, inSlice, CalledInSlice, EveryInSlice}
 
 -- what a call comes to, by the step q of the library's
 data Outcome (q : Result) (s : Session) (out : List ℕ) (n : ℕ) (file journal t : List ℕ) : Type 0 where
@@ -32,10 +33,10 @@ data Outcome (q : Result) (s : Session) (out : List ℕ) (n : ℕ) (file journal
 
 module _ (s : Session) (out : List ℕ) (n : ℕ) (file journal t : List ℕ) where
   first : (a b : ℕ) → 2 ≤ length out → getD (set (set out 0 a) 1 b) 0 0 ≡ a
-  first a b h = getD-set-other (set out 0 a) 1 0 b 0 (omega arith) ∙ getD-set-same out 0 a 0 (omega arith)
+  first a b h = front-at (a ∷ b ∷ []) out 0 0 (omega arith) h
 
   second : (a b : ℕ) → 2 ≤ length out → getD (set (set out 0 a) 1 b) 1 0 ≡ b
-  second a b h = getD-set-same (set out 0 a) 1 b 0 (simp length-set (omega arith))
+  second a b h = front-at (a ∷ b ∷ []) out 1 0 (omega arith) h
 
   -- a result with a refusal's number above 0, that leaves the session where it is refused
   outcome : (q : Result) → ((k p : ℕ) → q .answer ≡ Refused k p → (1 ≤ k) × (q .after ≡ s)) → Left q s out n file journal t → Outcome q s out n file journal t
@@ -116,10 +117,15 @@ called-ran dim r last [] (exports.none _) = record { made = []; pieces = λ p. p
 called-ran dim r last (x ∷ xs) (exports.next _ _ _ d out n file journal t _ a same rest) =
     ran-next dim d r last x xs out n file journal t same (answer-outcome (r .session) out n file journal t d x a) (called-ran dim _ last xs rest)
 
-pub every-export : EveryExport
-every-export dim s xs last opened pieces called =
+-- so what holds of every run of steps holds of the functions' calls
+pub export-run : (P : Run → Type 0) (dim : ℕ) (s : Session) → ((cs : List Call) → PiecesBytes cs → P (runOf dim s cs)) → (xs : List Export) (last : Run) → PiecesBytes (callsOf xs) →
+    Called dim (record { session = s; book = [] }) xs last → P last
+export-run P dim s every xs last pieces called =
     let a = called-ran dim (record { session = s; book = [] }) last xs called in
-    every-call dim s (a .made) last opened (a .pieces pieces) (a .called)
+    called-run P dim s every (a .made) last (a .pieces pieces) (a .called)
+
+pub every-export : EveryExport
+every-export dim s xs last opened pieces called = export-run (Demand3 dim s) dim s (λ cs p. demand-three dim s cs opened p) xs last pieces called
 
 ---- the used lengths in the slice
 
@@ -129,3 +135,19 @@ kept-in-out dim s x out n file journal t a h = go (answer-outcome s out n file j
     go : Outcome (step dim s (callOf x)) s out n file journal t → Holds t (lends n t s file journal)
     go (nothing z f j e) = rw (ne-eqb n 0 z, e) (record { used = h .used; jused = h .jused })
     go (made used jused z e f j k m) = rw (eq-eqb n 0 z) (record { used = refl; jused = refl })
+
+-- so calls that keep them there are calls as above
+module _ (dim : ℕ) where
+  in-slice : (t file journal : List ℕ) (s : Session) → Holds t s → s .file ≡ file → s .journal ≡ journal → inSlice t file journal ≡ s
+  in-slice t file journal s h f j = rw (h .used, h .jused, ← f, ← j) refl
+
+  slice-called : {r : Run} {out : List ℕ} {xs : List Export} {last : Run} → Holds out (r .session) → CalledInSlice dim r out xs last → Called dim r xs last
+  slice-called h (exports.CalledInSlice.none r out) = exports.Called.none r
+  slice-called h (exports.CalledInSlice.next r out x xs d n file journal t last a same rest) =
+      let k = kept-in-out d (r .session) x out n file journal t a h in
+      let e = in-slice t file journal (lends n t (r .session) file journal) k refl refl in
+      exports.Called.next r x xs d out n file journal t last a same
+      (subst (λ s. Called dim (record { session = s; book = noted (r .book) (callOf x) (not (eqb n 0)) }) xs last) e (slice-called (subst (Holds t) (sym e) k) rest))
+
+pub every-in-slice : EveryInSlice
+every-in-slice dim s out xs last opened pieces h called = every-export dim s xs last opened pieces (slice-called dim h called)

@@ -81,3 +81,20 @@ abbrev pub KeptInOut : Type 0
 KeptInOut =
     (dim : ℕ) (s : Session) (x : Export) (out : List ℕ) (n : ℕ) (file journal t : List ℕ) → Answers dim s x out n file journal t →
     Holds out s → Holds t (lends n t s file journal)
+
+-- the calls of a list, each lent the slice as the last one left it, and the used lengths that it holds
+abbrev pub inSlice : List ℕ → List ℕ → List ℕ → Session
+inSlice t file journal = record { file = file; used = getD t 0 0; journal = journal; jused = getD t 1 0 }
+
+pub data CalledInSlice (dim : ℕ) : Run → List ℕ → List Export → Run → Type 0 where
+  none : (r : Run) (out : List ℕ) → CalledInSlice dim r out [] r
+  next : (r : Run) (out : List ℕ) (x : Export) (xs : List Export) (d n : ℕ) (file journal t : List ℕ) (last : Run) →
+      Answers d (r .session) x out n file journal t → (n ≡ 0 → d ≡ dim) →
+      CalledInSlice dim (record { session = inSlice t file journal; book = noted (r .book) (callOf x) (not (eqb n 0)) }) t xs last →
+      CalledInSlice dim r out (x ∷ xs) last
+
+-- the demand of such calls, where the slice holds the used lengths at first
+abbrev pub EveryInSlice : Type 0
+EveryInSlice =
+    (dim : ℕ) (s : Session) (out : List ℕ) (xs : List Export) (last : Run) → OpenedEmpty dim s → PiecesBytes (callsOf xs) → Holds out s →
+    CalledInSlice dim (record { session = s; book = [] }) out xs last → Demand3 dim s last

@@ -127,11 +127,17 @@ module _ (dim : ℕ) (hyp : Hypotheses dim) (s₀ : Session) (B : Begun dim s₀
         undos-bytes = back .bytes;
       }
 
+-- what every run keeps
+pub run-kept : (dim : ℕ) → Hypotheses dim → (s : Session) (cs : List Call) → OpenedEmpty dim s → PiecesBytes cs → Begun dim s × KeptRun dim s (runOf dim s cs)
+run-kept dim hyp s cs O b =
+    let B = begin dim hyp s O in
+    (B, kept-run dim hyp s B cs (record { session = s; book = [] }) b (first dim hyp s B))
+
 -- demand 3, at one dimension and at every one
 pub demand-3 : (dim : ℕ) → Hypotheses dim → (s : Session) (cs : List Call) → OpenedEmpty dim s → PiecesBytes cs → Demand3 dim s (runOf dim s cs)
 demand-3 dim hyp s cs O b =
-    let B = begin dim hyp s O in
-    after-run dim hyp s B (runOf dim s cs) (kept-run dim hyp s B cs (record { session = s; book = [] }) b (first dim hyp s B))
+    let k = run-kept dim hyp s cs O b in
+    after-run dim hyp s (k .0) (runOf dim s cs) (k .1)
 
 pub every-run : ((dim : ℕ) → Hypotheses dim) → EveryRun
 every-run hyps dim = demand-3 dim (hyps dim)

@@ -7,7 +7,7 @@ use Rattle.edits.proofs.Judging.{judged-tree, tree-judged}
 use Rattle.edits.proofs.Sound.{sound}
 use Rattle.edits.proofs.Demand.{every-run}
 
-hypotheses : (dim : ℕ) → Hypotheses dim
+pub hypotheses : (dim : ℕ) → Hypotheses dim
 hypotheses dim = record {
   sound = sound dim;
   judged-tree = judged-tree dim;

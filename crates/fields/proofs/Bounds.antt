@@ -1,13 +1,14 @@
 -- What the tests of a call say of its numbers, and back: each field's bound, and how many words the fixed part has.
 use Prim.Native.Nat.{ℕ, _+_, _*_, _/_, _%_, _≤_}
-use mathlib.Core.Path.{_≡_, refl, subst⁻¹}
-use mathlib.Core.Bool.{Bool, true, false, cond, _&&_, _||_, false≢true, and-eq-true-iff}
+use mathlib.Core.Path.{_≡_, refl}
+use mathlib.Core.Bool.{Bool, true, false, cond, _&&_, and-eq-true-iff}
 use mathlib.Core.List.{List, [], _∷_}
 use native.Mathlib.Omega.{arith}
 use lib.ListN.{length}
 use lib.Dec.{eqb, leb}
 use borrow.Author.Tests.{leb-true, le-leb, eqb-true, eq-eqb}
 use Rattle.limits.specs.Limits.{dimOk}
+use Rattle.limits.proofs.Dimensions.{by-dims}
 use Rattle.kinds.specs.Kinds.{isPointed, fixedPart}
 use Rattle.kinds.proofs.Types.{Each, each-named}
 use Rattle.fields.specs.Words.{rangeLongs, countWords}
@@ -21,6 +22,12 @@ both a b e = and-eq-true-iff a b .0 e
 
 pub and-true : {a b : Bool} → a ≡ true → b ≡ true → (a && b) ≡ true
 and-true {a} {b} p q = and-eq-true-iff a b .1 (p, q)
+
+-- tests that are all to pass
+abbrev pub allOf : List Bool → Bool
+allOf [] = true
+allOf (a ∷ []) = a
+allOf (a ∷ b ∷ r) = a && allOf (b ∷ r)
 
 -- the answer of a test of two parts, from its first part
 pub and-no : {a : Bool} (b : Bool) → a ≡ false → false ≡ (a && b)
@@ -96,15 +103,6 @@ called-ok {dim} {f} {points} {tail} c =
     and-true (c .dims) (and-true (c .kind) (and-true (c .fields) (and-true (c .fit) (eq-eqb (tail % 2) 0 (c .even)))))
 
 ---- the fixed part
-
--- what holds in both dimensions
-pub by-dims : (P : ℕ → Type 0) (dim : ℕ) → dimOk dim ≡ true → P 2 → P 3 → P dim
-by-dims P dim d p q = go (eqb dim 2) (eqb dim 3) refl refl d
-  where
-    go : (a b : Bool) → eqb dim 2 ≡ a → eqb dim 3 ≡ b → (a || b) ≡ true → P dim
-    go true b x y e = subst⁻¹ P (eqb-true dim 2 x) p
-    go false true x y e = subst⁻¹ P (eqb-true dim 3 y) q
-    go false false x y e = absurd (false≢true e)
 
 -- what holds of type 3, and of the types with N
 pub by-kinds : (P : ℕ → Type 0) (kind : ℕ) → isWritten kind ≡ true → P 3 → P 4 → P 6 → P 11 → P kind

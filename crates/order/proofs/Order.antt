@@ -6,7 +6,7 @@ use mathlib.Core.List.{List, [], _∷_, _++_}
 use mathlib.Core.Option.{Option, none, some}
 use native.Mathlib.Omega.{arith}
 use native.Mathlib.Numerals.{add-one}
-use lib.ListN.{length, drop}
+use lib.ListN.{length, take, drop}
 use lib.Seq.{drop-cons}
 use borrow.Author.Tests.{eq-eqb, ne-eqb}
 use Rattle.words.specs.Words.{words, Below}
@@ -86,6 +86,16 @@ found-all ws at end (x ∷ xs) p =
       rw (eq-eqb (x .place) (x .place) refl) refl,
       found-behind ws (at + sizeAt ws at) end x xs xs (omega arith) (p .1) (found-all ws (at + sizeAt ws at) end xs (p .1)),
     )
+
+pub found-drop : (all xs : List Spot) (k : ℕ) → FoundIn all xs → FoundIn all (drop k xs)
+found-drop all xs zero f = f
+found-drop all [] (suc k) f = tt
+found-drop all (x ∷ xs) (suc k) f = found-drop all xs k (f .1)
+
+pub found-take : (all xs : List Spot) (k : ℕ) → FoundIn all xs → FoundIn all (take k xs)
+found-take all xs zero f = tt
+found-take all [] (suc k) f = tt
+found-take all (x ∷ xs) (suc k) f = (f .0, found-take all xs k (f .1))
 
 ---- an accepted file
 

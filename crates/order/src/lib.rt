@@ -1,1 +1,39 @@
-// The elements of an accepted file in file order, by places. No code: specs/Order, proofs/Order.
+// The elements of an accepted file in file order, by places, and what the calls that go over them from some number on have in
+// common: how such a call begins, and when no element fits. Definitions: specs/Order, specs/Calls.
+ghost use mathlib.Core.Path.{_≡_};
+ghost use Rattle.order.specs.Calls.{begunOf, noneFits};
+
+// How many elements the file has, or the number that the call returns at once.
+pub enum Begun {
+    Elements { elements: usize },
+    Refused { answer: usize },
+}
+
+// The beginning of a call whose answer needs so many numbers of a slice with `room`: the file is judged.
+pub fn begin(file: &[u8], dim: usize, needed: usize, room: usize) -> Begun
+    ensures { λ r. ⌜ r ≡ begunOf dim (now (file .entry)) needed room ⌝ }
+{
+    if room < needed {
+        return Begun::Refused { answer: 1 };
+    }
+    match files::judge(file, dim) {
+        files::Judged::Refused { number, place } => Begun::Refused {
+            answer: number + 256 * place,
+        },
+        files::Judged::Accepted {
+            elements,
+            deepest: _,
+            marker: _,
+        } => Begun::Elements { elements },
+    }
+}
+
+// Whether an element is left, number `next` of so many, and nothing was put.
+pub fn none_fits(put: usize, next: usize, elements: usize) -> bool
+    ensures { λ r. ⌜ r ≡ noneFits put next elements ⌝ }
+{
+    if put == 0 {
+        return next < elements;
+    }
+    false
+}

@@ -1,3 +1,4 @@
 pub mod Numbered
+pub mod Coordinates
 pub mod Refusals
 pub mod Listed

@@ -1,15 +1,15 @@
 -- What the code reads is what the definitions say: a signed long keeps its value in a local, a point is its longs, and
 -- of an element that is found the point or the linkage of a number is there or not.
-use Prim.Native.Nat.{ℕ, _+_, _*_, _%_, _≤_, _<_}
+use Prim.Native.Nat.{ℕ, _+_, _*_, _≤_, _<_}
 use mathlib.Core.Path.{_≡_, refl, ap, _∙_}
 use mathlib.Core.Logic.{_≢_}
-use mathlib.Core.Bool.{Bool, true, false, cond, _&&_, _||_}
+use mathlib.Core.Bool.{Bool, true, false, cond}
 use mathlib.Core.List.{List}
 use native.Mathlib.Omega.{arith}
 use lib.IntN.{ℤ}
 use lib.ListN.{length}
-use lib.Dec.{eqb, leb}
-use borrow.Author.Tests.{eqb-true, eq-eqb, ne-eqb, lt-ltb, le-ltb}
+use lib.Dec.{eqb}
+use borrow.Author.Tests.{eq-eqb, ne-eqb, lt-ltb, le-ltb}
 use mir.Syntax.{w64}
 use mir.Val.{toZ, ofZ}
 use mir.ValLaws.{toZ-ofZ}
@@ -21,6 +21,7 @@ use Rattle.headers.specs.Header.{typeAt, sizeAt, pointsAt}
 use Rattle.kinds.specs.Kinds.{isPointed}
 use Rattle.elements.specs.Attributes.{hasAttributes}
 use Rattle.limits.specs.Limits.{callOk}
+use Rattle.limits.proofs.Dimensions.{by-dims, call-dims}
 use Rattle.places.specs.declared.Above.{Above}
 use Rattle.places.specs.declared.Spotted.the-variants as spotted
 use Rattle.points_linkages.specs.declared.Point.the-variants as point
@@ -70,13 +71,7 @@ before-few ws at = go (eqb (typeAt ws at) 3)
 
 -- a point of a file has four or six words
 pub stride : (dim : ℕ) (s : List ℕ) → callOk dim s ≡ true → (k : ℕ) → (2 * dim ≤ 6) × (2 * dim * k ≤ 6 * k)
-unfolding callOk
-stride dim s e k = go (eqb dim 2) refl (eqb dim 3) refl e
-  where
-    go : (b : Bool) → eqb dim 2 ≡ b → (c : Bool) → eqb dim 3 ≡ c → ((b || c) && (eqb (length s % 2) 0 && leb (length s) 1048576)) ≡ true → (2 * dim ≤ 6) × (2 * dim * k ≤ 6 * k)
-    go true q c r e = rw (eqb-true dim 2 q) (omega arith, omega arith)
-    go false q true r e = rw (eqb-true dim 3 r) (omega arith, omega arith)
-    go false q false r e = let z : _≡_ {A = ℕ} 0 1 = cc in absurd (omega arith)
+stride dim s e k = by-dims (λ d. (2 * d ≤ 6) × (2 * d * k ≤ 6 * k)) dim (call-dims dim s e) (omega arith, omega arith) (omega arith, omega arith)
 
 -- the numbers from which a point's place is computed are small
 pub point-small : (s : List ℕ) → Below 256 s → (dim at k n b : ℕ) → callOk dim s ≡ true → n ≡ pointCount (words s) at → k < n → b ≡ beforePoints (words s) at →

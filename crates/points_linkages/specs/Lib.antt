@@ -1,3 +1,4 @@
 pub mod Points
+pub mod Coordinates
 pub mod Linkages
 pub mod Listed

@@ -12,6 +12,7 @@ use lib.IntN.{ℤ}
 use lib.Dec.{ltb}
 use borrow.Author.Tests.{ltb-true, ltb-false}
 use Rattle.limits.specs.Limits.{dimOk}
+use Rattle.limits.proofs.Dimensions.{by-dims}
 use Rattle.words.specs.Words.{words, Below, longAt, signed, unsigned}
 use Rattle.words.proofs.Signed.{unsigned-signed}
 use Rattle.places.specs.declared.Above.{Above}
@@ -19,10 +20,10 @@ use Rattle.places.specs.declared.Spotted.the-variants as spotted
 use Rattle.points_linkages.specs.declared.Point.the-variants as point
 use Rattle.places.specs.Places.{spottedAt}
 use Rattle.points_linkages.specs.Points.{pointCount, beforePoints, pointPlace, pointAt, pointOf}
+use Rattle.points_linkages.specs.Coordinates.{coordinates, pointsFrom}
 use Rattle.points_linkages.proofs.Numbered.{point-there, point-none}
 use Rattle.fields.specs.Words.{pointsIn}
-use Rattle.fields.proofs.Bounds.{by-dims}
-use Rattle.round_trips.specs.Parts.{coordinates, pointsFrom, GivesPoints}
+use Rattle.round_trips.specs.Parts.{GivesPoints}
 use Rattle.round_trips.proofs.Spans.{LongsAt, longs-at-append, long-small}
 
 module _ (dim : ℕ) (s : List ℕ) (at : ℕ) {end depth : ℕ} {above : Above} (found : spottedAt dim s at ≡ spotted.At end depth above) (d : dimOk dim ≡ true) where
@@ -35,7 +36,7 @@ module _ (dim : ℕ) (s : List ℕ) (at : ℕ) {end depth : ℕ} {above : Above}
   length-point : (q : ℕ) → length (coordinates (pointAt dim (words s) q)) ≡ dim
   length-point q = by-dims (λ m. length (coordinates (pointAt m (words s) q)) ≡ m) dim d refl refl
 
-  length-in : (k : ℕ) → k < pointCount (words s) at → length (coordinates (pointOf dim s at k)) ≡ dim
+  pub length-in : (k : ℕ) → k < pointCount (words s) at → length (coordinates (pointOf dim s at k)) ≡ dim
   length-in k h = ap (λ x. length (coordinates x)) (point-in k h) ∙ length-point (pointPlace dim (words s) at k)
 
   point-longs : Below 65536 (words s) → (q : ℕ) → LongsAt (words s) q (map unsigned (coordinates (pointAt dim (words s) q)))

@@ -40,12 +40,12 @@ pub record Shown (ws : List ℕ) (at : ℕ) (f : Fields) : Type 0 where
   pub weight : wordAt ws (at + 17) / 8 % 32 ≡ f .weight
   pub colour : wordAt ws (at + 17) / 256 ≡ f .colour
 
-range-there : (ws : List ℕ) (at : ℕ) → 14 ≤ sizeAt ws at →
+pub range-there : (ws : List ℕ) (at : ℕ) → 14 ≤ sizeAt ws at →
     rangeOf ws at ≡ range.Longs (longAt ws (at + 2)) (longAt ws (at + 4)) (longAt ws (at + 6)) (longAt ws (at + 8)) (longAt ws (at + 10)) (longAt ws (at + 12))
 unfolding rangeOf
 range-there ws at h = rw (le-leb 14 (sizeAt ws at) h) refl
 
-display-there : (ws : List ℕ) (at : ℕ) → isWritten (typeAt ws at) ≡ true →
+pub display-there : (ws : List ℕ) (at : ℕ) → isWritten (typeAt ws at) ≡ true →
     displayOf ws at
     ≡ display.Words (wordAt ws (at + 14)) (wordAt ws (at + 15)) (wordAt ws (at + 16)) (wordAt ws (at + 17) % 8) (wordAt ws (at + 17) / 8 % 32) (wordAt ws (at + 17) / 256)
 unfolding displayOf

@@ -10,4 +10,5 @@ pub mod Seen
 pub mod Fields
 pub mod Coordinates
 pub mod Rewrite
+pub mod Given
 pub mod Again

@@ -28,17 +28,20 @@ use Rattle.views.specs.declared.View.the-variants.{Seen}
 use Rattle.places.specs.Places.{spottedAt}
 use Rattle.views.specs.Views.{rangeOf, displayOf, elementView, viewOf}
 use Rattle.points_linkages.specs.Points.{beforePoints, pointAt, pointOf, pointCount}
+use Rattle.points_linkages.specs.Coordinates as numbers
+use Rattle.points_linkages.proofs.Coordinates.{points-longs}
 use Rattle.points_linkages.specs.Linkages.{attributeBy, linkageOf}
 use Rattle.fields.specs.Words.{longs, firstWord, symbology, headerWords, countWords, pointsIn, sizeOf, elementWords}
 use Rattle.fields.specs.Faults.{pointsFit}
 use Rattle.fields.specs.declared.Fields.{Fields}
-use Rattle.fields.proofs.Bounds.{by-dims, by-kinds, count-whole}
+use Rattle.limits.proofs.Dimensions.{by-dims}
+use Rattle.fields.proofs.Bounds.{by-kinds, count-whole}
 use Rattle.fields.proofs.Element.{front, front-tail, length-header, length-front, length-element, size-least, size-at, kind-at, tail-early, tail-late}
 use Rattle.fields.proofs.Writable.{Writable}
 use Rattle.round_trips.specs.Parts.{Shows, GivesPoints, linkageMoved, tailPlace, tailLinkage}
 use Rattle.round_trips.specs.RoundTrip.{Longs}
 use Rattle.round_trips.proofs.Own.{plain-kind, first-read, symbology-read}
-use Rattle.round_trips.proofs.Numbers.{numbersFrom, numbers-stand, points-numbers}
+use Rattle.round_trips.proofs.Numbers.{numbers-stand}
 use Rattle.round_trips.proofs.Walks.{in-from, moved-by}
 
 same-range : {a b c d e f a′ b′ c′ d′ e′ f′ : ℕ} → a ≡ a′ → b ≡ b′ → c ≡ c′ → d ≡ d′ → e ≡ e′ → f ≡ f′ → range.Longs a b c d e f ≡ range.Longs a′ b′ c′ d′ e′ f′
@@ -216,9 +219,9 @@ module _ {dim : ℕ} {f : Fields} {ps : List ℤ} {tail : List ℕ} {room : ℕ}
       let first : start + 2 * dim * 0 ≡ start = by-dims (λ m. start + 2 * m * 0 ≡ start) dim (c .dims) (omega arith) (omega arith) in
       record {
         all =
-            points-numbers dim (c .dims) s at start (pointsIn dim ps) point-there (pointsIn dim ps) 0 (omega arith)
-            ∙ ap (numbersFrom (dim * pointsIn dim ps) (words s)) first
-            ∙ ap (λ n. numbersFrom n (words s) start) (sym (count-whole dim (f .kind) (length ps) (c .dims) (c .kind) (c .fit)))
+            points-longs dim (c .dims) s at start (pointsIn dim ps) point-there (pointsIn dim ps) 0 (omega arith)
+            ∙ ap (numbers.longs (dim * pointsIn dim ps) (words s)) first
+            ∙ ap (λ n. numbers.longs n (words s) start) (sym (count-whole dim (f .kind) (length ps) (c .dims) (c .kind) (c .fit)))
             ∙ numbers-stand ps (words s) start l (points-stand w stands);
         no-more = no-point;
       }

@@ -12,6 +12,7 @@ use lib.IntN.{ℤ}
 use lib.Dec.{eqb, leb}
 use borrow.Author.Tests.{leb-true, eq-eqb}
 use Rattle.limits.specs.Limits.{dimOk}
+use Rattle.limits.proofs.Dimensions.{by-dims, call-dims}
 use Rattle.words.specs.Words.{words, bytes, Below, wordAt, unsigned}
 use Rattle.words.proofs.Laws.{length-bytes, words-bytes, words-drop, words-below}
 use Rattle.headers.specs.Header.{typeAt, sizeAt, pointsAt}
@@ -29,7 +30,7 @@ use Rattle.edits.proofs.Bounds.{below-take, below-drop}
 use Rattle.fields.specs.Words.{longs, headerWords, countWords, pointsIn, sizeOf, elementWords}
 use Rattle.fields.specs.Faults.{isWritten, pointsFit, pointNumberOk}
 use Rattle.fields.specs.declared.Fields.{Fields}
-use Rattle.fields.proofs.Bounds.{both, bounds-ok, Called, by-dims, by-kinds, fixed-is}
+use Rattle.fields.proofs.Bounds.{both, bounds-ok, Called, by-kinds, fixed-is}
 use Rattle.fields.proofs.Element.{length-longs, length-header, length-element, size-least, size-at}
 use Rattle.fields.proofs.Writable.{Writable}
 use Rattle.round_trips.specs.Parts.{Shows}
@@ -37,7 +38,7 @@ use Rattle.round_trips.specs.RoundTrip.{Given}
 use Rattle.round_trips.proofs.Own.{plain-kind}
 use Rattle.round_trips.proofs.Extents.{extent-own}
 use Rattle.round_trips.proofs.Spans.{stands-cons, stands-at, longs-stand}
-use Rattle.round_trips.proofs.Seen.{call-dims, SeenAt, seen-at}
+use Rattle.round_trips.proofs.Seen.{SeenAt, seen-at}
 use Rattle.round_trips.proofs.Fields.{Shown, shown, reserved-zero, header-stands, shown-bounds}
 use Rattle.round_trips.proofs.Coordinates.{given-count, given-length, given-longs}
 

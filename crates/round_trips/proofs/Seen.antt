@@ -2,14 +2,11 @@
 -- at its place.
 use Prim.Native.Nat.{ℕ}
 use mathlib.Core.Path.{_≡_, refl, sym, _∙_}
-use mathlib.Core.Bool.{true, and-eq-true-iff}
 use mathlib.Core.List.{List}
 use mathlib.Core.Option.{Option, none, some}
 use native.Mathlib.Omega.{arith}
-use lib.ListN.{length}
 use Rattle.words.specs.Words.{words}
 use Rattle.files.specs.Judge.{judgeOf}
-use Rattle.limits.specs.Limits.{callOk, dimOk, sizeOk}
 use Rattle.files.specs.Spots.{Spot, spotsOf, spotIn}
 use Rattle.files.specs.declared.Judged.the-variants.{Accepted}
 use Rattle.grammar.proofs.Ruled.{Ruled}
@@ -21,11 +18,6 @@ use Rattle.views.specs.declared.View.the-variants.{Seen}
 use Rattle.places.specs.Places.{foundBy, spottedAt}
 use Rattle.views.specs.Views.{elementView, viewBy, viewOf}
 use Rattle.places.proofs.Places.{spot-rules, spotted-found}
-
--- the dimension of a good call is 2 or 3
-pub call-dims : (dim : ℕ) (s : List ℕ) → callOk dim s ≡ true → dimOk dim ≡ true
-unfolding callOk
-call-dims dim s e = and-eq-true-iff (dimOk dim) (sizeOk (length s)) .0 e .0
 
 -- the spot of an element that is found
 spot-of : (dim : ℕ) (s : List ℕ) (at e d m end depth : ℕ) (above : Above) → judgeOf dim s ≡ Accepted e d m → spottedAt dim s at ≡ spotted.At end depth above →

@@ -1,9 +1,9 @@
 -- The parts of an element of a type that is written, as the reading calls give them and as the writer takes them: header fields,
 -- points, tail and linkages. s are a file's bytes, at is the element's place.
-use Prim.Native.Nat.{ℕ, zero, suc, _+_, _-_, _*_, _/_, _%_}
+use Prim.Native.Nat.{ℕ, _+_, _-_, _*_, _/_, _%_}
 use mathlib.Core.Path.{_≡_}
 use mathlib.Core.Bool.{cond}
-use mathlib.Core.List.{List, [], _∷_, _++_}
+use mathlib.Core.List.{List}
 use lib.ListN.{length, drop}
 use lib.Dec.{eqb}
 use lib.IntN.{ℤ}
@@ -15,12 +15,12 @@ use Rattle.kinds.specs.Kinds.{fixedPart}
 use Rattle.views.specs.declared.Range.the-variants as range
 use Rattle.views.specs.declared.Display.the-variants as display
 use Rattle.views.specs.declared.Element.{Element}
-use Rattle.points_linkages.specs.declared.Point.{Point}
 use Rattle.points_linkages.specs.declared.Point.the-variants as point
 use Rattle.points_linkages.specs.declared.Attribute.{Attribute}
 use Rattle.points_linkages.specs.declared.Attribute.the-variants as attribute
 use Rattle.places.specs.Extents.{extentBytes}
 use Rattle.points_linkages.specs.Points.{pointOf}
+use Rattle.points_linkages.specs.Coordinates.{pointsFrom}
 use Rattle.fields.specs.Words.{pointsIn}
 use Rattle.fields.specs.declared.Fields.{Fields}
 
@@ -32,17 +32,6 @@ pub record Shows (e : Element) (f : Fields) : Type 0 where
   pub deleted : e .deleted ≡ f .deleted
   pub range : e .range ≡ range.Longs (f .«low_x») (f .«low_y») (f .«low_z») (f .«high_x») (f .«high_y») (f .«high_z»)
   pub display : e .display ≡ display.Words (f .group) (f .index) (f .properties) (f .style) (f .weight) (f .colour)
-
--- the coordinates of a point
-abbrev pub coordinates : Point → List ℤ
-coordinates (point.Flat x y) = x ∷ y ∷ []
-coordinates (point.Solid x y z) = x ∷ y ∷ z ∷ []
-coordinates (point.Refused n p) = []
-
--- the coordinates of n points from number k on, one call for each
-unfoldable pub pointsFrom : ℕ → ℕ → ℕ → List ℕ → ℕ → List ℤ
-pointsFrom zero k dim s at = []
-pointsFrom (suc n) k dim s at = coordinates (pointOf dim s at k) ++ pointsFrom n (k + 1) dim s at
 
 -- the calls for points give these coordinates, and 13 for the number after the last
 pub record GivesPoints (dim : ℕ) (s : List ℕ) (at : ℕ) (points : List ℤ) : Type 0 where

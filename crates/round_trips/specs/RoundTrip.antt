@@ -3,15 +3,16 @@
 use Prim.Native.Nat.{ℕ, _+_, _*_, _≤_, _<_}
 use mathlib.Core.Path.{_≡_}
 use mathlib.Core.Bool.{Bool, true, false}
-use mathlib.Core.List.{List, [], _∷_}
+use mathlib.Core.List.{List, [], _∷_, List·Memᴰ}
 use mathlib.Core.Option.{Option, none, some}
 use lib.ListN.{length, take, drop}
 use lib.IntN.{ℤ}
 use lib.Signed.{mag}
 use Rattle.words.specs.Words.{words, bytes, Below}
 use Rattle.kinds.specs.Kinds.{mayStand}
+use Rattle.headers.specs.Header.{typeAt}
 use Rattle.files.specs.Judge.{judgeOf}
-use Rattle.files.specs.Spots.{spotsOf}
+use Rattle.files.specs.Spots.{Spot, spotsOf}
 use Rattle.files.specs.declared.Judged.the-variants.{Accepted}
 use Rattle.views.specs.declared.Element.{Element}
 use Rattle.views.specs.declared.View.the-variants.{Seen}
@@ -113,3 +114,15 @@ Rewrites =
     (dim : ℕ) (s : List ℕ) (at : ℕ) (f : Fields) (points : List ℤ) (tail out : List ℕ) (r : Written) (last : List ℕ) →
     (g : Given dim s at f points tail) → 2 * g .element .size ≤ length out → Writes dim f points tail out r last →
     Rewritten s at (g .element .size) r last
+
+-- there are such parts of each element of a type that is written, in each accepted file of bytes
+pub record HasParts (dim : ℕ) (s : List ℕ) (at : ℕ) : Type 0 where
+  pub fields : Fields
+  pub points : List ℤ
+  pub tail : List ℕ
+  pub given : Given dim s at fields points tail
+
+abbrev pub EveryGiven : Type 0
+EveryGiven =
+    (dim : ℕ) (s : List ℕ) (e d m : ℕ) (x : Spot) → judgeOf dim s ≡ Accepted e d m → Below 256 s →
+    List·Memᴰ x (spotsOf dim (words s)) → isWritten (typeAt (words s) (x .place)) ≡ true → HasParts dim s (x .place)

@@ -18,7 +18,7 @@ use Rattle.edits.specs.Calls.{Session, Call, mark-call, rename-call, insert-cal
 use Rattle.edits.specs.Book.{Run, noted, noting, ran, wasRefused}
 use Rattle.edits.proofs.Refusals.{refusal-keeps}
 use Rattle.edits.proofs.Every.{demand-three}
-use Rattle.edits.specs.Demand.{PiecesBytes, Demand3}
+use Rattle.edits.specs.Demand.{PiecesBytes, runOf, Demand3}
 use Rattle.opening.specs.Steps.{Stepped}
 use Rattle.sessions.specs.Runs as runs
 use Rattle.sessions.specs.Runs.{leaves, Called, EveryCall}
@@ -97,7 +97,12 @@ called-ran dim r last (c ∷ cs) (runs.next _ _ _ a file journal _ t rest) =
 called-ran dim r last (c ∷ cs) (runs.other _ d _ _ n p file journal _ t rest) =
     ran-other dim _ r last c cs (after-other d r c n p file journal t) (called-ran dim _ last cs rest)
 
-pub every-call : EveryCall
-every-call dim s cs last opened pieces called =
+-- so what holds of every run of steps holds of the calls
+pub called-run : (P : Run → Type 0) (dim : ℕ) (s : Session) → ((cs : List Call) → PiecesBytes cs → P (runOf dim s cs)) → (cs : List Call) (last : Run) → PiecesBytes cs →
+    Called dim (record { session = s; book = [] }) cs last → P last
+called-run P dim s every cs last pieces called =
     let x = called-ran dim (record { session = s; book = [] }) last cs called in
-    subst (Demand3 dim s) (sym (x .is)) (demand-three dim s (x .calls) opened (x .pieces pieces))
+    subst P (sym (x .is)) (every (x .calls) (x .pieces pieces))
+
+pub every-call : EveryCall
+every-call dim s cs last opened pieces called = called-run (Demand3 dim s) dim s (λ cs p. demand-three dim s cs opened p) cs last pieces called

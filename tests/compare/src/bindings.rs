@@ -70,9 +70,9 @@ pub fn file(runs: &mut Runs, file: &[u8], dim: u64) {
         return;
     }
     let starts = scan(file).0;
-    let views: Vec<View> = dgn::all_views(file, d).expect("an accepted file").collect();
+    let views: Vec<View> = dgn::all_views(file, d).expect("an accepted file");
     assert_eq!(views.len(), starts.len());
-    let mut drawn = dgn::all_points(file, d).expect("an accepted file");
+    let mut drawn = dgn::all_points(file, d).expect("an accepted file").into_iter();
     for (view, start) in views.iter().zip(&starts) {
         let place = start.place as usize;
         same(view, &reader::view(file, dim, start.place).expect("an element"), start.place);
@@ -100,6 +100,18 @@ pub fn file(runs: &mut Runs, file: &[u8], dim: u64) {
         }
     }
     assert_eq!(drawn.next(), None);
+}
+
+/// All views and all points of an accepted file are those that its numbers say.
+pub fn all(file: &[u8], dim: u64, views: &[i64], points: &[i64]) {
+    let given = dgn::all_views(file, dimension(dim)).expect("an accepted file");
+    assert!(given.into_iter().eq(views.chunks(32).map(|view| View::of(view.try_into().expect("32 numbers")))));
+    let mut given = Vec::new();
+    for drawn in dgn::all_points(file, dimension(dim)).expect("an accepted file") {
+        given.extend([drawn.place as i64, drawn.points.len() as i64]);
+        given.extend(drawn.points.into_iter().flat_map(|point| coordinates(point, dim)).map(i64::from));
+    }
+    assert!(given == points);
 }
 
 /// One call of a session.

@@ -1,48 +1,21 @@
-//! The last record of a journal, against a reading of the rules and against the second reader's undo.
+//! The last record of a journal, against the second reader and its undo.
 
 use crate::library::{self, TOP};
 use crate::runs::Runs;
 use reader::generate::journals::undo_state;
 use reader::generate::Random;
-use reader::words::words_of;
-use reader::{Call, Refusal, State};
+use reader::{last_record, Call, Record, Refusal, State};
 
-/// "A record is its payload, then six words": the last one of the used bytes, by the rules.
-fn by_the_rules(journal: &[u8], jused: u64) -> Result<[u64; 5], Refusal> {
-    let refused = |number| Err(Refusal { number, place: 0 });
-    if journal.len() % 2 != 0 || journal.len() > 1_048_576 || jused % 2 != 0 || jused > journal.len() as u64 {
-        return refused(1);
-    }
-    let words = words_of(&journal[..jused as usize]);
-    if words.is_empty() {
-        return refused(17);
-    }
-    let [before @ .., kind, header_high, header_low, place_high, place_low, payload] = &words[..] else {
-        return refused(19);
-    };
-    let long = |high: u16, low: u16| u64::from(high) << 16 | u64::from(low);
-    let (header, place) = (long(*header_high, *header_low), long(*place_high, *place_low));
-    let payload = usize::from(*payload);
-    let top = header == 0xffff_ffff;
-    let well_formed = payload <= before.len()
-        && match kind {
-            1 => payload == 0 && top,
-            2 => payload == 2 && top,
-            3 => payload == 0,
-            4 => true,
-            _ => false,
-        };
-    if !well_formed {
-        return refused(19);
-    }
-    let header = if top { TOP } else { header };
-    Ok([u64::from(*kind), header, place, payload as u64, 2 * (before.len() - payload) as u64])
+/// A record as numbers: kind, header place, place, payload words, the used length before it.
+fn record_numbers(r: &Record) -> [u64; 5] {
+    [r.kind, r.header.unwrap_or(TOP), r.place, r.payload, r.used_before()]
 }
 
 impl Runs {
     pub fn record(&mut self, journal: &[u8], jused: u64) -> Result<[u64; 5], Refusal> {
         let ours = library::record(journal, jused);
-        assert_eq!(ours, by_the_rules(journal, jused), "record of {jused} bytes of {journal:02x?}");
+        let theirs = last_record(journal, jused).map(|r| record_numbers(&r));
+        assert_eq!(ours, theirs, "record of {jused} bytes of {journal:02x?}");
         self.calls += 1;
         ours
     }

@@ -20,87 +20,72 @@ mod writes;
 use reader::generate::Random;
 use runs::Runs;
 
+/// A step: what is held against each other, and the run of it. The number is how many files, and how many calls of
+/// sessions, are to be generated.
+type Step = (&'static str, fn(&mut Random, &mut Runs, u64));
+
+const STEPS: &[Step] = &[
+    ("real files, by their table", |_, runs, _| real::run(runs)),
+    ("real files with each word changed and cut at each word", |random, runs, _| real::changed(random, runs)),
+    ("listings of celllist", |random, _, _| program::run(random, 100)),
+    ("answer slices that are too short stay", |_, _, _| library::short_answers(&[255, 255])),
+    ("a stack of 256 KiB is enough", |_, _, _| damage::small_stack()),
+    ("lengths from none to above the limit, between pages that may not be touched", |random, runs, _| {
+        damage::lengths(random, runs)
+    }),
+    ("files cut at a page", |random, runs, _| damage::cut_at_a_page(random, runs, 100)),
+    ("exact limits", |random, runs, _| files::limits(random, runs)),
+    ("names", |random, runs, _| files::names(random, runs, 20_000)),
+    ("limits of the writer", |random, runs, _| writes::limits(random, runs)),
+    ("written elements", |random, runs, wanted| writes::calls(random, runs, wanted / 4)),
+    ("each number at each depth, and two faults in one element", |random, runs, _| files::numbers(random, runs, 50)),
+    ("cuts, and every place", |random, runs, _| files::cuts(random, runs, 200)),
+    ("every part of small files, views and points", |random, runs, _| whole::small(random, runs, 100)),
+    ("the largest files in parts, views and points", |random, runs, _| whole::largest(random, runs)),
+    ("the bindings' structs", |random, runs, _| bindings::generated(random, runs, 500)),
+    ("generated files", |random, runs, wanted| {
+        let before = runs.files;
+        while runs.files < before + wanted {
+            files::generated(random, runs);
+        }
+        if wanted >= 100_000 {
+            runs.seen.check_accepted();
+        }
+    }),
+    ("sessions on real files, every edit at every place", |random, runs, _| real::sessions(random, runs)),
+    ("the last record of journals in order and damaged", |random, runs, _| history::journals(random, runs, 20_000)),
+    ("journal records of every kind", |_, runs, _| limits::records(runs)),
+    ("exact room in both buffers of a session", |_, runs, _| limits::room(runs)),
+    ("calls of a session made wrongly, between pages that may not be touched", |_, runs, _| {
+        limits::calls_made_wrongly(runs)
+    }),
+    ("the file's own refusals in a session", |random, runs, _| limits::own(random, runs, 10)),
+    ("pieces with a fault of each number, and with words left over", |random, runs, _| {
+        limits::pieces(random, runs, 200)
+    }),
+    ("headers that would grow too large", |_, runs, _| limits::growth(runs)),
+    ("sessions on the largest files", |_, runs, _| sessions::largest(runs)),
+    ("every edit at every place of small files, undone", |random, runs, _| sessions::places(random, runs, 100)),
+    ("sessions of any calls, undone to their start", |random, runs, wanted| {
+        sessions::random(random, runs, wanted);
+        if wanted >= 100_000 {
+            runs.edits.check();
+        }
+    }),
+];
+
 fn main() {
     let mut args = std::env::args().skip(1).map(|a| a.parse::<u64>().expect("numbers: FILES SEED"));
     let wanted = args.next().unwrap_or(300_000);
     let seed = args.next().unwrap_or(7);
     let mut random = Random::new(seed);
     let mut runs = Runs::default();
-    let mut passed = 0;
-    let mut pass = |what: String| {
-        passed += 1;
-        println!("{what}");
-    };
-
-    real::run(&mut runs);
-    pass("real files: the answers are those of the table and of the second reader".to_string());
-    real::changed(&mut random, &mut runs);
-    pass(format!("real files with each word changed and cut at each word, {} files: equal", runs.files));
-    program::run(&mut random, 100);
-    pass("celllist: the listings are the second reader's".to_string());
-    library::short_answers(&[255, 255]);
-    pass("answer slices that are too short: 1, and they stay".to_string());
-    damage::small_stack();
-    pass("a stack of 256 KiB is enough".to_string());
-    damage::lengths(&mut random, &mut runs);
-    pass("lengths from none to above the limit, between pages that may not be touched: equal".to_string());
-    damage::cut_at_a_page(&mut random, &mut runs, 100);
-    pass("files cut at a page: equal".to_string());
-    files::limits(&mut random, &mut runs);
-    pass("exact limits: equal".to_string());
-    files::names(&mut random, &mut runs, 20_000);
-    pass("names: equal".to_string());
-    writes::limits(&mut random, &mut runs);
-    pass("limits of the writer: equal".to_string());
-    writes::calls(&mut random, &mut runs, wanted / 4);
-    pass(format!("{} written elements: equal", wanted / 2));
-    files::numbers(&mut random, &mut runs, 50);
-    pass("each number at each depth, and two faults in one element: equal".to_string());
-    files::cuts(&mut random, &mut runs, 200);
-    pass("cuts, and every place: equal".to_string());
-    whole::small(&mut random, &mut runs, 100);
-    pass("every part of small files, views and points: equal".to_string());
-    whole::largest(&mut random, &mut runs);
-    pass("the largest files in parts, views and points: equal".to_string());
-    bindings::generated(&mut random, &mut runs, 500);
-    pass("the bindings' structs: equal".to_string());
-    let before = runs.files;
-    while runs.files < before + wanted {
-        files::generated(&mut random, &mut runs);
+    for (what, run) in STEPS {
+        let (files, calls) = (runs.files, runs.calls);
+        run(&mut random, &mut runs, wanted);
+        println!("passed: {what} ({} files, {} calls)", runs.files - files, runs.calls - calls);
     }
-    if wanted >= 100_000 {
-        runs.seen.check_accepted();
-    }
-    pass(format!("{wanted} generated files: equal"));
-
-    // sessions
-    let before = runs.calls;
-    real::sessions(&mut random, &mut runs);
-    pass("sessions on real files, every edit at every place: equal".to_string());
-    history::journals(&mut random, &mut runs, 20_000);
-    pass("the last record of journals in order and damaged: equal".to_string());
-    limits::records(&mut runs);
-    pass("journal records of every kind: equal".to_string());
-    limits::room(&mut runs);
-    pass("exact room in both buffers of a session: equal".to_string());
-    limits::calls_made_wrongly(&mut runs);
-    pass("calls of a session made wrongly, between pages that may not be touched: equal".to_string());
-    limits::own(&mut random, &mut runs, 10);
-    pass("the file's own refusals in a session: equal".to_string());
-    limits::pieces(&mut random, &mut runs, 200);
-    pass("pieces with a fault of each number, and with words left over: equal".to_string());
-    limits::growth(&mut runs);
-    pass("headers that would grow too large: equal".to_string());
-    sessions::largest(&mut runs);
-    pass("sessions on the largest files: equal".to_string());
-    sessions::places(&mut random, &mut runs, 100);
-    pass("every edit at every place of small files, undone: equal".to_string());
-    sessions::random(&mut random, &mut runs, wanted);
-    if wanted >= 100_000 {
-        runs.edits.check();
-    }
-    pass(format!("{} calls of sessions, undone to their start: equal", runs.calls - before));
     println!("sessions: {}", runs.edits.line());
     println!("{} files, {} calls, seed {seed}", runs.files, runs.calls);
-    println!("{passed} passed, 0 failed");
+    println!("{} passed, 0 failed", STEPS.len());
 }

@@ -1,8 +1,8 @@
 //! Whole files: the views and points of all elements, in parts of any size, against those of the second reader one by
 //! one.
 
-use crate::library;
 use crate::runs::{point_numbers, small_or_huge, view_numbers, Runs};
+use crate::{bindings, library};
 use reader::generate::{changes, large, valid, Random};
 use reader::judge::judge_seeing;
 use reader::Refusal;
@@ -183,6 +183,7 @@ pub fn largest(random: &mut Random, runs: &mut Runs) {
         assert!(all_views.chunks(32).map(|view| (view[31] as u64, view[2] as u64)).eq(seen.elements.iter().copied()));
         let (next, all_points) = library::points(&v.file, v.dim, 0, library::MOST_NUMBERS).expect("room for all");
         assert_eq!(next, elements as u64);
+        bindings::all(&v.file, v.dim, &all_views, &all_points);
         let last = elements as u64 - 1;
         let mut starts = vec![0, last, last + 1];
         starts.extend((0..6).map(|_| random.below(last + 1)));

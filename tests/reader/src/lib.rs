@@ -31,6 +31,7 @@ pub use find::{find, Found};
 pub use judge::{judge, Judged};
 pub use linkage::{linkage, Linkage, LinkageKind};
 pub use names::{pack, unpack};
+pub use record::{last_record, Record};
 pub use refusal::{FindRefusal, Refusal};
 pub use undo::undo;
 pub use view::{extent, point, view, Display, View};

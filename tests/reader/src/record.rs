@@ -1,5 +1,7 @@
 //! The journal's records: a payload, then six words.
 
+use crate::refusal::{self, plain, Refusal};
+use crate::session::good_lengths;
 use crate::words::{count, long, put, word};
 
 /// The words of a record after its payload.
@@ -23,6 +25,13 @@ pub struct Record {
     /// Where the payload begins in the journal, and its words.
     pub start: u64,
     pub payload: u64,
+}
+
+impl Record {
+    /// The journal's used length before the record, in bytes.
+    pub fn used_before(&self) -> u64 {
+        self.start * 2
+    }
 }
 
 /// Whether the free words of the journal take a record with that payload.
@@ -60,8 +69,24 @@ pub(crate) fn append(
     next * 2
 }
 
+/// The last record of a journal: 1 where the buffer or its used length is not
+/// in order, 17 where the journal is empty, 19 where the record is ill-formed.
+/// No file is looked at: whether it may be reversed, undo tells.
+pub fn last_record(journal: &[u8], jused: u64) -> Result<Record, Refusal> {
+    if !good_lengths(journal, jused) {
+        return plain(refusal::CALL);
+    }
+    if jused == 0 {
+        return plain(refusal::NOTHING);
+    }
+    match last(journal, jused) {
+        Some(record) => Ok(record),
+        None => plain(refusal::BAD_JOURNAL),
+    }
+}
+
 /// The last record of the used journal; none where it is ill-formed.
-pub(crate) fn last(journal: &[u8], jused: u64) -> Option<Record> {
+fn last(journal: &[u8], jused: u64) -> Option<Record> {
     let end = jused / 2;
     let trailer = end.checked_sub(TRAILER)?;
     let kind = word(journal, trailer);

@@ -7,7 +7,7 @@ use crate::refusal::{self, at, plain, Refusal};
 use crate::words::{count, put, word};
 
 /// A buffer's length and its used length, in bytes.
-fn good_lengths(buffer: &[u8], used: u64) -> bool {
+pub(crate) fn good_lengths(buffer: &[u8], used: u64) -> bool {
     let length = buffer.len() as u64;
     length % 2 == 0 && length <= LIMIT && used % 2 == 0 && used <= length
 }

@@ -3,7 +3,7 @@
 use crate::judge::judge_seeing;
 use crate::layout;
 use crate::names::unpack;
-use crate::record::{self, Record};
+use crate::record::{self, last_record, Record};
 use crate::refusal::{self, plain, Refusal};
 use crate::session::{open, SeekElement, SeekGap, Standing};
 use crate::words::{put, word};
@@ -18,20 +18,14 @@ pub fn undo(
     dim: u64,
 ) -> Result<(u64, u64), Refusal> {
     open(file, used, journal, jused, dim, |_| {})?;
-    if jused == 0 {
-        return plain(refusal::NOTHING);
-    }
-    let record = match record::last(journal, jused) {
-        Some(record) => record,
-        None => return plain(refusal::BAD_JOURNAL),
-    };
+    let record = last_record(journal, jused)?;
     let used = match record.kind {
         record::FLAG => unmark(file, used, dim, &record)?,
         record::RENAME => rename_back(file, used, dim, &record, journal)?,
         record::INSERT => take_out(file, used, dim, &record)?,
         _ => put_back(file, used, dim, &record, journal)?,
     };
-    Ok((used, record.start * 2))
+    Ok((used, record.used_before()))
 }
 
 /// The element at a record's place; 19 where there is none.

@@ -1,4 +1,5 @@
 -- By how many points the element has, and whether its numbers, which are few, fit.
+use Prim.Native.Nat.{_*_, _≤_, _<_}
 use mathlib.Core.Path.{_∙_}
 use native.Mathlib.Omega.{arith}
 use lib.ListN.{length-set}
@@ -18,28 +19,23 @@ point-count-requires c κs = search needs
 returns : tie.Need-returns
 returns c = element-none (c .before .before .before .args .dim) (words (c .before .before .before .args .file .now)) (c .before .before .before .args .at) _ (c .before .before .before .args .numbers .now) (c .before .before .before .args .used) (c .before .point-count .ensures) (c .if1 .taken)
 
+abbrev start : tie.After-point-count → tie.Start
+start c = c .before .before
+
+-- an element has few points
+few : (c : tie.After-point-count) → (c .point-count .result < 65536) × (c .point-count .result * start c .args .dim ≤ 196608)
+few c =
+    numbers-few (start c .args .file .now) (lent-below (start c .args .file .now) (c .before .shared-slice-known .given))
+    (start c .args .dim) (start c .args .at) _ (start c .pre .0) (c .point-count .ensures)
+
 mul-coordinates : tie.Need-mul-coordinates
-mul-coordinates c =
-    let start = c .before .before .before in
-    omega (
-      arith,
-      numbers-few (start .args .file .now)
-          (lent-below (start .args .file .now) (c .before .before .shared-slice-known .given)) (start .args .dim)
-          (start .args .at) _ (start .pre .0) (c .before .point-count .ensures),
-    )
+mul-coordinates c = omega (arith, few (c .before))
 
 sub-if2 : tie.Need-sub-if2
 sub-if2 c = search needs
 
 add-if2 : tie.Need-add-if2
-add-if2 c =
-    let start = c .before .before .before in
-    omega (
-      arith,
-      numbers-few (start .args .file .now)
-          (lent-below (start .args .file .now) (c .before .before .shared-slice-known .given)) (start .args .dim)
-          (start .args .at) _ (start .pre .0) (c .before .point-count .ensures),
-    )
+add-if2 c = omega (arith, few (c .before))
 
 returns-2 : tie.Need-returns-2
 returns-2 c =
@@ -66,12 +62,7 @@ slice-set-from-numbers : tie.Need-slice-set-from-numbers
 slice-set-from-numbers c = search needs
 
 cast-numbers-2 : tie.Need-cast-numbers-2
-cast-numbers-2 c =
-    let at-point-count = c .before .before .before in
-    let at-shared-slice-known = at-point-count .before in
-    let start = at-shared-slice-known .before in
-    record
-    { sfits = omega (arith, numbers-few (start .args .file .now) (lent-below (start .args .file .now) (at-shared-slice-known .shared-slice-known .given)) (start .args .dim) (start .args .at) _ (start .pre .0) (at-point-count .point-count .ensures)) }
+cast-numbers-2 c = record { sfits = omega (arith, few (c .before .before .before)) }
 
 add-t10 : tie.Need-add-t10
 add-t10 c = search needs
@@ -82,17 +73,7 @@ mul-t11 c = search needs
 slice-set-from-numbers-2 : tie.Need-slice-set-from-numbers-2
 slice-set-from-numbers-2 c =
     let at-point-count = c .before .before .before in
-    let at-shared-slice-known = at-point-count .before in
-    let start = at-shared-slice-known .before in
-    simp length-set
-    (omega (
-      arith,
-      numbers-few (start .args .file .now)
-          (lent-below (start .args .file .now) (at-shared-slice-known .shared-slice-known .given)) (start .args .dim)
-          (start .args .at) _ (start .pre .0) (at-point-count .point-count .ensures),
-      (c .before .if2 .left),
-      (start .pre),
-    ))
+    simp length-set (omega (arith, few at-point-count, (c .before .if2 .left), (start at-point-count .pre)))
 
 add-put-longs : tie.Need-add-put-longs
 add-put-longs c = search needs
@@ -100,19 +81,14 @@ add-put-longs c = search needs
 put-longs-requires : tie.Need-put-longs-requires
 put-longs-requires c κs =
     let at-point-count = c .before .before .before .before in
-    let at-shared-slice-known = at-point-count .before in
-    let start = at-shared-slice-known .before in
     simp length-set (
-      omega
-          (arith, numbers-few (start .args .file .now) (lent-below (start .args .file .now) (at-shared-slice-known .shared-slice-known .given)) (start .args .dim) (start .args .at) _ (start .pre .0) (at-point-count .point-count .ensures), (c .before .before .if2 .left), (start .pre)),
+      omega (arith, few at-point-count, (c .before .before .if2 .left), (start at-point-count .pre)),
       omega (
         arith,
-        numbers-few (start .args .file .now)
-            (lent-below (start .args .file .now) (at-shared-slice-known .shared-slice-known .given)) (start .args .dim)
-            (start .args .at) _ (start .pre .0) (at-point-count .point-count .ensures),
+        few at-point-count,
         (c .before .before-points .ensures),
-        before-few (words (start .args .file .now)) (start .args .at),
-        (start .pre),
+        before-few (words (start at-point-count .args .file .now)) (start at-point-count .args .at),
+        (start at-point-count .pre),
       ),
     )
 
@@ -131,18 +107,10 @@ returns-3 c =
     let at-if2 = at-before-points .before in
     let at-if1 = at-if2 .before in
     let at-point-count = at-if1 .before in
-    let at-shared-slice-known = at-point-count .before in
-    let start = at-shared-slice-known .before in
-    element-put (start .args .dim) (words (start .args .file .now)) (start .args .at) _ (start .args .numbers .now)
-    (start .args .used) (at-point-count .point-count .ensures) (at-if1 .if1 .left) (at-if2 .if2 .left) _ _ _ _
-    (at-before-points .before-points .ensures) (toZ-pos w64 _ (omega (arith, (start .pre))))
-    (toZ-pos w64 _
-    (omega (
-      arith,
-      numbers-few (start .args .file .now)
-          (lent-below (start .args .file .now) (at-shared-slice-known .shared-slice-known .given)) (start .args .dim)
-          (start .args .at) _ (start .pre .0) (at-point-count .point-count .ensures),
-    )))
+    let a = start at-point-count .args in
+    element-put (a .dim) (words (a .file .now)) (a .at) _ (a .numbers .now) (a .used) (at-point-count .point-count .ensures)
+    (at-if1 .if1 .left) (at-if2 .if2 .left) _ _ _ _ (at-before-points .before-points .ensures)
+    (toZ-pos w64 _ (omega (arith, (start at-point-count .pre)))) (toZ-pos w64 _ (omega (arith, few at-point-count)))
     (c .before .put-longs .ensures)
 
 pub put-element-spec : {M : Type 1} → statement M

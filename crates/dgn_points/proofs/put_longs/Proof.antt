@@ -8,7 +8,7 @@ use borrow.Author.Needs.{needs}
 use Rattle.words.specs.Words.{words}
 use Rattle.words.proofs.Laws.{lent-below}
 use Rattle.points_linkages.proofs.Numbered.{kept}
-use Rattle.dgn_points.specs.Points.{longs}
+use Rattle.points_linkages.specs.Coordinates.{longs}
 use Rattle.dgn_points.proofs.Fits.{long-turn}
 use Rattle.dgn_points.proofs.put_longs.Statement.{statement}
 use Rattle.dgn_points.proofs.put_longs.Tie as tie

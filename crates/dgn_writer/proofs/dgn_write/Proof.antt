@@ -1,8 +1,10 @@
 -- No room for the answer, no header fields, or the writer's own answer (proofs/Writing).
 use native.Mathlib.Omega.{arith}
-use mathlib.Core.Path.{ap}
+use Prim.Native.Nat.{ℕ}
+use mathlib.Core.Path.{_≡_, ap}
 use Rattle.headers.proofs.Checks.{refused, accepted}
-use Rattle.dgn_writer.specs.Writing.{writeReply}
+use Rattle.answers.specs.Answers.{Reply, returned, sliceLeft}
+use Rattle.dgn_writer.specs.Writing.{writeReply, Wrote}
 use Rattle.dgn_writer.proofs.Writing.{given-sixteen, not-answered, not-given, written}
 use Rattle.dgn_writer.proofs.Small.{written-small}
 use borrow.Author.Needs.{needs}
@@ -45,6 +47,23 @@ add-result c =
     let b = written-small _ _ _ _ _ (at-write .write .result) _ _ _ (at-write .write .ensures) (c .before .number .given .1) in
     omega arith
 
+abbrev start : tie.After-write → tie.Start
+start c =
+    let at-if1 = c .before .before .before .before .before in
+    at-if1 .before .before .before .before .before
+
+-- the writer's own answer
+answer : (c : tie.After-write) {w : Reply ℕ} → writeReply (c .write .result) ≡ w →
+    Wrote (start c .args .dim) (start c .args .fields .now) (start c .args .points .now) (start c .args .tail .now) (start c .args .buffer .now) (start c .args .out .now) (returned w) (c .write .last .1 .1 .1 .1 .0) (sliceLeft w (start c .args .out .now))
+answer c e =
+    let at-fields-of = c .before .before in
+    let at-if2 = at-fields-of .before in
+    let at-fields-given = at-if2 .before in
+    let at-if1 = at-fields-given .before in
+    written _ _ _ _ _ _ (c .write .result) _ _
+    (accepted (at-fields-given .fields-given .ensures) (at-if2 .if2 .left)) (at-if1 .if1 .left)
+    (rw (at-fields-of .fields-of .ensures) at (c .write .ensures)) e
+
 same-length : tie.Need-same-length
 same-length c = search needs
 
@@ -52,29 +71,13 @@ same-length-2 : tie.Need-same-length-2
 same-length-2 c = search needs
 
 returns-3 : tie.Need-returns-3
-returns-3 c =
-    let at-write = c .before .before .before .before .before in
-    let at-fields-of = at-write .before .before in
-    let at-if2 = at-fields-of .before in
-    let at-fields-given = at-if2 .before in
-    let at-if1 = at-fields-given .before in
-    written _ _ _ _ _ _ (at-write .write .result) _ _
-    (accepted (at-fields-given .fields-given .ensures) (at-if2 .if2 .left)) (at-if1 .if1 .left)
-    (rw (at-fields-of .fields-of .ensures) at (at-write .write .ensures)) (ap writeReply (c .before .words .given .1))
+returns-3 c = answer (c .before .before .before .before .before) (ap writeReply (c .before .words .given .1))
 
 same-length-3 : tie.Need-same-length-3
 same-length-3 c = search needs
 
 returns-4 : tie.Need-returns-4
-returns-4 c =
-    let at-write = c .before .before .before .before .before in
-    let at-fields-of = at-write .before .before in
-    let at-if2 = at-fields-of .before in
-    let at-fields-given = at-if2 .before in
-    let at-if1 = at-fields-given .before in
-    written _ _ _ _ _ _ (at-write .write .result) _ _
-    (accepted (at-fields-given .fields-given .ensures) (at-if2 .if2 .left)) (at-if1 .if1 .left)
-    (rw (at-fields-of .fields-of .ensures) at (at-write .write .ensures)) (ap writeReply (c .before .number .given .1))
+returns-4 c = answer (c .before .before .before .before .before) (ap writeReply (c .before .number .given .1))
 
 pub dgn-write-spec : {M : Type 1} → statement M
 dgn-write-spec =

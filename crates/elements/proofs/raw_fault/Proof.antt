@@ -1,11 +1,11 @@
 -- Check by check.
-use mathlib.Core.Bool.{not}
+use mathlib.Core.Bool.{Bool, true, false, not}
 use mathlib.Core.List.{List, [], _∷_}
-use mathlib.Core.Path.{refl, sym, ap, _∙_}
+use mathlib.Core.Path.{_≡_, refl, sym, ap, _∙_}
 use lib.Dec.{eqb, leb}
 use borrow.Author.Tests.{ne-eqb}
 use Rattle.kinds.specs.Kinds.{isUnread}
-use Rattle.headers.specs.Checks.{Check, check}
+use Rattle.headers.specs.Checks.{Check, check, firstFault}
 use Rattle.headers.proofs.Checks.{refused, accepted, pass, stop, tail, first}
 use Rattle.elements.proofs.raw_fault.Statement.{statement}
 use Rattle.elements.proofs.raw_fault.Tie as tie
@@ -26,25 +26,23 @@ returns-2 c = first (of (c .before .before .before)) (pass (simp (ne-eqb _ _ ((c
 size-ok-requires : tie.Need-size-ok-requires
 size-ok-requires c κs = tt
 
+abbrev start : tie.After-size-ok → tie.Start
+start c = c .before .before .before .before
+
+-- past the first two, by the third
+by : (c : tie.After-size-ok) (b : Bool) → leb (start c .args .size) 65535 ≡ b → firstFault (check b 8 ∷ []) ≡ firstFault (of (start c))
+by c b e =
+    let at-is-unread = c .before .before in
+    first (of (start c))
+    (pass (simp (ne-eqb _ _ (at-is-unread .before .if1 .left)))
+    (pass (ap not (sym (at-is-unread .is-unread .ensures) ∙ (c .before .if2 .left)))
+    (tail (check (leb (start c .args .size) 65535) 8 ∷ []) (rw e refl))))
+
 returns-3 : tie.Need-returns-3
-returns-3 c =
-    let at-is-unread = c .before .before .before in
-    let at-if1 = at-is-unread .before in
-    let start = at-if1 .before in
-    first (of start)
-    (pass (simp (ne-eqb _ _ (at-if1 .if1 .left)))
-    (pass (ap not (sym (at-is-unread .is-unread .ensures) ∙ (c .before .before .if2 .left)))
-    (stop (refused (c .before .size-ok .ensures) (c .if3 .taken)))))
+returns-3 c = by (c .before) false (refused (c .before .size-ok .ensures) (c .if3 .taken))
 
 returns-4 : tie.Need-returns-4
-returns-4 c =
-    let at-is-unread = c .before .before .before in
-    let at-if1 = at-is-unread .before in
-    let start = at-if1 .before in
-    first (of start)
-    (pass (simp (ne-eqb _ _ (at-if1 .if1 .left)))
-    (pass (ap not (sym (at-is-unread .is-unread .ensures) ∙ (c .before .before .if2 .left)))
-    (pass (accepted (c .before .size-ok .ensures) (c .if3 .left)) (tail [] refl))))
+returns-4 c = by (c .before) true (accepted (c .before .size-ok .ensures) (c .if3 .left))
 
 pub raw-fault-spec : {M : Type 1} → statement M
 raw-fault-spec =

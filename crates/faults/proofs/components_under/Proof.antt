@@ -1,6 +1,9 @@
 -- What the descent finds is the header's place in the definition; its depth is at most its place, so one more fits.
-use mathlib.Core.Path.{sym, _∙_}
+use mathlib.Core.Path.{_≡_, sym, _∙_}
 use native.Mathlib.Omega.{arith}
+use Rattle.words.specs.Words.{words}
+use Rattle.places.specs.Descent.{locateOf}
+use Rattle.places.specs.declared.Spotted.the-variants.{At}
 use Rattle.faults.proofs.Depths.{locate-depth}
 use borrow.Author.Needs.{needs}
 use Rattle.faults.proofs.components_under.Statement.{statement}
@@ -18,41 +21,26 @@ type-at-requires c κs = search needs
 is-header-requires : tie.Need-is-header-requires
 is-header-requires c κs = search needs
 
+abbrev start : tie.After-end → tie.Start
+start c = c .before .before .before .before
+
+-- what the descent finds
+found : (c : tie.After-end) → locateOf (words (start c .args .used .now)) (start c .args .header) (start c .args .marker) ≡ At (c .end .given .0 .0) (c .end .given .0 .1 .0) (c .end .given .0 .1 .1 .0)
+found c = sym (c .before .before .locate .ensures) ∙ (c .end .given .1)
+
 add-t10 : tie.Need-add-t10
 add-t10 c =
     let at-end = c .before .before .before .before in
-    let at-locate = at-end .before .before in
-    let at-fits = at-locate .before .before in
-    omega (
-      arith,
-      locate-depth _ _ _ _ _ _ (sym (at-locate .locate .ensures) ∙ (at-end .end .given .1)),
-      (at-fits .fits .marker),
-    )
+    omega (arith, locate-depth _ _ _ _ _ _ (found at-end), (start at-end .fits .marker))
 
 returns : tie.Need-returns
-returns c =
-    let at-end = c .before .before .before .before in
-    let at-locate = at-end .before .before in
-    rw (
-      sym (at-locate .locate .ensures) ∙ (at-end .end .given .1),
-      ← (c .before .before .type-at .ensures),
-      sym
-          (c .before .is-header .ensures) ∙ (c .if1 .taken),
-    )
+returns c = rw (found (c .before .before .before .before), ← (c .before .before .type-at .ensures), sym (c .before .is-header .ensures) ∙ (c .if1 .taken))
 
 enum-told : tie.Need-enum-told
 enum-told c = search needs
 
 returns-2 : tie.Need-returns-2
-returns-2 c =
-    let at-end = c .before .before .before .before in
-    let at-locate = at-end .before .before in
-    rw (
-      sym (at-locate .locate .ensures) ∙ (at-end .end .given .1),
-      ← (c .before .before .type-at .ensures),
-      sym
-          (c .before .is-header .ensures) ∙ (c .if1 .left),
-    )
+returns-2 c = rw (found (c .before .before .before .before), ← (c .before .before .type-at .ensures), sym (c .before .is-header .ensures) ∙ (c .if1 .left))
 
 returns-3 : tie.Need-returns-3
 returns-3 c = rw (sym (c .before .before .locate .ensures) ∙ (c .enum-told .given .1))

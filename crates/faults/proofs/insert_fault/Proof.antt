@@ -1,7 +1,10 @@
 -- Each step is one of the definition's, in its order: the header, the place, the piece, the room.
-use mathlib.Core.Path.{sym, _∙_}
+use mathlib.Core.Path.{_≡_, sym, _∙_}
 use borrow.Author.Tests.{not-true, not-false}
+use Rattle.words.specs.Words.{words}
 use Rattle.words.proofs.Laws.{length-words}
+use Rattle.faults.specs.Inserting.{componentsOf}
+use Rattle.faults.specs.declared.Components.the-variants.{Listed}
 use Rattle.faults.proofs.Inserting.{insert-absent, insert-elsewhere, insert-piece, insert-room}
 use borrow.Author.Needs.{needs}
 use Rattle.faults.proofs.insert_fault.Statement.{statement}
@@ -19,12 +22,15 @@ enum-known-end c = search needs
 gap-at-requires : tie.Need-gap-at-requires
 gap-at-requires c κs = search needs
 
+abbrev start : tie.After-end → tie.Start
+start c = c .before .before .before .before .before
+
+-- the components that are there
+listed : (c : tie.After-end) → componentsOf (words (start c .args .used .now)) (start c .args .marker) (start c .args .header) ≡ Listed (c .end .given .0 .0) (c .end .given .0 .1 .0) (c .end .given .0 .1 .1 .0)
+listed c = sym (c .before .before .components-of .ensures) ∙ (c .end .given .1)
+
 returns : tie.Need-returns
-returns c =
-    let at-end = c .before .before .before in
-    let at-components-of = at-end .before .before in
-    insert-elsewhere _ _ _ _ _ _ _ _ _ _ (sym (at-components-of .components-of .ensures) ∙ (at-end .end .given .1))
-    (sym (c .before .gap-at .ensures) ∙ not-true _ (c .if1 .taken))
+returns c = insert-elsewhere _ _ _ _ _ _ _ _ _ _ (listed (c .before .before .before)) (sym (c .before .gap-at .ensures) ∙ not-true _ (c .if1 .taken))
 
 piece-fault-requires : tie.Need-piece-fault-requires
 piece-fault-requires c κs = search needs
@@ -45,24 +51,18 @@ returns-3 : tie.Need-returns-3
 returns-3 c =
     let at-piece-fault = c .before .before .before in
     let at-if1 = at-piece-fault .before in
-    let at-gap-at = at-if1 .before in
-    let at-end = at-gap-at .before .before in
-    let at-components-of = at-end .before .before in
-    insert-piece _ _ _ _ _ _ _ _ _ _ (sym (at-components-of .components-of .ensures) ∙ (at-end .end .given .1))
-    (sym (at-gap-at .gap-at .ensures) ∙ not-false _ (at-if1 .if1 .left)) _ _
+    insert-piece _ _ _ _ _ _ _ _ _ _ (listed (at-if1 .before .before .before))
+    (sym (at-if1 .before .gap-at .ensures) ∙ not-false _ (at-if1 .if1 .left)) _ _
     (sym (at-piece-fault .piece-fault .ensures) ∙ (c .before .number .given .1))
 
 returns-4 : tie.Need-returns-4
 returns-4 c =
     let at-piece-fault = c .before .before .before in
-    let at-if1 = at-piece-fault .before in
-    let at-gap-at = at-if1 .before in
+    let at-gap-at = at-piece-fault .before .before in
     let at-end = at-gap-at .before .before in
-    let at-components-of = at-end .before .before in
-    let start = at-components-of .before .before .before in
-    (c .room-under .ensures) ∙ rw (← length-words (start .args .piece .now))
-    (insert-room _ _ _ _ _ _ _ _ _ _ (sym (at-components-of .components-of .ensures) ∙ (at-end .end .given .1))
-    (sym (at-gap-at .gap-at .ensures) ∙ not-false _ (at-if1 .if1 .left))
+    (c .room-under .ensures) ∙ rw (← length-words (start at-end .args .piece .now))
+    (insert-room _ _ _ _ _ _ _ _ _ _ (listed at-end)
+    (sym (at-gap-at .gap-at .ensures) ∙ not-false _ (at-piece-fault .before .if1 .left))
     (sym (at-piece-fault .piece-fault .ensures) ∙ (c .before .enum-told2 .given .1)))
 
 pub insert-fault-spec : {M : Type 1} → statement M

@@ -1,5 +1,9 @@
 -- The checks are the definition's, in its order: 13, 14.
-use mathlib.Core.Path.{sym, ap, _∙_}
+use mathlib.Core.Path.{_≡_, sym, ap, _∙_}
+use mathlib.Core.Bool.{Bool, true, false}
+use mathlib.Core.List.{[], _∷_}
+use Rattle.words.specs.Words.{words}
+use Rattle.headers.specs.Checks.{check, firstFault}
 use Rattle.edits.specs.Allowed.{flagDiffers}
 use Rattle.faults.specs.Faults.{markNumber}
 use borrow.Author.Needs.{needs}
@@ -15,29 +19,25 @@ word-requires c κs = search needs
 flag-differs-requires : tie.Need-flag-differs-requires
 flag-differs-requires c κs = search needs
 
-returns : tie.Need-returns
+abbrev start : tie.After-flag-differs → tie.Start
+start c = c .before .before .before .before .before
+
+-- at an element, by whether its flag differs
+by : (c : tie.After-flag-differs) (b : Bool) → c .flag-differs .result ≡ b →
+    firstFault (check b 14 ∷ []) ≡ markNumber (words (start c .args .used .now)) (start c .args .found) (start c .args .place) (start c .args .deleted)
 unfolding markNumber
-returns c =
-    let at-if1 = c .before .before .before in
-    let at-is-at = at-if1 .before in
-    let start = at-is-at .before .before in
+by c b e =
+    let at-if1 = c .before .before in
     rw (
-      sym (at-is-at .is-at .ensures) ∙ (at-if1 .if1 .taken),
-      ap (flagDiffers (start .args .deleted))
-          (sym (c .before .before .word .ensures .is)) ∙ sym (c .before .flag-differs .ensures) ∙ (c .if2 .taken),
+      sym (at-if1 .before .is-at .ensures) ∙ (at-if1 .if1 .taken),
+      ap (flagDiffers (start c .args .deleted)) (sym (c .before .word .ensures .is)) ∙ sym (c .flag-differs .ensures) ∙ e,
     )
 
+returns : tie.Need-returns
+returns c = by (c .before) true (c .if2 .taken)
+
 returns-2 : tie.Need-returns-2
-unfolding markNumber
-returns-2 c =
-    let at-if1 = c .before .before .before in
-    let at-is-at = at-if1 .before in
-    let start = at-is-at .before .before in
-    rw (
-      sym (at-is-at .is-at .ensures) ∙ (at-if1 .if1 .taken),
-      ap (flagDiffers (start .args .deleted))
-          (sym (c .before .before .word .ensures .is)) ∙ sym (c .before .flag-differs .ensures) ∙ (c .if2 .left),
-    )
+returns-2 c = by (c .before) false (c .if2 .left)
 
 returns-3 : tie.Need-returns-3
 unfolding markNumber

@@ -4,7 +4,7 @@ use Prim.Native.Nat.{_≤_, _<_}
 use native.Mathlib.Omega.{arith}
 use borrow.Author.Tests.{eq-eqb, ne-eqb}
 use Rattle.fields.specs.Faults.{pointsFit}
-use Rattle.fields.proofs.Bounds.{by-dims}
+use Rattle.limits.proofs.Dimensions.{by-dims}
 use Rattle.fields.proofs.points_fit.Statement.{statement}
 use Rattle.fields.proofs.points_fit.Tie as tie
 

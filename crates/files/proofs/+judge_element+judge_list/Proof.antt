@@ -4,7 +4,9 @@ use Prim.Native.Nat.{ℕ, _+_, _-_, _*_, _<_}
 use mathlib.Core.Path.{refl, sym, _∙_}
 use native.Mathlib.Omega.{arith}
 use borrow.Author.Needs.{needs}
-use Rattle.files.specs.Progress.{listIn, runOf}
+use Rattle.elements.specs.Rules.{HeadRead}
+use Rattle.elements.specs.declared.Head.the-variants.{Complex}
+use Rattle.files.specs.Progress.{ListIn, ElementJudged, listIn, runOf}
 use Rattle.files.proofs.Laws.{list-none}
 use Rattle.files.proofs.Going.{Going, as-bound, going-none, head-plain, head-complex, good-plain, more-complex, fault-beneath, good-complex, fault-count, plain-stops, plain-goes, header-stops, going-halted, going-broken, going-stopped, going-on, depth-plain, depth-complex}
 use borrow.Fn.Kinds.{In}
@@ -217,19 +219,39 @@ judge-list-loop-again t c =
 judge-list-enum-known-inner : (t : ℕ) → judge-list-lts.Need-enum-known-inner (list-calls t) (judge-list-at t) judge-list.Post judge-list-Inv-loop judge-list-μ-loop
 judge-list-enum-known-inner t c = search needs
 
+---- where the next element is a header
+
+abbrev At-inner : ℕ → Type 0
+At-inner t = judge-list-lts.After-inner (list-calls t) (judge-list-at t) judge-list.Post judge-list-Inv-loop judge-list-μ-loop
+
+abbrev at-loop : (t : ℕ) → At-inner t → judge-list-lts.At-loop (list-calls t) (judge-list-at t) judge-list.Post judge-list-Inv-loop judge-list-μ-loop
+at-loop t c = c .before .before .before
+
+abbrev list-start : (t : ℕ) → At-inner t → judge-list-lts.Start (list-calls t) (judge-list-at t) judge-list.Post judge-list-Inv-loop judge-list-μ-loop
+list-start t c = at-loop t c .before .before .before
+
+-- what is read of it
+header-read : (t : ℕ) (c : At-inner t) →
+    HeadRead (list-start t c .args .dim) (list-start t c .args .depth) (list-start t c .args .under) (list-start t c .args .s .now) (at-loop t c .loop .here) (at-loop t c .before .smaller .result) (Complex (c .inner .given .0 .0) (c .inner .given .0 .1 .0))
+header-read t c = rw (c .inner .given .1) at (c .before .before .head-at .ensures)
+
+-- what judging it answers
+abbrev list-from : (t : ℕ) → At-inner t → ListIn
+list-from t c =
+    listIn (list-start t c .args .dim) (list-start t c .args .depth) (list-start t c .args .under) (list-start t c .args .s .now)
+    (at-loop t c .loop .here) (at-loop t c .before .smaller .result)
+
+header-judged : (t : ℕ) (c : judge-list-lts.After-judge-element (list-calls t) (judge-list-at t) judge-list.Post judge-list-Inv-loop judge-list-μ-loop) →
+    ElementJudged (list-from t (c .before .before)) (c .judge-element .result)
+header-judged t c = (c .judge-element .ensures) _ _ (header-read t (c .before .before))
+
 judge-list-judge-element-requires : (t : ℕ) → judge-list-lts.Need-judge-element-requires (list-calls t) (judge-list-at t) judge-list.Post judge-list-Inv-loop judge-list-μ-loop
 judge-list-judge-element-requires t c κs =
-    let at-head-at = c .before .before .before in
-    let at-loop = at-head-at .before in
-    let at-smaller = at-loop .before in
-    let start = at-smaller .before .before in
-    let e = as-bound (at-smaller .smaller .ensures) (start .pre .1) in
+    let at-inner = c .before in
+    let start = list-start t at-inner in
+    let e = as-bound (at-loop t at-inner .before .smaller .ensures) (start .pre .1) in
     let p = start .pre .1 in
-    omega (
-      arith,
-      rw (c .before .inner .given .1) at (at-head-at .head-at .ensures .within),
-      (at-loop .loop .inv .gone .words-each),
-    )
+    omega (arith, header-read t at-inner .within, at-loop t at-inner .loop .inv .gone .words-each)
 
 judge-list-enum-known-number-2 : (t : ℕ) → judge-list-lts.Need-enum-known-number-2 (list-calls t) (judge-list-at t) judge-list.Post judge-list-Inv-loop judge-list-μ-loop
 judge-list-enum-known-number-2 t c = search needs
@@ -238,14 +260,9 @@ judge-list-returns-3 : (t : ℕ) → judge-list-lts.Need-returns-3 (list-calls t
 judge-list-returns-3 t c =
     let at-judge-element = c .before .before .before in
     let at-inner = at-judge-element .before .before in
-    let at-head-at = at-inner .before .before in
-    let at-loop = at-head-at .before in
-    let at-smaller = at-loop .before in
-    let start = at-smaller .before .before in
-    let h = rw (at-inner .inner .given .1) at (at-head-at .head-at .ensures) in
-    rw (sym (as-bound (at-smaller .smaller .ensures) (start .pre .1)))
-    (going-broken (at-loop .loop .inv) (more-complex h refl)
-    (rw (c .before .number2 .given .1) at ((at-judge-element .judge-element .ensures) _ _ h)))
+    rw (sym (as-bound (at-loop t at-inner .before .smaller .ensures) (list-start t at-inner .pre .1)))
+    (going-broken (at-loop t at-inner .loop .inv) (more-complex (header-read t at-inner) refl)
+    (rw (c .before .number2 .given .1) at (header-judged t at-judge-element)))
 
 judge-list-enum-known-next-2 : (t : ℕ) → judge-list-lts.Need-enum-known-next-2 (list-calls t) (judge-list-at t) judge-list.Post judge-list-Inv-loop judge-list-μ-loop
 judge-list-enum-known-next-2 t c = search needs
@@ -253,35 +270,19 @@ judge-list-enum-known-next-2 t c = search needs
 judge-list-add-direct-2 : (t : ℕ) → judge-list-lts.Need-add-direct-2 (list-calls t) (judge-list-at t) judge-list.Post judge-list-Inv-loop judge-list-μ-loop
 judge-list-add-direct-2 t c =
     let at-inner = c .before .before .before .before .before in
-    let at-head-at = at-inner .before .before in
-    let at-loop = at-head-at .before in
-    omega (
-      arith,
-      rw (at-inner .inner .given .1) at (at-head-at .head-at .ensures .within),
-      (at-loop .loop .inv .gone .words-each),
-      (at-loop .loop .inv .gone .direct),
-    )
+    let gone = at-loop t at-inner .loop .inv .gone in
+    omega (arith, header-read t at-inner .within, gone .words-each, gone .direct)
 
 judge-list-sub-below : (t : ℕ) → judge-list-lts.Need-sub-below (list-calls t) (judge-list-at t) judge-list.Post judge-list-Inv-loop judge-list-μ-loop
 judge-list-sub-below t c =
-    let at-judge-element = c .before .before .before in
-    let at-inner = at-judge-element .before .before in
-    let at-head-at = at-inner .before .before in
-    let x = rw (c .before .next2 .given .1) at
-    ((at-judge-element .judge-element .ensures) _ _ (rw (at-inner .inner .given .1) at (at-head-at .head-at .ensures)))
-    in
+    let x = rw (c .before .next2 .given .1) at (header-judged t (c .before .before .before)) in
     omega (arith, x .itself)
 
 judge-list-add-below : (t : ℕ) → judge-list-lts.Need-add-below (list-calls t) (judge-list-at t) judge-list.Post judge-list-Inv-loop judge-list-μ-loop
 judge-list-add-below t c =
     let at-judge-element = c .before .before .before in
-    let at-inner = at-judge-element .before .before in
-    let at-head-at = at-inner .before .before in
-    let at-loop = at-head-at .before in
-    let x = rw (c .before .next2 .given .1) at
-    ((at-judge-element .judge-element .ensures) _ _ (rw (at-inner .inner .given .1) at (at-head-at .head-at .ensures)))
-    in
-    omega (arith, x .words-each, x .good .by, (at-loop .loop .inv .gone .words-each))
+    let x = rw (c .before .next2 .given .1) at (header-judged t at-judge-element) in
+    omega (arith, x .words-each, x .good .by, at-loop t (at-judge-element .before .before) .loop .inv .gone .words-each)
 
 judge-list-larger-requires-2 : (t : ℕ) → judge-list-lts.Need-larger-requires-2 (list-calls t) (judge-list-at t) judge-list.Post judge-list-Inv-loop judge-list-μ-loop
 judge-list-larger-requires-2 t c κs = search needs
@@ -296,13 +297,8 @@ judge-list-add-t35 : (t : ℕ) → judge-list-lts.Need-add-t35 (list-calls t) (j
 judge-list-add-t35 t c =
     let at-next2 = c .before .before .before .before .before in
     let at-judge-element = at-next2 .before .before in
-    let at-inner = at-judge-element .before .before in
-    let at-head-at = at-inner .before .before in
-    let at-loop = at-head-at .before in
-    let x = rw (at-next2 .next2 .given .1) at
-    ((at-judge-element .judge-element .ensures) _ _ (rw (at-inner .inner .given .1) at (at-head-at .head-at .ensures)))
-    in
-    omega (arith, x .itself, x .words-each, x .good .by, (at-loop .loop .inv .gone .words-each))
+    let x = rw (at-next2 .next2 .given .1) at (header-judged t at-judge-element) in
+    omega (arith, x .itself, x .words-each, x .good .by, at-loop t (at-judge-element .before .before) .loop .inv .gone .words-each)
 
 judge-list-returns-4 : (t : ℕ) → judge-list-lts.Need-returns-4 (list-calls t) (judge-list-at t) judge-list.Post judge-list-Inv-loop judge-list-μ-loop
 judge-list-returns-4 t c =
@@ -310,27 +306,17 @@ judge-list-returns-4 t c =
     let at-next2 = at-larger2 .before .before in
     let at-judge-element = at-next2 .before .before in
     let at-inner = at-judge-element .before .before in
-    let at-head-at = at-inner .before .before in
-    let at-loop = at-head-at .before in
-    let at-smaller = at-loop .before in
-    let start = at-smaller .before .before in
-    let h = rw (at-inner .inner .given .1) at (at-head-at .head-at .ensures) in
-    let x = rw (at-next2 .next2 .given .1) at ((at-judge-element .judge-element .ensures) _ _ h) in
-    rw (sym (as-bound (at-smaller .smaller .ensures) (start .pre .1)))
-    (going-stopped (at-loop .loop .inv) (x .good)
-    (header-stops _ _ _ _ _ (head-complex h refl) (c .before .before .stops .ensures) (c .before .if2 .taken))
+    let x = rw (at-next2 .next2 .given .1) at (header-judged t at-judge-element) in
+    rw (sym (as-bound (at-loop t at-inner .before .smaller .ensures) (list-start t at-inner .pre .1)))
+    (going-stopped (at-loop t at-inner .loop .inv) (x .good)
+    (header-stops _ _ _ _ _ (head-complex (header-read t at-inner) refl) (c .before .before .stops .ensures) (c .before .if2 .taken))
     (omega (arith, x .itself))
-    ((c .larger3 .ensures) ∙ depth-complex (at-loop .loop .inv) _ (x .deep) (at-larger2 .larger2 .ensures)))
+    ((c .larger3 .ensures) ∙ depth-complex (at-loop t at-inner .loop .inv) _ (x .deep) (at-larger2 .larger2 .ensures)))
 
 judge-list-loop-less-2 : (t : ℕ) → judge-list-lts.Need-loop-less-2 (list-calls t) (judge-list-at t) judge-list.Post judge-list-Inv-loop judge-list-μ-loop
 judge-list-loop-less-2 t c =
     let at-next2 = c .before .before .before .before in
-    let at-judge-element = at-next2 .before .before in
-    let at-inner = at-judge-element .before .before in
-    let at-head-at = at-inner .before .before in
-    let x = rw (at-next2 .next2 .given .1) at
-    ((at-judge-element .judge-element .ensures) _ _ (rw (at-inner .inner .given .1) at (at-head-at .head-at .ensures)))
-    in
+    let x = rw (at-next2 .next2 .given .1) at (header-judged t (at-next2 .before .before)) in
     omega (arith, x .good .on, x .good .by)
 
 judge-list-loop-again-2 : (t : ℕ) → judge-list-lts.Need-loop-again-2 (list-calls t) (judge-list-at t) judge-list.Post judge-list-Inv-loop judge-list-μ-loop
@@ -338,14 +324,11 @@ judge-list-loop-again-2 t c =
     let at-next2 = c .before .before .before .before in
     let at-judge-element = at-next2 .before .before in
     let at-inner = at-judge-element .before .before in
-    let at-head-at = at-inner .before .before in
-    let at-loop = at-head-at .before in
-    let h = rw (at-inner .inner .given .1) at (at-head-at .head-at .ensures) in
-    let x = rw (at-next2 .next2 .given .1) at ((at-judge-element .judge-element .ensures) _ _ h) in
-    going-on (at-loop .loop .inv) (x .good)
-    (header-stops _ _ _ _ _ (head-complex h refl) (c .before .stops .ensures) (c .if2 .left))
+    let x = rw (at-next2 .next2 .given .1) at (header-judged t at-judge-element) in
+    going-on (at-loop t at-inner .loop .inv) (x .good)
+    (header-stops _ _ _ _ _ (head-complex (header-read t at-inner) refl) (c .before .stops .ensures) (c .if2 .left))
     (omega (arith, x .itself))
-    (depth-complex (at-loop .loop .inv) _ (x .deep) (c .before .before .larger2 .ensures)) (x .words-each)
+    (depth-complex (at-loop t at-inner .loop .inv) _ (x .deep) (c .before .before .larger2 .ensures)) (x .words-each)
 
 pub +judge-element+judge-list-spec : {M : Type 1} → statement M
 +judge-element+judge-list-spec = close μ-judge-element μ-judge-list (λ t. judge-element-lts.spec (element-calls t)

@@ -1,7 +1,9 @@
 -- The tests before each return decide the parts of `stands-header`.
-use mathlib.Core.Bool.{and-true, and-false}
-use mathlib.Core.Path.{sym, _∙_}
+use mathlib.Core.Bool.{not, _&&_, and-true, and-false}
+use mathlib.Core.Path.{_≡_, sym, _∙_}
+use lib.Dec.{eqb, ltb}
 use borrow.Author.Tests.{ne-eqb, lt-ltb, le-ltb}
+use Rattle.kinds.specs.Kinds.{mayStand}
 use Rattle.kinds.proofs.Types.{stands-header, header-solid, twice}
 use Rattle.kinds.proofs.header_stands.Statement.{statement}
 use Rattle.kinds.proofs.header_stands.Tie as tie
@@ -19,38 +21,26 @@ returns-2 c =
     (stands-header (start .args .dim) (start .args .under) (start .args .t) (start .pre) ∙ simp
     (c .if2 .taken, sym (c .before .before .is-counted .ensures), c .before .if1 .left, and-false, and-true, twice))
 
-returns-3 : tie.Need-returns-3
-returns-3 c =
-    let at-is-counted = c .before .before .before in
-    let start = at-is-counted .before in
+abbrev start : tie.Else2 → tie.Start
+start c = c .before .before .before
+
+-- under no header with a count, any but type 1
+by : (c : tie.Else2) → mayStand (start c .args .dim) (start c .args .under) (start c .args .t) ≡ not (eqb (start c .args .dim) 2 && ltb 17 (start c .args .t))
+by c =
     simp (
-      stands-header (start .args .dim) (start .args .under) (start .args .t) (start .pre),
-      header-solid (start .args .t)
-          (start .pre),
-      lt-ltb _ _ (c .if3 .taken),
-      ne-eqb _ _ (c .before .if2 .left),
-      sym
-          (at-is-counted .is-counted .ensures),
-      c .before .before .if1 .left,
+      stands-header (start c .args .dim) (start c .args .under) (start c .args .t) (start c .pre),
+      header-solid (start c .args .t) (start c .pre),
+      ne-eqb _ _ (c .if2 .left),
+      sym (c .before .before .is-counted .ensures),
+      c .before .if1 .left,
       and-true,
     )
 
+returns-3 : tie.Need-returns-3
+returns-3 c = simp (by (c .before), lt-ltb _ _ (c .if3 .taken), and-true)
+
 returns-4 : tie.Need-returns-4
-returns-4 c =
-    let at-is-counted = c .before .before .before in
-    let start = at-is-counted .before in
-    simp (
-      stands-header (start .args .dim) (start .args .under) (start .args .t) (start .pre),
-      header-solid (start .args .t)
-          (start .pre),
-      le-ltb _ _ (c .if3 .left),
-      ne-eqb _ _ (c .before .if2 .left),
-      sym
-          (at-is-counted .is-counted .ensures),
-      c .before .before .if1 .left,
-      and-true,
-      and-false,
-    )
+returns-4 c = simp (by (c .before), le-ltb _ _ (c .if3 .left), and-false)
 
 pub header-stands-spec : {M : Type 1} → statement M
 header-stands-spec = tie.close (tie.spec is-counted-requires returns returns-2 returns-3 returns-4)

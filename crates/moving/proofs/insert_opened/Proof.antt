@@ -2,6 +2,7 @@
 -- without room for the record is 16, else the piece goes in and the record is pushed.
 use mathlib.Core.Path.{sym, _∙_}
 use lib.Seq.{length-take-le}
+use Rattle.words.specs.Words.{Below}
 use Rattle.words.proofs.Laws.{lent-below}
 use Rattle.opening.proofs.OpenSession.{used-within, jused-within}
 use Rattle.opening.proofs.Steps.{answered}
@@ -18,6 +19,16 @@ slice-aggregate-insert-fault c = sym (length-take-le _ _ (used-within ((c .befor
 
 insert-fault-requires : tie.Need-insert-fault-requires
 insert-fault-requires c κs = search needs
+
+abbrev start : tie.After-insert-fault → tie.Start
+start c = c .before .before .before .before .before
+
+-- the bytes of the file and of the piece
+below : (c : tie.After-insert-fault) → Below 256 (start c .args .file .now)
+below c = lent-below (start c .args .file .now) (c .before .before .before .before .slice-known .given)
+
+piece-below : (c : tie.After-insert-fault) → Below 256 (start c .args .piece .now)
+piece-below c = lent-below (start c .args .piece .now) (c .before .before .shared-slice-known .given)
 
 enum-known-number : tie.Need-enum-known-number
 enum-known-number c = search needs
@@ -39,13 +50,9 @@ same-length c = search needs
 returns : tie.Need-returns
 returns c =
     let at-insert-fault = c .before .before .before .before in
-    let at-shared-slice-known = at-insert-fault .before .before in
-    let at-slice-known = at-shared-slice-known .before .before in
-    let start = at-slice-known .before in
     answered (c .refused .ensures)
-    (insert-room _ _ _ _ _ _ _ (start .pre .0) (lent-below (start .args .file .now) (at-slice-known .slice-known .given))
-    _ (start .pre .1 .0) _ _ (lent-below (start .args .piece .now) (at-shared-slice-known .shared-slice-known .given))
-    (start .pre .1 .1)
+    (insert-room _ _ _ _ _ _ _ (start at-insert-fault .pre .0) (below at-insert-fault) _ (start at-insert-fault .pre .1 .0) _ _
+    (piece-below at-insert-fault) (start at-insert-fault .pre .1 .1)
     (fine-of _ (sym (at-insert-fault .insert-fault .ensures) ∙ (c .before .before .enum-told .given .1)))
     (c .before .if1 .taken))
 
@@ -64,13 +71,10 @@ returns-2 : tie.Need-returns-2
 returns-2 c =
     let at-enum-told = c .before .before .before in
     let at-insert-fault = at-enum-told .before .before in
-    let at-shared-slice-known = at-insert-fault .before .before in
-    let at-slice-known = at-shared-slice-known .before .before in
-    let start = at-slice-known .before in
     answered (c .refused2 .ensures)
-    (insert-full _ _ _ _ _ _ _ (start .pre .0) (lent-below (start .args .file .now) (at-slice-known .slice-known .given))
-    _ (start .pre .1 .0) _ _ (lent-below (start .args .piece .now) (at-shared-slice-known .shared-slice-known .given))
-    (start .pre .1 .1) (fine-of _ (sym (at-insert-fault .insert-fault .ensures) ∙ (at-enum-told .enum-told .given .1)))
+    (insert-full _ _ _ _ _ _ _ (start at-insert-fault .pre .0) (below at-insert-fault) _ (start at-insert-fault .pre .1 .0) _ _
+    (piece-below at-insert-fault) (start at-insert-fault .pre .1 .1)
+    (fine-of _ (sym (at-insert-fault .insert-fault .ensures) ∙ (at-enum-told .enum-told .given .1)))
     (c .before .before .if1 .left) (c .before .if2 .taken))
 
 header-number-requires : tie.Need-header-number-requires
@@ -100,12 +104,8 @@ same-length-3 c = search needs
 returns-3 : tie.Need-returns-3
 returns-3 c =
     let at-insert-fault = c .before .before .before in
-    let at-shared-slice-known = at-insert-fault .before .before in
-    let at-slice-known = at-shared-slice-known .before .before in
-    let start = at-slice-known .before in
-    insert-refused _ _ _ _ _ _ _ (start .pre .0)
-    (lent-below (start .args .file .now) (at-slice-known .slice-known .given)) _ (start .pre .1 .0) _ _
-    (lent-below (start .args .piece .now) (at-shared-slice-known .shared-slice-known .given)) (start .pre .1 .1) _ _
+    insert-refused _ _ _ _ _ _ _ (start at-insert-fault .pre .0) (below at-insert-fault) _ (start at-insert-fault .pre .1 .0) _ _
+    (piece-below at-insert-fault) (start at-insert-fault .pre .1 .1) _ _
     (refusal-of _ _ _ (sym (at-insert-fault .insert-fault .ensures) ∙ (c .before .number .given .1)))
 
 same-length-4 : tie.Need-same-length-4
@@ -122,12 +122,9 @@ returns-4 c =
     let at-if1 = at-if2 .before in
     let at-enum-told = at-if1 .before in
     let at-insert-fault = at-enum-told .before .before in
-    let at-shared-slice-known = at-insert-fault .before .before in
-    let at-slice-known = at-shared-slice-known .before .before in
-    let start = at-slice-known .before in
-    insert-done _ _ _ _ _ _ _ (start .pre .0) (lent-below (start .args .file .now) (at-slice-known .slice-known .given))
-    _ (start .pre .1 .0) _ _ (lent-below (start .args .piece .now) (at-shared-slice-known .shared-slice-known .given))
-    (start .pre .1 .1) (fine-of _ (sym (at-insert-fault .insert-fault .ensures) ∙ (at-enum-told .enum-told .given .1)))
+    insert-done _ _ _ _ _ _ _ (start at-insert-fault .pre .0) (below at-insert-fault) _ (start at-insert-fault .pre .1 .0) _ _
+    (piece-below at-insert-fault) (start at-insert-fault .pre .1 .1)
+    (fine-of _ (sym (at-insert-fault .insert-fault .ensures) ∙ (at-enum-told .enum-told .given .1)))
     (at-if1 .if1 .left) (at-if2 .if2 .left) _ _ _ (c .before .before .insert-piece .ensures)
     (at-header-number .header-number .ensures) (at-push .push .ensures)
 

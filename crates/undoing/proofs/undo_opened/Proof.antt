@@ -1,6 +1,8 @@
 -- An empty journal is 17 and a bad record 19; any other is the reversal of its kind, with the bounds that the record's words
 -- have (Reversals, the laws `read-`).
 use mathlib.Core.Path.{ap}
+use Prim.Native.Nat.{_+_, _*_, _≤_}
+use lib.ListN.{length}
 use native.Mathlib.Omega.{arith}
 use Rattle.undoing.specs.Undoing.{placeIn}
 use Rattle.undoing.proofs.Ways.{open-file}
@@ -63,30 +65,23 @@ undo-inserted-requires c κs =
     open-file (start .args .dim) (start .args .file .now) (start .args .used) (start .args .journal .now)
     (start .args .jused) _ _ _ (ap placeIn (c .before .before .last3 .given .1)) (start .pre .0)
 
+abbrev start4 : tie.After-last4 → tie.Start
+start4 c = c .before .before .before .before .before
+
+-- the words that were removed stand in the journal
+within : (c : tie.After-last4) → c .last4 .given .0 .1 .1 .1 .0 + 2 * c .last4 .given .0 .1 .1 .0 ≤ length (start4 c .args .journal .now)
+within c =
+    let at-if1 = c .before .before in
+    read-within _ _ _ _ _ (start4 c .pre .0 .ready) (at-if1 .if1 .left) _ (start4 c .pre .1 .1) _ _ _ _ (c .last4 .given .1)
+
 enum-known-last-4 : tie.Need-enum-known-last-4
 enum-known-last-4 c = search needs
 
 mul-undo-removed : tie.Need-mul-undo-removed
-mul-undo-removed c =
-    let at-if1 = c .before .before .before .before in
-    let start = at-if1 .before .before .before in
-    omega (
-      arith,
-      read-within _ _ _ _ _ (start .pre .0 .ready) (at-if1 .if1 .left) _ (start .pre .1 .1) _ _ _ _
-          (c .before .before .last4 .given .1),
-      journal-most (start .pre .0),
-    )
+mul-undo-removed c = omega (arith, within (c .before .before), journal-most (start4 (c .before .before) .pre .0))
 
 add-undo-removed : tie.Need-add-undo-removed
-add-undo-removed c =
-    let at-if1 = c .before .before .before .before in
-    let start = at-if1 .before .before .before in
-    omega (
-      arith,
-      read-within _ _ _ _ _ (start .pre .0 .ready) (at-if1 .if1 .left) _ (start .pre .1 .1) _ _ _ _
-          (c .before .before .last4 .given .1),
-      journal-most (start .pre .0),
-    )
+add-undo-removed c = omega (arith, within (c .before .before), journal-most (start4 (c .before .before) .pre .0))
 
 sub-undo-removed : tie.Need-sub-undo-removed
 sub-undo-removed c = search needs
@@ -95,11 +90,7 @@ part-undo-removed-start : tie.Need-part-undo-removed-start
 part-undo-removed-start c = search needs
 
 part-undo-removed-end : tie.Need-part-undo-removed-end
-part-undo-removed-end c =
-    let at-if1 = c .before .before .before .before in
-    let start = at-if1 .before .before .before in
-    read-within _ _ _ _ _ (start .pre .0 .ready) (at-if1 .if1 .left) _ (start .pre .1 .1) _ _ _ _
-    (c .before .before .last4 .given .1)
+part-undo-removed-end c = within (c .before .before)
 
 undo-removed-requires : tie.Need-undo-removed-requires
 undo-removed-requires c κs =

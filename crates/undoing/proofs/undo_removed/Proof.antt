@@ -3,6 +3,7 @@
 use mathlib.Core.Path.{sym, _∙_}
 use lib.Seq.{length-take-le}
 use borrow.Author.Tests.{not-true, not-false}
+use Rattle.words.specs.Words.{Below}
 use Rattle.words.proofs.Laws.{lent-below}
 use Rattle.undoing.proofs.Ways.{answered-back}
 use Rattle.undoing.proofs.Reversals.{out-refused, out-room, out-done}
@@ -19,6 +20,13 @@ slice-reshare-prefix-reversible c = search needs
 slice-aggregate-reversible : tie.Need-slice-aggregate-reversible
 slice-aggregate-reversible c = sym (length-take-le _ _ ((c .before .before .before .before .pre .0 .within)))
 
+abbrev start : tie.After-header-at → tie.Start
+start c = c .before .before .before
+
+-- the file's bytes
+below : (c : tie.After-header-at) → Below 256 (start c .args .file .now)
+below c = lent-below (start c .args .file .now) (c .before .before .slice-known .given)
+
 reversible-requires : tie.Need-reversible-requires
 reversible-requires c κs = search needs
 
@@ -31,11 +39,9 @@ same-length c = search needs
 returns : tie.Need-returns
 returns c =
     let at-header-at = c .before .before .before .before in
-    let at-slice-known = at-header-at .before .before in
-    let start = at-slice-known .before in
     answered-back (c .refused .ensures)
-    (out-refused _ _ _ _ _ (start .pre .0) (lent-below (start .args .file .now) (at-slice-known .slice-known .given)) _ _
-    (start .pre .1 .0) (start .args .header) (start .args .piece .now) (start .pre .1 .1) _
+    (out-refused _ _ _ _ _ (start at-header-at .pre .0) (below at-header-at) _ _ (start at-header-at .pre .1 .0)
+    (start at-header-at .args .header) (start at-header-at .args .piece .now) (start at-header-at .pre .1 .1) _
     (at-header-at .header-at .ensures)
     (sym (c .before .before .reversible .ensures) ∙ not-true _ (c .before .if1 .taken)))
 
@@ -52,11 +58,9 @@ returns-2 : tie.Need-returns-2
 returns-2 c =
     let at-reversible = c .before .before .before in
     let at-header-at = at-reversible .before .before in
-    let at-slice-known = at-header-at .before .before in
-    let start = at-slice-known .before in
     answered-back (c .refused2 .ensures)
-    (out-room _ _ _ _ _ (start .pre .0) (lent-below (start .args .file .now) (at-slice-known .slice-known .given)) _ _
-    (start .pre .1 .0) (start .args .header) (start .args .piece .now) (start .pre .1 .1) _
+    (out-room _ _ _ _ _ (start at-header-at .pre .0) (below at-header-at) _ _ (start at-header-at .pre .1 .0)
+    (start at-header-at .args .header) (start at-header-at .args .piece .now) (start at-header-at .pre .1 .1) _
     (at-header-at .header-at .ensures)
     (sym (at-reversible .reversible .ensures) ∙ not-false _ (c .before .before .if1 .left)) (c .before .if2 .taken))
 
@@ -72,14 +76,12 @@ same-length-3 c = search needs
 returns-3 : tie.Need-returns-3
 returns-3 c =
     let at-if2 = c .before .before .before .before in
-    let at-if1 = at-if2 .before in
-    let at-reversible = at-if1 .before in
+    let at-reversible = at-if2 .before .before in
     let at-header-at = at-reversible .before .before in
-    let at-slice-known = at-header-at .before .before in
-    let start = at-slice-known .before in
-    out-done _ _ _ _ _ (start .pre .0) (lent-below (start .args .file .now) (at-slice-known .slice-known .given)) _ _
-    (start .pre .1 .0) (start .args .header) (start .args .piece .now) (start .pre .1 .1) _
-    (at-header-at .header-at .ensures) (sym (at-reversible .reversible .ensures) ∙ not-false _ (at-if1 .if1 .left))
+    out-done _ _ _ _ _ (start at-header-at .pre .0) (below at-header-at) _ _ (start at-header-at .pre .1 .0)
+    (start at-header-at .args .header) (start at-header-at .args .piece .now) (start at-header-at .pre .1 .1) _
+    (at-header-at .header-at .ensures)
+    (sym (at-reversible .reversible .ensures) ∙ not-false _ (at-if2 .before .if1 .left))
     (at-if2 .if2 .left) _ (c .before .before .insert-piece .ensures)
 
 pub undo-removed-spec : {M : Type 1} → statement M

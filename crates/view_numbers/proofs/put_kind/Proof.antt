@@ -1,7 +1,7 @@
 -- Each part is put behind the one before it (`kind-put`).
 use native.Mathlib.Omega.{arith}
-use mathlib.Core.Path.{sym}
-use lib.ListN.{length-set}
+use mathlib.Core.Path.{_≡_, sym}
+use lib.ListN.{length, length-set}
 use Rattle.view_numbers.proofs.Laws.{kind-put}
 use borrow.Author.Needs.{needs}
 use Rattle.view_numbers.proofs.put_kind.Statement.{statement}
@@ -52,38 +52,33 @@ slice-aggregate-put-numbers-5 c = search needs
 put-numbers-requires-5 : tie.Need-put-numbers-requires-5
 put-numbers-requires-5 c κs = search needs
 
-slice-write-out : tie.Need-slice-write-out
-slice-write-out c =
-    let at-put-numbers4 = c .before .before .before .before .before .before .before .before in
+---- the slice keeps its length
+
+abbrev start : tie.After-put-numbers5 → tie.Start
+start c =
+    let at-put-numbers3 = c .before .before .before .before .before .before .before .before .before .before .before .before in
+    at-put-numbers3 .before .before .before .before .before .before .before .before .before .before .before .before .before .before .before .before .before
+
+same : (c : tie.After-put-numbers5) → length (c .put-numbers5 .last .0) ≡ length (start c .args .out .now)
+same c =
+    let at-put-numbers4 = c .before .before .before .before .before .before in
     let at-put-numbers3 = at-put-numbers4 .before .before .before .before .before .before in
     let at-put-numbers2 = at-put-numbers3 .before .before .before .before .before .before in
     let at-put-numbers = at-put-numbers2 .before .before .before .before .before .before in
-    let start = at-put-numbers .before .before .before .before .before in
     omega (
       arith,
       (at-put-numbers .put-numbers .kept),
       (at-put-numbers2 .put-numbers2 .kept),
       (at-put-numbers3 .put-numbers3 .kept),
       (at-put-numbers4 .put-numbers4 .kept),
-      (c .before .before .put-numbers5 .kept),
-      (start .pre),
+      (c .put-numbers5 .kept),
     )
 
+slice-write-out : tie.Need-slice-write-out
+slice-write-out c = omega (arith, same (c .before .before), start (c .before .before) .pre)
+
 same-length : tie.Need-same-length
-same-length c =
-    let at-put-numbers4 = c .before .before .before .before .before .before .before .before in
-    let at-put-numbers3 = at-put-numbers4 .before .before .before .before .before .before in
-    let at-put-numbers2 = at-put-numbers3 .before .before .before .before .before .before in
-    let at-put-numbers = at-put-numbers2 .before .before .before .before .before .before in
-    simp length-set
-    (omega (
-      arith,
-      (at-put-numbers .put-numbers .kept),
-      (at-put-numbers2 .put-numbers2 .kept),
-      (at-put-numbers3 .put-numbers3 .kept),
-      (at-put-numbers4 .put-numbers4 .kept),
-      (c .before .before .put-numbers5 .kept),
-    ))
+same-length c = simp length-set (omega (arith, same (c .before .before)))
 
 returns : tie.Need-returns
 returns c =

@@ -1,6 +1,6 @@
 -- The header, N, the points and the tail are laid one behind the other (`element-laid`).
-use Prim.Native.Nat.{_+_, _*_}
-use mathlib.Core.Path.{ap, _∙_}
+use Prim.Native.Nat.{_+_, _*_, _/_, _≤_}
+use mathlib.Core.Path.{_≡_, ap, _∙_}
 use mathlib.Core.List.{map}
 use native.Mathlib.Omega.{arith}
 use lib.ListN.{length}
@@ -17,14 +17,26 @@ use Rattle.writer.proofs.put_element.Tie as tie
 points-place-requires : tie.Need-points-place-requires
 points-place-requires c κs = search needs
 
+abbrev start : tie.After-points-place → tie.Start
+start c = c .before .before .before
+
+-- the points and the tail end at the element's size, which has room in the buffer
+room : (c : tie.After-points-place) →
+    (c .points-place .result + 2 * length (start c .args .points .now) + length (start c .args .tail .now) / 2 ≤ 65535)
+    × (2 * (c .points-place .result + 2 * length (start c .args .points .now) + length (start c .args .tail .now) / 2) ≤ length (start c .args .out .now))
+room c =
+    let w = writable (start c .pre) in
+    let e = points-end w (c .points-place .result) (c .points-place .ensures) in
+    (omega (arith, w .size), omega (arith, w .fits))
+
 mul-end : tie.Need-mul-end
 mul-end c = search needs
 
 add-end : tie.Need-add-end
-add-end c = let w = writable (c .before .before .before .pre) in omega (arith, points-end w (c .points-place .result) (c .points-place .ensures), w .size)
+add-end c = omega (arith, room c)
 
 add-size : tie.Need-add-size
-add-size c = let w = writable (c .before .before .before .pre) in omega (arith, points-end w (c .points-place .result) (c .points-place .ensures), w .size)
+add-size c = omega (arith, room c)
 
 put-header-requires : tie.Need-put-header-requires
 put-header-requires c κs =
@@ -45,37 +57,23 @@ put-count-requires c κs =
     let w = writable (start .pre) in
     (omega (arith, at-put-header .put-header .kept, count-room w .0, w .fits), omega (arith, count-room w .1))
 
+abbrev place : tie.After-put-count → tie.After-points-place
+place c = let at-put-header = c .before .before .before .before in at-put-header .before .before
+
+-- the buffer keeps its length
+kept : (c : tie.After-put-count) → length (c .put-count .last .0) ≡ length (start (place c) .args .out .now)
+kept c = omega (arith, c .before .before .before .before .put-header .kept, c .put-count .kept)
+
 put-points-requires : tie.Need-put-points-requires
 put-points-requires c κs =
     let at-put-count = c .before .before .before in
-    let at-put-header = at-put-count .before .before .before .before in
-    let at-points-place = at-put-header .before .before in
-    let start = at-points-place .before .before .before in
-    let w = writable (start .pre) in
-    omega (
-      arith,
-      points-end w (at-points-place .points-place .result) (at-points-place .points-place .ensures),
-      w .fits,
-      at-put-header .put-header .kept,
-      at-put-count .put-count .kept,
-    )
+    omega (arith, room (place at-put-count), kept at-put-count)
 
 put-tail-requires : tie.Need-put-tail-requires
 put-tail-requires c κs =
     let at-put-points = c .before .before .before in
     let at-put-count = at-put-points .before .before .before .before in
-    let at-put-header = at-put-count .before .before .before .before in
-    let at-points-place = at-put-header .before .before in
-    let start = at-points-place .before .before .before in
-    let w = writable (start .pre) in
-    omega (
-      arith,
-      points-end w (at-points-place .points-place .result) (at-points-place .points-place .ensures),
-      w .fits,
-      at-put-header .put-header .kept,
-      at-put-count .put-count .kept,
-      at-put-points .put-points .kept,
-    )
+    omega (arith, room (place at-put-count), kept at-put-count, at-put-points .put-points .kept)
 
 same-length : tie.Need-same-length
 same-length c = search needs
