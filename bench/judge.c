@@ -15,10 +15,11 @@ enum {
     LINKED = 8,    /* may have an attribute part */
     SOLID = 16,    /* in 3D files only */
     NOT_READ = 32,
+    LETTERED = 64, /* the fixed part's last word counts characters and fields, which follow it */
 };
 
-/* What the rules say of a type: the fixed part in 2D and 3D without its points, and where the name is, if any. Raw
- * types are all zeros. */
+/* What the rules say of a type: the fixed part in 2D and 3D without its points or characters, and where the name is, if
+ * any. Raw types are all zeros. */
 struct kind {
     uint8_t fixed[2];
     uint8_t flags;
@@ -35,7 +36,7 @@ static const struct kind kinds[128] = {
     [11] = {{19, 19}, POINTED | LINKED, 0},
     [12] = {{20, 20}, HEADER | COUNTED | LINKED, 0},
     [14] = {{20, 20}, HEADER | COUNTED | LINKED, 0},
-    [17] = {{18, 18}, LINKED, 0},
+    [17] = {{30, 38}, LINKED | LETTERED, 0},
     [18] = {{21, 21}, HEADER | COUNTED | LINKED | SOLID, 0},
     [19] = {{21, 21}, HEADER | COUNTED | LINKED | SOLID, 0},
     [21] = {{19, 19}, POINTED | LINKED, 0},
@@ -107,13 +108,37 @@ static bool linkages_fill(const uint8_t *p, size_t at, size_t size)
     return true;
 }
 
+/* Whether the enter-data fields of a text are right: `fields` of them, three bytes each, from p on. */
+static bool fields_right(const uint8_t *p, unsigned fields, unsigned characters)
+{
+    for (; fields > 0; fields--, p += 3) {
+        if (p[0] < 1 || p[0] > characters || p[0] + p[1] > characters + 1)
+            return false;
+        if (p[2] > 1 && p[2] != 255)
+            return false;
+    }
+    return true;
+}
+
 static inline bool letters(unsigned w)
 {
     return w < 64000 && w / 1600 != 29 && w / 40 % 40 != 29 && w % 40 != 29;
 }
 
+/* The fixed part of a text whose counts end its first `fixed` words, or 0 and the refusal. */
+static size_t lettered(struct judging *j, size_t at, size_t size, size_t fixed)
+{
+    const uint8_t *counts = j->file + 2 * (at + fixed - 1);
+    fixed += (counts[0] + 3 * (size_t)counts[1] + 1) / 2;
+    if (size < fixed)
+        return refuse(j, 7, at);
+    if (!fields_right(counts + 2 + counts[0], counts[1], counts[0]))
+        return refuse(j, 20, at);
+    return fixed;
+}
+
 /* The element at `at` with all beneath it: the end of its extent, or 0. */
-static size_t element(struct judging *j, size_t at, size_t bound, unsigned depth, unsigned under)
+static inline size_t element(struct judging *j, size_t at, size_t bound, unsigned depth, unsigned under)
 {
     const uint8_t *p = j->file + 2 * at;
     size_t left = bound - at;
@@ -144,6 +169,11 @@ static size_t element(struct judging *j, size_t at, size_t bound, unsigned depth
         fixed += 2 * j->dim * n;
         if (n < 2 || n > 101 || size < fixed)
             return refuse(j, 7, at);
+    }
+    if (k->flags & LETTERED) {
+        fixed = lettered(j, at, size, fixed);
+        if (fixed == 0)
+            return 0;
     }
     if (size > LARGEST)
         return refuse(j, 8, at);

@@ -1,4 +1,4 @@
-/* All views and all points of a file in plain C, for the bench alone: judges once by plain_judge and then goes from
+/* All views, points and texts of a file in plain C, for the bench alone: judges once by plain_judge and then goes from
  * element to element and fills in the numbers of include/dgn.h, written from the rules. From an element number on, and as
  * many as there is room for. It promises nothing beyond what the bench compares. */
 #include <stdbool.h>
@@ -160,5 +160,52 @@ size_t plain_points(const uint8_t *file, size_t len, size_t dim, size_t k, int64
     }
     out[0] = e > k ? e : k;
     out[1] = used;
+    return 0;
+}
+
+/* The texts from element number k on, 18 numbers each, out the next element number and how many texts; or the number of a
+ * refusal, and nothing is written. */
+size_t plain_texts(const uint8_t *file, size_t len, size_t dim, size_t k, int64_t *numbers, size_t room, size_t *out)
+{
+    size_t judged[3];
+    size_t number = plain_judge(file, len, dim, judged);
+    if (number != 0)
+        return number;
+    const size_t turns = dim == 2 ? 1 : 4, origin = 23 + 2 * turns, counts = origin + 2 * dim;
+    struct walk w = {.at = 0};
+    size_t n = 0, e = 0;
+    for (; e < judged[0]; e++) {
+        const uint8_t *p = file + 2 * w.at;
+        unsigned first = word(p, 0), type = first >> 8 & 127;
+        if (e >= k && type == 17) {
+            if (room < 18 * (n + 1)) {
+                if (n == 0)
+                    return 15;
+                break;
+            }
+            int64_t *v = numbers + 18 * n++;
+            unsigned c = p[2 * counts], f = p[2 * counts + 1];
+            v[0] = (int64_t)w.at;
+            v[1] = first >> 15;
+            v[2] = (int64_t)w.depth;
+            v[3] = p[36];
+            v[4] = p[37];
+            v[5] = whole(p, 19);
+            v[6] = whole(p, 21);
+            v[8] = v[9] = v[10] = 0;
+            for (size_t i = 0; i < turns; i++)
+                v[7 + i] = whole(p, 23 + 2 * i);
+            v[13] = 0;
+            for (size_t i = 0; i < dim; i++)
+                v[11 + i] = (int32_t)whole(p, origin + 2 * i);
+            v[14] = c;
+            v[15] = f;
+            v[16] = (c + 3 * f) % 2 == 1 ? p[2 * counts + 2 + c + 3 * f] : -1;
+            v[17] = (int64_t)(2 * (w.at + counts + 1));
+        }
+        step(file, &w, type, word(p, 1) + 2);
+    }
+    out[0] = e > k ? e : k;
+    out[1] = n;
     return 0;
 }

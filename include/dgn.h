@@ -25,14 +25,14 @@
  *   file order   an element, then its components, then what follows its extent. Elements are numbered so, from 0, at
  *                all depths and deleted ones too
  *   end marker   the word 65535 where the next element at the top is due. What stands behind it is no part of the file
- *   the file's own refusals   2 to 12, of the first fault in the file
- *   a piece's own refusals    3 to 12, of the first fault in the piece that is to be inserted; the place counts from
- *                             the piece's start
+ *   the file's own refusals   2 to 12 and 20, of the first fault in the file
+ *   a piece's own refusals    3 to 12 and 20, of the first fault in the piece that is to be inserted; the place counts
+ *                             from the piece's start
  *
  * Cost. Each call that is handed a file judges all of it: one pass, on the machine of docs/BENCH.md below a millisecond
- * for 1 MiB. To read all elements use dgn_views and dgn_points, which make one pass for many elements; dgn_view and
- * dgn_point make one for each. With room for DGN_FILE_ELEMENTS views and for DGN_FILE_NUMBERS numbers one call of each
- * reads any file. Nothing is allocated, and 256 KiB of stack are enough.
+ * for 1 MiB. To read all elements use dgn_views, dgn_points and dgn_texts, which make one pass for many elements; dgn_view,
+ * dgn_point and dgn_text make one for each. With room for DGN_FILE_ELEMENTS views, DGN_FILE_NUMBERS numbers of points and
+ * DGN_FILE_TEXTS texts one call of each reads any file. Nothing is allocated, and 256 KiB of stack are enough.
  *
  * Threads. The library keeps no state: calls may be made from any threads at once, on separate buffers. A buffer that a
  * call writes to is no other thread's until it returns.
@@ -59,20 +59,24 @@ extern "C" {
 #define DGN_COUNT(r) (DGN_NUMBER(r) == 13 ? (r) >> 8 : 0)
 
 /* Limits: bytes of a file, piece or buffer of a session; elements of a file, each of two words or more; numbers that
- * dgn_points writes of a file, at most one for two of its words; words of an extent; depth; points of an element. */
+ * dgn_points writes of a file, at most one for two of its words; texts of a file, each of 30 words or more; words of an
+ * extent; depth; points of an element; characters, and enter-data fields, of a text. */
 #define DGN_FILE_BYTES 1048576
 #define DGN_FILE_ELEMENTS 262143
 #define DGN_FILE_NUMBERS 262144
+#define DGN_FILE_TEXTS 17476
 #define DGN_EXTENT_WORDS 65535
 #define DGN_DEEPEST 8
 #define DGN_MOST_POINTS 101
+#define DGN_MOST_CHARACTERS 255
+#define DGN_MOST_FIELDS 255
 
 /* The end marker. */
 #define DGN_END_MARKER 65535
 
 /* ---- refusals ---- */
 
-/* 2 to 12 are of a file, a piece or what is handed to the writer, 14 and 16 to 19 of editing. The names of 5 and 9 are
+/* 2 to 12 and 20 are of a file, a piece or what is handed to a writer, 14 and 16 to 19 of editing. The names of 5 and 9 are
  * PLACE and COUNT; DGN_PLACE and DGN_COUNT take an answer apart. */
 enum dgn_refusal {
     DGN_DONE = 0,
@@ -81,20 +85,21 @@ enum dgn_refusal {
     DGN_CUT = 3,          /* an element or piece is cut off, or words are left over after a piece */
     DGN_RESERVED = 4,     /* bit 6 of an element's first word is set */
     DGN_WRONG_PLACE = 5,  /* the component bit is set at the top or clear beneath a header */
-    DGN_KIND = 6,         /* the type may not stand there, or is not read */
+    DGN_KIND = 6,         /* the type may not stand there, or is not read; the element is no text */
     DGN_SHORT = 7,        /* an element is below its fixed part, or its number of points is not 2 to 101 */
     DGN_TOTAL = 8,        /* a total does not fit its element or what is around it, or more than 65,535 words */
     DGN_WRONG_COUNT = 9,  /* a header's count differs from its components */
     DGN_DEEP = 10,        /* nesting above depth 8 */
     DGN_LINKAGE = 11,     /* an attribute part is wrong */
     DGN_NAME = 12,        /* a stored name or a text is wrong */
-    DGN_NO_SUCH = 13,     /* place, point, linkage or name not there */
+    DGN_NO_SUCH = 13,     /* place, point, linkage, field or name not there */
     DGN_ALREADY = 14,     /* the deleted flag is already as wanted */
     DGN_ROOM = 15,        /* an output or file buffer is too small */
     DGN_JOURNAL = 16,     /* too few free journal words */
     DGN_NOTHING = 17,     /* the journal is empty */
     DGN_NOT_A_CELL = 18,  /* rename of another type */
-    DGN_BAD_JOURNAL = 19  /* the last record is ill-formed, or may not be reversed in this file */
+    DGN_BAD_JOURNAL = 19, /* the last record is ill-formed, or may not be reversed in this file */
+    DGN_FIELD = 20        /* an enter-data field of a text is wrong */
 };
 
 /* The name of a refusal, as "NO END", and a plain sentence on it. r is its number or all that a function returned; 0 is
@@ -121,7 +126,7 @@ enum dgn_type {
 };
 
 /* Judges a whole file. out needs 3: how many elements it has, the greatest depth, the end marker's place.
- * Refusals: 1 to 12. */
+ * Refusals: 1 to 12, 20. */
 enum { DGN_JUDGE_ELEMENTS, DGN_JUDGE_DEPTH, DGN_JUDGE_MARKER };
 #define DGN_JUDGE_NUMBERS 3
 size_t dgn_judge(const uint8_t *file, size_t len, size_t dimension, size_t *out, size_t out_len);
@@ -132,7 +137,7 @@ enum { DGN_FIND_PLACE, DGN_FIND_LOOKED };
 #define DGN_FIND_NUMBERS 2
 size_t dgn_find(const uint8_t *file, size_t len, size_t dimension, const uint8_t *text, size_t text_len, size_t *out, size_t out_len);
 
-/* ---- all elements: those number k, k+1, .. in file order. Refusals of both: 1, the file's own, 15 ---- */
+/* ---- all elements: those number k, k+1, .. in file order. Refusals of each: 1, the file's own, 15 ---- */
 
 /* A view of an element is 32 numbers. Those of a part that it does not have are all 0. */
 enum dgn_view_index {
@@ -188,6 +193,19 @@ enum { DGN_POINTS_NEXT, DGN_POINTS_WRITTEN };
 #define DGN_POINTS_ROOM 305
 size_t dgn_points(const uint8_t *file, size_t len, size_t dimension, size_t k, int64_t *numbers, size_t numbers_len, size_t *out, size_t out_len);
 
+/* The texts (type 17) among the elements number k, k+1, .. Each gives 18 numbers: these three, then the 15 of dgn_text; as
+ * many texts as `numbers` holds whole, and what stands behind them stays. out needs 2: the number of the element to go on
+ * with, as for dgn_points, and how many texts. 15 where one is left and `numbers` has fewer than 18. */
+enum dgn_texts_index {
+    DGN_TEXTS_PLACE = 0,
+    DGN_TEXTS_DELETED = 1,
+    DGN_TEXTS_DEPTH = 2,
+    DGN_TEXTS_TEXT = 3            /* the first of the 15 */
+};
+enum { DGN_TEXTS_NEXT, DGN_TEXTS_COUNT };
+#define DGN_TEXTS_NUMBERS 18
+size_t dgn_texts(const uint8_t *file, size_t len, size_t dimension, size_t k, int64_t *numbers, size_t numbers_len, size_t *out, size_t out_len);
+
 /* ---- one element: the one that starts at `place`. Refusals of each: 1, the file's own, 13 ---- */
 
 /* Its extent. out needs 2: its first word and the word after its last. */
@@ -208,6 +226,42 @@ enum { DGN_LINKAGE_USER, DGN_LINKAGE_PLACE, DGN_LINKAGE_SIZE, DGN_LINKAGE_ID };
 #define DGN_LINKAGE_NUMBERS 4
 size_t dgn_linkage(const uint8_t *file, size_t len, size_t dimension, size_t place, size_t k, size_t *out, size_t out_len);
 
+/* ---- a text: the element of type 17 that starts at `place`. Refusals of each: 1, the file's own, 13, 6 at the place of an
+ * element of another type ---- */
+
+/* The numbers of a text. Multipliers and turn are unsigned longs as stored: the height multiplier of a mirrored text is
+ * above 2147483647. */
+enum dgn_text_index {
+    DGN_TEXT_FONT = 0,
+    DGN_TEXT_JUSTIFICATION = 1,
+    DGN_TEXT_LENGTH = 2,          /* length multiplier */
+    DGN_TEXT_HEIGHT = 3,          /* height multiplier */
+    DGN_TEXT_TURN = 4,            /* 2D: the rotation, then three zeros; 3D: the four longs of the quaternion */
+    DGN_TEXT_X = 8,
+    DGN_TEXT_Y = 9,
+    DGN_TEXT_Z = 10,              /* 0 in a 2D file */
+    DGN_TEXT_CHARACTERS = 11,     /* how many */
+    DGN_TEXT_FIELDS = 12,         /* how many */
+    DGN_TEXT_ODD = 13,            /* the byte behind characters and fields where they have an odd number of bytes, else -1 */
+    DGN_TEXT_START = 14           /* the byte of the file where the characters begin */
+};
+#define DGN_TEXT_NUMBERS 15
+
+/* All its numbers. out needs 15. */
+size_t dgn_text(const uint8_t *file, size_t len, size_t dimension, size_t place, int64_t *out, size_t out_len);
+
+/* Its characters: bytes of any value, not ended by a zero. out needs 2: the byte of the file where they begin, and how many
+ * they are, 0 to 255. */
+enum { DGN_CHARACTERS_START, DGN_CHARACTERS_COUNT };
+#define DGN_CHARACTERS_NUMBERS 2
+size_t dgn_characters(const uint8_t *file, size_t len, size_t dimension, size_t place, size_t *out, size_t out_len);
+
+/* Enter-data field k, from 0. out needs 3: its first character, counted from 1, how many it has, its justification -1, 0 or
+ * 1. Last of all 13 where there is none. */
+enum { DGN_FIELD_FIRST, DGN_FIELD_COUNT, DGN_FIELD_JUSTIFICATION };
+#define DGN_FIELD_NUMBERS 3
+size_t dgn_field(const uint8_t *file, size_t len, size_t dimension, size_t place, size_t k, int64_t *out, size_t out_len);
+
 /* ---- names ---- */
 
 /* A text of 0 to 6 letters (space, A-Z, $, ., 0-9, no trailing space) to two words. out needs 2. Refusals: 1, 12. */
@@ -224,7 +278,7 @@ size_t dgn_unpack(size_t first, size_t second, uint8_t *text, size_t text_len);
 
 /* The fields of an element to write: all words and longs as stored, so the range unsigned. */
 enum dgn_write_index {
-    DGN_WRITE_TYPE = 0,           /* 3, 4, 6 or 11 */
+    DGN_WRITE_TYPE = 0,           /* 3, 4, 6 or 11; of dgn_write_text 17 */
     DGN_WRITE_LEVEL = 1,          /* to 63 */
     DGN_WRITE_COMPONENT = 2,      /* C: 1 for one that is to stand beneath a header, else 0 */
     DGN_WRITE_DELETED = 3,        /* 0 or 1 */
@@ -252,6 +306,34 @@ enum dgn_write_index {
  * Refusals, in this order, each at place 0: 1 (also fields of another number than 16, another type, not two points for
  * type 3, not a whole number of points, an odd tail), 7 (points not 2 to 101), 8 (above 65,535 words), 11, 15. */
 size_t dgn_write(const size_t *fields, size_t fields_len, const int32_t *points, size_t points_len, const uint8_t *tail, size_t tail_len, size_t dimension, uint8_t *buffer, size_t buffer_len, size_t *out, size_t out_len);
+
+/* The numbers of a text to write. Multipliers and turn are unsigned longs, the origin signed ones. */
+enum dgn_write_text_index {
+    DGN_WRITE_TEXT_FONT = 0,      /* to 255 */
+    DGN_WRITE_TEXT_JUSTIFICATION = 1, /* to 255 */
+    DGN_WRITE_TEXT_LENGTH = 2,    /* length multiplier */
+    DGN_WRITE_TEXT_HEIGHT = 3,    /* height multiplier */
+    DGN_WRITE_TEXT_TURN = 4,      /* 2D: the rotation, then three zeros; 3D: the four longs of the quaternion */
+    DGN_WRITE_TEXT_X = 8,
+    DGN_WRITE_TEXT_Y = 9,
+    DGN_WRITE_TEXT_Z = 10,        /* 0 in 2D */
+    DGN_WRITE_TEXT_ODD = 11       /* the byte behind characters and fields where they have an odd number of bytes; else -1 or 0 */
+};
+#define DGN_WRITE_TEXT_NUMBERS 12
+
+/* Writes a text to the front of `buffer`, whose bytes behind it stay. out needs 1: how many words were written. Size and
+ * counts follow from the rest.
+ *   fields      the 16 numbers of dgn_write
+ *   text        the 12 numbers above
+ *   characters  0 to 255 bytes of any value
+ *   triples     the enter-data fields, 0 to 255, three bytes each: first character, counted from 1, how many, and the
+ *               justification 0, 1, or 255 for -1
+ *   tail        all words after the fixed part, as bytes; that has 30 words (3D: 38) and half the bytes of characters and
+ *               triples, rounded up
+ * Refusals, in this order, each at place 0: 1 (also lists of other lengths, a number out of its range, another type than 17,
+ * in 2D a z or one of the last three longs of the turn other than 0, an odd byte where there is none, an odd tail), 20, 8
+ * (above 65,535 words), 11, 15. */
+size_t dgn_write_text(const size_t *fields, size_t fields_len, const int64_t *text, size_t text_len, const uint8_t *characters, size_t characters_len, const uint8_t *triples, size_t triples_len, const uint8_t *tail, size_t tail_len, size_t dimension, uint8_t *buffer, size_t buffer_len, size_t *out, size_t out_len);
 
 /* ---- editing (dgn_session.h has the same calls with the buffers and used lengths in a struct) ----
  *

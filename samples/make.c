@@ -1,8 +1,8 @@
 /* Makes the sample files in a folder:
  *   make FOLDER
- * Lines, line strings, shapes and curves are made by dgn_write, the headers of cells here, word by word as docs/RULES.md
- * says; their ranges and the words that it does not name are 0. Each file is judged before it is written: where an
- * answer is not the expected one, the program says so and ends with status 1.
+ * Lines, line strings, shapes and curves are made by dgn_write, texts by dgn_write_text, the headers of cells and text nodes
+ * here, word by word as docs/RULES.md says; their ranges and the words that it does not name are 0. Each file is judged
+ * before it is written: where an answer is not the expected one, the program says so and ends with status 1.
  */
 #include <stdio.h>
 #include <stdlib.h>
@@ -12,7 +12,7 @@
 
 static uint8_t file[65536];
 static size_t used;  /* words of it that are made */
-static size_t depth; /* cells that are begun and not ended */
+static size_t depth; /* headers that are begun and not ended */
 
 static void stop(const char *what)
 {
@@ -26,18 +26,17 @@ static void put(size_t i, size_t word)
     file[2 * i + 1] = word >> 8;
 }
 
-/* Writes an element behind the last one. A linkage is the tail; its bit A and its place go into the fields. */
-static void draw(size_t type, size_t deleted, const int32_t *points, size_t n, const uint8_t *tail, size_t tail_len)
+/* The fields of an element behind the last one, whose linkages would begin behind so many words. The range is that of the
+ * points, unsigned numbers, each coordinate raised by 2147483648; z is 0. */
+static void fields_of(size_t *fields, size_t type, size_t deleted, const int32_t *points, size_t n, size_t fixed, size_t linked)
 {
-    /* the range: unsigned numbers, each coordinate raised by 2147483648; z is 0 */
     size_t range[6] = {4294967295, 4294967295, 2147483648, 0, 0, 2147483648};
     for (size_t k = 0; k < n; k++) {
         size_t v = (size_t)((int64_t)points[k] + 2147483648);
         if (v < range[k % 2]) range[k % 2] = v;
         if (v > range[3 + k % 2]) range[3 + k % 2] = v;
     }
-    size_t fixed = type == DGN_LINE ? 26 : 19 + 2 * n;
-    const size_t fields[DGN_WRITE_FIELDS] = {
+    const size_t these[DGN_WRITE_FIELDS] = {
         [DGN_WRITE_TYPE] = type,
         [DGN_WRITE_LEVEL] = 1,
         [DGN_WRITE_COMPONENT] = depth > 0,
@@ -49,11 +48,18 @@ static void draw(size_t type, size_t deleted, const int32_t *points, size_t n, c
         [DGN_WRITE_HIGH_Y] = range[4],
         [DGN_WRITE_HIGH_Z] = range[5],
         [DGN_WRITE_ATTRIBUTE_INDEX] = fixed - 16,
-        [DGN_WRITE_PROPERTIES] = tail_len > 0 ? DGN_HAS_ATTRIBUTES : 0,
+        [DGN_WRITE_PROPERTIES] = linked,
         [DGN_WRITE_WEIGHT] = 1,
         [DGN_WRITE_COLOUR] = 3,
     };
-    size_t out[1];
+    memcpy(fields, these, sizeof these);
+}
+
+/* Writes an element behind the last one. A linkage is the tail; its bit A and its place go into the fields. */
+static void draw(size_t type, size_t deleted, const int32_t *points, size_t n, const uint8_t *tail, size_t tail_len)
+{
+    size_t fields[DGN_WRITE_FIELDS], out[1];
+    fields_of(fields, type, deleted, points, n, type == DGN_LINE ? 26 : 19 + 2 * n, tail_len > 0 ? DGN_HAS_ATTRIBUTES : 0);
     if (dgn_write(fields, DGN_WRITE_FIELDS, points, n, tail, tail_len, 2, file + 2 * used, sizeof file - 2 * used, out, 1) != 0)
         stop("an element is not written");
     used += out[0];
@@ -64,22 +70,62 @@ static void draw(size_t type, size_t deleted, const int32_t *points, size_t n, c
 #define DRAW(type, ...) draw(type, 0, POINTS(__VA_ARGS__), NULL, 0)
 #define DELETED(type, ...) draw(type, 1, POINTS(__VA_ARGS__), NULL, 0)
 
-/* Begins a cell: its header. What is drawn until it is ended stands under it. */
-static size_t begin(size_t type, const char *name)
+/* Begins a header of some words. What is drawn until it is ended stands under it. */
+static size_t header(size_t type, size_t size)
 {
-    size_t at = used, size = type == DGN_LIBRARY_CELL ? 35 : 46, name_at = type == DGN_LIBRARY_CELL ? 16 : 19, out[2];
-    if (dgn_pack((const uint8_t *)name, strlen(name), out, 2) != 0) stop("a name is not packed");
+    size_t at = used;
     memset(file + 2 * at, 0, 2 * size);
     put(at, type << 8 | (depth > 0 ? 128 : 0));
     put(at + 1, size - 2);
-    put(at + name_at, out[0]);
-    put(at + name_at + 1, out[1]);
     used += size;
     depth++;
     return at;
 }
 
-/* Ends the cell that began at a place: its total is all words after word 18. */
+/* Begins a cell. */
+static size_t begin(size_t type, const char *name)
+{
+    size_t name_at = type == DGN_LIBRARY_CELL ? 16 : 19, out[2];
+    if (dgn_pack((const uint8_t *)name, strlen(name), out, 2) != 0) stop("a name is not packed");
+    size_t at = header(type, type == DGN_LIBRARY_CELL ? 35 : 46);
+    put(at + name_at, out[0]);
+    put(at + name_at + 1, out[1]);
+    return at;
+}
+
+/* Begins a text node of n texts. */
+static size_t begin_node(size_t n)
+{
+    size_t at = header(DGN_TEXT_NODE, 35);
+    put(at + 19, n);
+    return at;
+}
+
+/* Writes a text behind the last element, of n characters in font 3, 12 units wide and high, from a point to the right. The
+ * fields are three bytes each. */
+static void letter(size_t deleted, int32_t x, int32_t y, const char *characters, size_t n, const uint8_t *triples, size_t triples_len)
+{
+    const int32_t corners[4] = {x, y, x + 12 * (int32_t)n, y + 12};
+    const int64_t text[DGN_WRITE_TEXT_NUMBERS] = {
+        [DGN_WRITE_TEXT_FONT] = 3,
+        [DGN_WRITE_TEXT_JUSTIFICATION] = 2, /* left, bottom */
+        [DGN_WRITE_TEXT_LENGTH] = 2000,
+        [DGN_WRITE_TEXT_HEIGHT] = 2000,
+        [DGN_WRITE_TEXT_X] = x,
+        [DGN_WRITE_TEXT_Y] = y,
+    };
+    size_t fields[DGN_WRITE_FIELDS], out[1];
+    fields_of(fields, DGN_TEXT, deleted, corners, 4, 30 + (n + triples_len + 1) / 2, 0);
+    if (dgn_write_text(fields, DGN_WRITE_FIELDS, text, DGN_WRITE_TEXT_NUMBERS, (const uint8_t *)characters, n, triples, triples_len, NULL, 0, 2,
+                       file + 2 * used, sizeof file - 2 * used, out, 1) != 0)
+        stop("a text is not written");
+    used += out[0];
+}
+
+/* A text of the characters of a literal. */
+#define TEXT(deleted, x, y, characters) letter(deleted, x, y, characters, sizeof(characters) - 1, NULL, 0)
+
+/* Ends the header that began at a place: its total is all words after word 18. */
 static void end(size_t at)
 {
     put(at + 18, used - at - 19);
@@ -178,6 +224,29 @@ static void nested(const char *folder)
     keep(folder, "nested.dgn", 0, 9, 3, 345);
 }
 
+/* A plate: the seal 00417 as a cell with two texts, one of them deleted; a text node of three texts, in one of which a byte
+ * does not print and in one of which a backslash stands; a text with a field to be filled in; an empty text. */
+static void plate(const char *folder)
+{
+    static const uint8_t pieces[3] = {6, 3, 255}; /* from the sixth character on, three; justification -1 */
+
+    used = 0;
+    size_t seal = begin(DGN_CELL, "00417");
+    DRAW(DGN_SHAPE, -40, -40, 40, -40, 40, 40, -40, 40, -40, -40);
+    TEXT(0, -30, -60, "00417");
+    TEXT(1, -30, -80, "417");
+    end(seal);
+    size_t node = begin_node(3);
+    TEXT(0, 100, 40, "SHAFT SEAL");
+    TEXT(0, 100, 20, "\330 40 x 52");
+    TEXT(0, 100, 0, "NBR\\FKM");
+    end(node);
+    letter(0, 100, -40, "PCS: ___", 8, pieces, sizeof pieces);
+    TEXT(0, 100, -60, "");
+    marker();
+    keep(folder, "plate.dgn", 0, 10, 1, 355);
+}
+
 static void empty(const char *folder)
 {
     used = 0;
@@ -194,6 +263,7 @@ int main(int argc, char **argv)
     seals(argv[1]);
     shortened(argv[1]);
     nested(argv[1]);
+    plate(argv[1]);
     empty(argv[1]);
     return 0;
 }

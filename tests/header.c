@@ -128,6 +128,88 @@ static void reading(void)
     check(refused(dgn_linkage(file, len, 2, 46, 0, fresh(), 4), DGN_NO_SUCH, 0), "no linkage");
 }
 
+/* a 2D text of 35 words: font 3, justification 7, six characters, a field of the last two with justification -1, and an odd
+ * byte; then the end marker. The height multiplier is above 2147483647, and the origin is (-2, 5). */
+static uint8_t plate[72];
+#define PLATE 3, 7, 1000, 4294901761, 65538, 0, 0, 0, -2, 5, 0, 6, 1, 42, 60
+
+/* its words, as they are stored, and its last byte */
+static int is_plate(const uint8_t *at)
+{
+    static const unsigned words[30] = {17 << 8, 33, 0, 0, 0, 0, 0, 0, 0, 0, 0, 0, 0, 0, 0, 0, 0, 0, 3 | 7 << 8, 0, 1000, 65535, 1, 1, 2, 65535, 65534, 0, 5, 6 | 1 << 8};
+    for (size_t i = 0; i < 30; i++)
+        if (at[2 * i] != (words[i] & 255) || at[2 * i + 1] != words[i] >> 8)
+            return 0;
+    return memcmp(at + 60, "SEAL 7\5\2\377\52", 10) == 0;
+}
+
+static void writing_text(void)
+{
+    static const size_t fields[DGN_WRITE_FIELDS] = {DGN_TEXT};
+    static const int64_t of[DGN_WRITE_TEXT_NUMBERS] = {3, 7, 1000, 4294901761, 65538, 0, 0, 0, -2, 5, 0, 42};
+    static const size_t line[DGN_WRITE_FIELDS] = {DGN_LINE};
+    static const uint8_t triple[3] = {5, 2, 255}, past[3] = {5, 3, 255};
+    static uint8_t tail[131010];
+    static const size_t linked[DGN_WRITE_FIELDS] = {DGN_TEXT, 0, 0, 0, 0, 0, 0, 0, 0, 0, 0, 19, DGN_HAS_ATTRIBUTES};
+    int64_t other[DGN_WRITE_TEXT_NUMBERS];
+#define WRITE_TEXT(fields, of, triple, tail, tail_len, room, out_len) \
+    dgn_write_text(fields, 16, of, 12, TEXT("SEAL 7"), triple, 3, tail, tail_len, 2, plate, room, fresh(), out_len)
+    memset(plate, 255, sizeof plate);
+    check(refused(WRITE_TEXT(fields, of, triple, NULL, 0, 69, 1), DGN_ROOM, 0), "no room for a text");
+    check(refused(WRITE_TEXT(fields, of, triple, NULL, 0, 72, 0), DGN_CALL, 0), "no out for a text");
+    check(refused(WRITE_TEXT(line, of, triple, NULL, 0, 72, 1), DGN_CALL, 0), "a text of type 3");
+    check(refused(WRITE_TEXT(fields, of, triple, tail, 1, 72, 1), DGN_CALL, 0), "an odd tail");
+    check(refused(WRITE_TEXT(fields, of, past, tail, 131010, 72, 1), DGN_FIELD, 0), "a field past the characters, before 8");
+    check(refused(WRITE_TEXT(fields, of, triple, tail, 131002, 72, 1), DGN_TOTAL, 0), "65,536 words, before 15");
+    check(refused(WRITE_TEXT(linked, of, triple, tail, 2, 72, 1), DGN_LINKAGE, 0), "a wrong linkage");
+    memcpy(other, of, sizeof other);
+    other[DGN_WRITE_TEXT_Z] = 1;
+    check(refused(WRITE_TEXT(fields, other, triple, NULL, 0, 72, 1), DGN_CALL, 0), "z in 2D");
+    other[DGN_WRITE_TEXT_Z] = 0;
+    other[DGN_WRITE_TEXT_HEIGHT] = -1;
+    check(refused(WRITE_TEXT(fields, other, triple, NULL, 0, 72, 1), DGN_CALL, 0), "a multiplier below 0");
+    check(refused(dgn_write_text(fields, 16, of, 11, TEXT("SEAL 7"), triple, 3, NULL, 0, 2, plate, 72, fresh(), 1), DGN_CALL, 0), "11 numbers");
+    check(refused(dgn_write_text(fields, 15, of, 12, TEXT("SEAL 7"), triple, 3, NULL, 0, 2, plate, 72, fresh(), 1), DGN_CALL, 0), "15 fields");
+    check(refused(dgn_write_text(fields, 16, of, 12, tail, 256, triple, 3, NULL, 0, 2, plate, 72, fresh(), 1), DGN_CALL, 0), "256 characters");
+    check(refused(dgn_write_text(fields, 16, of, 12, TEXT("SEAL 7"), triple, 2, NULL, 0, 2, plate, 72, fresh(), 1), DGN_CALL, 0), "two thirds of a field");
+    check(refused(dgn_write_text(fields, 16, of, 12, TEXT("SEAL 7"), NULL, 0, NULL, 0, 2, plate, 72, fresh(), 1), DGN_CALL, 0), "an odd byte where there is none");
+    check(plate[0] == 255 && plate[1] == 255, "a refusal leaves the buffer");
+    check(WRITE_TEXT(fields, of, triple, NULL, 0, 72, 1) == 0 && ARE(35), "write a text");
+    check(is_plate(plate) && plate[70] == 255 && plate[71] == 255, "its bytes, and those behind it");
+}
+
+static void text(void)
+{
+    const size_t size = sizeof plate;
+    fresh();
+    check(dgn_text(plate, size, 2, 0, fresh_numbers(), 15) == 0 && NUMBERS_ARE(PLATE), "text");
+    check(refused(dgn_text(plate, size, 2, 0, fresh_numbers(), 14), DGN_CALL, 0), "14 numbers for a text");
+    check(refused(dgn_text(plate, size, 2, 1, fresh_numbers(), 15), DGN_NO_SUCH, 0), "no text at 1");
+    check(refused(dgn_text(file, len, 2, 46, fresh_numbers(), 15), DGN_KIND, 46), "a line is no text");
+    check(refused(dgn_text(plate, size, 3, 0, fresh_numbers(), 15), DGN_SHORT, 0), "too short for 3D");
+    check(dgn_characters(plate, size, 2, 0, fresh(), 2) == 0 && ARE(60, 6), "characters");
+    check(refused(dgn_characters(plate, size, 2, 0, fresh(), 1), DGN_CALL, 0), "one number for characters");
+    check(refused(dgn_characters(file, len, 2, 0, fresh(), 2), DGN_KIND, 0), "a cell is no text");
+    fresh();
+    check(dgn_field(plate, size, 2, 0, 0, fresh_numbers(), 3) == 0 && NUMBERS_ARE(5, 2, -1), "field 0");
+    check(refused(dgn_field(plate, size, 2, 0, 1, fresh_numbers(), 3), DGN_NO_SUCH, 0), "no field 1");
+    check(refused(dgn_field(plate, size, 2, 0, 0, fresh_numbers(), 2), DGN_CALL, 0), "two numbers for a field");
+    check(refused(dgn_field(file, len, 2, 46, 0, fresh_numbers(), 3), DGN_KIND, 46), "a line has no field");
+
+    check(dgn_texts(plate, size, 2, 0, fresh_numbers(), 18, fresh(), 2) == 0 && ARE(1, 1) && NUMBERS_ARE(0, 0, 0, PLATE), "all texts");
+    check(dgn_texts(plate, size, 2, 0, fresh_numbers(), ROOM, fresh(), 2) == 0 && ARE(1, 1) && NUMBERS_ARE(0, 0, 0, PLATE), "all texts, with room");
+    check(dgn_texts(plate, size, 2, 1, fresh_numbers(), 0, fresh(), 2) == 0 && ARE(1, 0) && numbers_are(0, NULL), "no more texts");
+    check(dgn_texts(plate, size, 2, 9, fresh_numbers(), 0, fresh(), 2) == 0 && ARE(9, 0) && numbers_are(0, NULL), "no text behind the end");
+    check(dgn_texts(file, len, 2, 0, fresh_numbers(), 0, fresh(), 2) == 0 && ARE(2, 0) && numbers_are(0, NULL), "no text in the cell");
+    check(refused(dgn_texts(plate, size, 2, 0, fresh_numbers(), 17, fresh(), 2), DGN_ROOM, 0), "17 numbers for texts");
+    check(refused(dgn_texts(plate, size, 2, 0, fresh_numbers(), 18, fresh(), 1), DGN_CALL, 0), "one number for two");
+    check(refused(dgn_texts(plate, size, 3, 0, fresh_numbers(), 18, fresh(), 2), DGN_SHORT, 0), "too short for 3D");
+    plate[67] = 3;
+    fresh();
+    check(refused(dgn_field(plate, size, 2, 0, 0, fresh_numbers(), 3), DGN_FIELD, 0), "a field past the characters");
+    check(refused(dgn_texts(plate, size, 2, 0, fresh_numbers(), 18, fresh(), 2), DGN_FIELD, 0), "the file's own refusal of texts");
+}
+
 static void whole(void)
 {
     check(dgn_views(file, len, 2, 0, fresh_numbers(), ROOM, fresh(), 1) == 0 && ARE(2) && NUMBERS_ARE(CELL, LINE), "all views");
@@ -148,7 +230,7 @@ static void whole(void)
     check(refused(dgn_points(file, len, 4, 0, fresh_numbers(), 6, fresh(), 2), DGN_CALL, 0), "dimension 4");
 }
 
-/* the files of the most elements and of the most points: one call reads all of them */
+/* the files of the most elements, of the most points and of the most texts: one call reads all of them */
 static void largest(void)
 {
     static uint8_t large[DGN_FILE_BYTES];
@@ -166,6 +248,15 @@ static void largest(void)
         memcpy(large + at, large, 1250);
     large[at] = large[at + 1] = 255;
     check(dgn_points(large, sizeof large, 3, 0, all, DGN_FILE_NUMBERS, fresh(), 2) == 0 && ARE(shapes, 305 * shapes), "the most points");
+
+    const size_t of[DGN_WRITE_FIELDS] = {DGN_TEXT};
+    const int64_t zeros[DGN_WRITE_TEXT_NUMBERS] = {0};
+    check(dgn_write_text(of, 16, zeros, 12, NULL, 0, NULL, 0, NULL, 0, 2, large, 60, fresh(), 1) == 0 && ARE(30), "the shortest text");
+    for (at = 60; at < 60 * DGN_FILE_TEXTS; at += 60)
+        memcpy(large + at, large, 60);
+    check(at + 60 + 2 > sizeof large, "no more of them in a file");
+    large[at] = large[at + 1] = 255;
+    check(dgn_texts(large, sizeof large, 2, 0, all, DGN_FILE_TEXTS * DGN_TEXTS_NUMBERS, fresh(), 2) == 0 && ARE(DGN_FILE_TEXTS, DGN_FILE_TEXTS), "the most texts");
 }
 
 static void names(void)
@@ -254,13 +345,13 @@ static void session(void)
 static void refusals(void)
 {
     static const char *const all[] = {"DONE", "CALL", "NO END", "CUT", "RESERVED", "PLACE", "KIND", "SHORT", "TOTAL", "COUNT", "DEEP", "LINKAGE", "NAME",
-                                      "NO SUCH", "ALREADY", "ROOM", "JOURNAL", "NOTHING", "NOT A CELL", "BAD JOURNAL"};
-    for (size_t n = 0; n <= DGN_BAD_JOURNAL; n++) {
+                                      "NO SUCH", "ALREADY", "ROOM", "JOURNAL", "NOTHING", "NOT A CELL", "BAD JOURNAL", "FIELD"};
+    for (size_t n = 0; n <= DGN_FIELD; n++) {
         check(strcmp(dgn_refusal_name(n), all[n]) == 0, all[n]);
-        check(strlen(dgn_refusal_text(n)) > 10 && strcmp(dgn_refusal_text(n), dgn_refusal_text(20)) != 0, all[n]);
+        check(strlen(dgn_refusal_text(n)) > 10 && strcmp(dgn_refusal_text(n), dgn_refusal_text(DGN_FIELD + 1)) != 0, all[n]);
         check(dgn_refusal_name(n + 256 * 1100) == dgn_refusal_name(n), all[n]);
     }
-    check(strcmp(dgn_refusal_name(20), "UNKNOWN") == 0 && strcmp(dgn_refusal_name(DGN_TOP), "UNKNOWN") == 0, "no refusal");
+    check(strcmp(dgn_refusal_name(DGN_FIELD + 1), "UNKNOWN") == 0 && strcmp(dgn_refusal_name(DGN_TOP), "UNKNOWN") == 0, "no refusal");
     check(DGN_VERSION == 0x000100 && strcmp(DGN_VERSION_TEXT, "0.1.0") == 0, "the version");
 }
 
@@ -269,6 +360,8 @@ int main(void)
     fresh_numbers();
     writing();
     reading();
+    writing_text();
+    text();
     whole();
     largest();
     names();

@@ -58,6 +58,8 @@ for file in samples/*.cel samples/*.dgn; do
     [ "$file" != samples/seals.cel ] || command=./list
     check "README.md does not show $command" shows "$command" "$out"
 done
+check "list --text samples/plate.dgn" lists 0 samples/plate.text --text samples/plate.dgn
+check "README.md does not show ./list --text samples/plate.dgn" shows "./list --text samples/plate.dgn" samples/plate.text
 
 # the C host as README.md shows it
 check "host.c does not build" gcc -Iinclude -o "$work/host" examples/host.c "$archive"
@@ -67,6 +69,14 @@ check "README.md does not show what the C host prints" shows "./host samples/nes
 # no file, from another folder, by a link, a missing file, a folder, two files
 check "list" lists 0 samples/seals.out
 check "list says something where nothing is to be built" quiet
+check "list --text" lists 0 samples/plate.text --text
+check "list --text says something where nothing is to be built" quiet
+check "list --text, a file without texts" lists 0 <(echo "PLACE DEPTH STATE TEXT" && echo "END 345") --text samples/nested.dgn
+check "list --text, a refusal" lists 1 samples/shortened.out --text samples/shortened.cel
+check "list --text, a refusal: the table of refusals is not named" said 'README.md, "Refusals"'
+check "list --text, a missing file" lists 3 /dev/null --text "$work/none.dgn"
+check "list --text, two files" lists 2 /dev/null --text samples/plate.dgn samples/empty.dgn
+check "list --text --help" lists 0 <("$top/list" --help) --text --help
 cp samples/nested.dgn "$work/a drawing.dgn"
 cd "$work" || exit 1
 check "from another folder" lists 0 "$top/samples/nested.out" "a drawing.dgn"
@@ -87,14 +97,17 @@ closed() { "$@" >&- 2> "$work/err"; [ $? -eq 3 ]; }
 check "a full disk" full "$top/list"
 check "a full disk is not told" said "standard output cannot be written"
 check "a full disk, a refusal" full "$top/list" samples/shortened.cel
+check "a full disk, texts" full "$top/list" --text
 check "a full disk, help" full "$top/list" --help
 check "no standard output" closed "$top/list"
-program=target/bin/celllist
-check "celllist of a folder" cmp <("$program" < samples 2> /dev/null) /dev/null
-"$program" < samples 2> "$work/err" > /dev/null
-check "celllist of a folder: what it says" said "standard input cannot be read"
-"$program" < samples/seals.cel 2> "$work/err" > /dev/full
-check "celllist, a full disk: what it says" said "standard output cannot be written"
+for name in celllist textlist; do
+    program=target/bin/$name
+    check "$name of a folder" cmp <("$program" < samples 2> /dev/null) /dev/null
+    "$program" < samples 2> "$work/err" > /dev/null
+    check "$name of a folder: what it says" cmp "$work/err" <(echo "$name: standard input cannot be read")
+    "$program" < samples/seals.cel 2> "$work/err" > /dev/full
+    check "$name, a full disk: what it says" cmp "$work/err" <(echo "$name: standard output cannot be written")
+done
 
 # the longest file, with as many lines as there can be, and one byte more
 { printf '\0\5\0\0%.0s' {1..16383} && printf '\377\377\0\0'; } > "$work/long.dgn"
@@ -104,14 +117,29 @@ check "the longest file" cmp "$work/out" <(
     for ((k = 0; k < 16383; k++)); do echo "$((2 * k)) 0 5 2 live"; done
     echo "END 32766"
 )
+check "the longest file: texts" lists 0 <(echo "PLACE DEPTH STATE TEXT" && echo "END 32766") --text "$work/long.dgn"
 echo >> "$work/long.dgn"
 check "a byte more" lists 1 <(echo "REFUSED 1 0") "$work/long.dgn"
+check "a byte more: texts" lists 1 <(echo "REFUSED 1 0") --text "$work/long.dgn"
+
+# as many texts of 255 characters as there can be, each line as long as a line can be; in one of them other characters
+text() { printf '\1\21\234\0' && printf '\0%.0s' {1..54} && printf '\377\0' && printf "\\$1%.0s" {1..255} && printf '\0'; }
+{ for ((k = 0; k < 207; k++)); do if [ $k -eq 100 ]; then text 101; else text 1; fi; done && printf '\377\377'; } > "$work/texts.dgn"
+check "the longest texts" lists 0 <(
+    echo "PLACE DEPTH STATE TEXT"
+    for ((k = 0; k < 207; k++)); do
+        printf '%d 0 live ' $((158 * k))
+        if [ $k -eq 100 ]; then printf 'A%.0s' {1..255}; else printf '\\x01%.0s' {1..255}; fi
+        echo
+    done
+    echo "END 32706"
+) --text "$work/texts.dgn"
 
 # the first run, in a copy where nothing is built, with a stand-in for rt: one that fails, then one that builds
 mkdir -p "$work/copy/crates" "$work/copy/samples" "$work/bin"
 cp list archive crates.txt "$work/copy"
-cp samples/seals.cel "$work/copy/samples"
-first() { PATH=$work/bin:$PATH "$work/copy/list" > "$work/out" 2> "$work/err"; }
+cp samples/seals.cel samples/plate.dgn "$work/copy/samples"
+first() { PATH=$work/bin:$PATH "$work/copy/list" "$@" > "$work/out" 2> "$work/err"; }
 printf '#!/bin/sh\necho "rt: words NOT PROVED (exit 1, 1 s)"\nexit 1\n' > "$work/bin/rt"
 chmod +x "$work/bin/rt"
 first
@@ -123,17 +151,24 @@ check "an archive that is not proved: status" test $? -eq 2
 check "an archive that is not proved: where it is said why" said "target/archive.log"
 {
     printf '#!/bin/sh\necho "rt: words proved (1 s)"\necho "fn words::word: proved"\nmkdir -p target/bin target/stamp\n'
-    printf 'cp "%s" target/bin/celllist\ntouch target/stamp/celllist\n' "$top/target/bin/celllist"
+    printf 'cp "%s/$2" target/bin/$2\ntouch target/stamp/$2\n' "$top/target/bin"
 } > "$work/bin/rt"
-first
-check "the first run: status" test $? -eq 0
-check "the first run: output" cmp "$work/out" samples/seals.out
-check "the first run: what is being proved" cmp "$work/err" <(
-    echo "list: proving celllist and the crates it depends on (about two minutes the first time)"
-    echo "rt: words proved (1 s)"
-)
-first
-check "the second run builds again" quiet
+# first_run NAME OUT ARGUMENT..: list with these arguments builds the program NAME, once, and prints what OUT has
+first_run() {
+    local name=$1 out=$2
+    shift 2
+    first "$@"
+    check "the first run of $name: status" test $? -eq 0
+    check "the first run of $name: output" cmp "$work/out" "$out"
+    check "the first run of $name: what is being proved" cmp "$work/err" <(
+        echo "list: proving $name and the crates it depends on (about two minutes the first time)"
+        echo "rt: words proved (1 s)"
+    )
+    first "$@"
+    check "the second run of $name builds again" quiet
+}
+first_run celllist samples/seals.out
+first_run textlist samples/plate.text --text
 touch "$work/copy/crates.txt"
 first
 check "newer sources are not built" said "rt: words proved"

@@ -23,6 +23,15 @@ extern "C" {
         room: usize,
         out: *mut usize,
     ) -> usize;
+    fn plain_texts(
+        file: *const u8,
+        len: usize,
+        dim: usize,
+        k: usize,
+        numbers: *mut i64,
+        room: usize,
+        out: *mut usize,
+    ) -> usize;
     fn hop_sizes(file: *const u8) -> usize;
     fn hop_totals(file: *const u8) -> usize;
     fn move_bytes(file: *mut u8, from: usize, to: usize, n: usize);
@@ -102,6 +111,22 @@ pub fn points_in_c(file: &[u8], dim: u64, k: usize, numbers: &mut [i64]) -> Resu
     let (n, o) = (numbers.as_mut_ptr(), out.as_mut_ptr());
     match unsafe { plain_points(file.as_ptr(), file.len(), dim as usize, k, n, numbers.len(), o) } {
         0 => Ok((out[0], out[1])),
+        number => Err(number as u32),
+    }
+}
+
+/// The next element number, and how many numbers of texts from element number k on are put into the slice.
+pub fn texts(file: &[u8], dim: u64, k: usize, numbers: &mut [i64]) -> Result<(usize, usize), u32> {
+    let mut out = [0; 2];
+    let returned = raw::texts(file, dim as usize, k, numbers, &mut out);
+    answer(returned, (out[0], raw::TEXTS_NUMBERS * out[1])).map_err(|r| r.number)
+}
+
+pub fn texts_in_c(file: &[u8], dim: u64, k: usize, numbers: &mut [i64]) -> Result<(usize, usize), u32> {
+    let mut out = [0; 2];
+    let (n, o) = (numbers.as_mut_ptr(), out.as_mut_ptr());
+    match unsafe { plain_texts(file.as_ptr(), file.len(), dim as usize, k, n, numbers.len(), o) } {
+        0 => Ok((out[0], raw::TEXTS_NUMBERS * out[1])),
         number => Err(number as u32),
     }
 }

@@ -3,10 +3,15 @@
 use crate::calls;
 use crate::inputs::{Input, ABSENT, LAST};
 use crate::whole::{self, Fill};
+use dgn::raw;
 use reader::generate::{aimed, changes, large, two_faults, valid, Random, ORDER};
 
-/// Views and points, each by the library and by C.
-const FILLS: [(Fill, Fill); 2] = [(whole::views_by, whole::views_by_c), (calls::points, calls::points_in_c)];
+/// Views, points and texts, each by the library and by C, and the numbers of a part.
+const FILLS: [(Fill, Fill, usize); 3] = [
+    (whole::views_by, whole::views_by_c, 32 * whole::VIEWS),
+    (calls::points, calls::points_in_c, whole::NUMBERS),
+    (calls::texts, calls::texts_in_c, raw::TEXTS_NUMBERS * whole::TEXTS),
+];
 
 /// Files judged alike, and how many of them are refused.
 #[derive(Default)]
@@ -23,21 +28,21 @@ impl Checked {
         self.files += 1;
         self.refused += u64::from(ours.is_err());
         if file.len() < 10_000 {
-            for (ours, in_c) in FILLS {
-                for k in [0, 1, 3, 1000] {
-                    let (mut a, mut b) = ([7; 100], [7; 100]);
-                    assert_eq!(ours(file, dim, k, &mut a), in_c(file, dim, k, &mut b), "from {k}, {what}");
-                    assert_eq!(a, b, "from {k}, {what}");
+            for (ours, in_c, _) in FILLS {
+                for (k, room) in [(0, 100), (1, 100), (3, 100), (1000, 100), (0, 17), (0, 18), (0, 36)] {
+                    let (mut a, mut b) = (vec![7; room], vec![7; room]);
+                    assert_eq!(ours(file, dim, k, &mut a), in_c(file, dim, k, &mut b), "from {k} in {room}, {what}");
+                    assert_eq!(a, b, "from {k} in {room}, {what}");
                 }
             }
         }
     }
 
-    /// All views and all points of a measured input: those of the library in one part, in parts, and of C.
+    /// All views, points and texts of a measured input: those of the library in one part, in parts, and of C.
     fn whole(&self, input: &Input) {
         let dim = input.kind.dim();
         let elements = calls::judge(&input.file, dim).expect("an accepted file").elements as usize;
-        for ((ours, in_c), room) in FILLS.into_iter().zip([32 * whole::VIEWS, whole::NUMBERS]) {
+        for (ours, in_c, room) in FILLS {
             let mut all = Vec::new();
             whole::in_parts(ours, input, elements, &mut vec![0; room], |part| all.extend_from_slice(part));
             for fill in [ours, in_c] {
@@ -111,6 +116,9 @@ impl Checked {
                 }
                 let mut v = valid(random, dim).file;
                 self.judge(&v, dim, "valid");
+                let mut damaged = v.clone();
+                changes::change_text(random, &mut damaged, dim);
+                self.judge(&damaged, dim, "a text changed");
                 changes::change_word(random, &mut v);
                 self.judge(&v, dim, "a word changed");
                 self.judge(&changes::random_bytes(random), dim, "any bytes");
@@ -127,6 +135,10 @@ impl Checked {
             large::longest_file(),
             large::longest_file_of_cells(),
             large::most_linkages(),
+            large::most_text(random, 2),
+            large::most_text(random, 3),
+            large::most_texts(random, 2),
+            large::most_texts(random, 3),
         ] {
             self.judge(&v.file, v.dim, "a limit");
         }

@@ -18,9 +18,11 @@ pub enum Kind {
     Raw,
     Mixed,
     Mixed3D,
+    Texts,
 }
 
-pub const KINDS: [Kind; 5] = [Kind::Lines, Kind::Cells, Kind::Raw, Kind::Mixed, Kind::Mixed3D];
+pub const KINDS: [Kind; 6] =
+    [Kind::Lines, Kind::Cells, Kind::Raw, Kind::Mixed, Kind::Mixed3D, Kind::Texts];
 
 impl Kind {
     pub fn name(self) -> &'static str {
@@ -30,6 +32,7 @@ impl Kind {
             Kind::Raw => "two-word elements",
             Kind::Mixed => "mixed",
             Kind::Mixed3D => "mixed, 3D",
+            Kind::Texts => "texts",
         }
     }
 
@@ -51,6 +54,7 @@ impl Kind {
                 let mut budget = 1 + random.below(30);
                 elements::tree(random, self.dim(), 0, None, &mut budget)
             }
+            Kind::Texts => text(random),
         }
     }
 }
@@ -75,6 +79,13 @@ fn plain(random: &mut Random, kind: u16, fixed: usize, c: bool) -> Vec<u16> {
 fn line(random: &mut Random, c: bool) -> Node {
     let fixed = elements::fixed(3, 2, 0);
     Node::new(plain(random, 3, fixed, c))
+}
+
+/// A text of up to 52 characters, one in eight with up to three fields.
+fn text(random: &mut Random) -> Node {
+    let characters = random.index(53);
+    let fields = if characters > 0 && random.one_in(8) { 1 + random.index(3) } else { 0 };
+    Node::new(elements::single_with(random, 2, 17, false, characters + 256 * fields))
 }
 
 /// The bytes of a line without a tail, for the top.

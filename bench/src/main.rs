@@ -26,13 +26,16 @@ fn main() {
         checked.input(input);
     }
     checked.generated(20);
-    checked.real(&format!("{ROOT}/tests/real"));
+    for folder in ["tests/real", "tests/real/texts"] {
+        checked.real(&format!("{ROOT}/{folder}"));
+    }
     println!("Answers: {} files judged alike by all three, {} of them refused.", checked.files, checked.refused);
 
     reading::judging(&all, rounds);
     reading::places(&all, rounds);
     whole::views(&all, 1 + rounds / 6);
     whole::points(&all, 1 + rounds / 6);
+    whole::texts(&all, 1 + rounds / 6);
     edits::table(rounds);
     programs::listing(&folder, rounds);
     reading::growth(1 + rounds / 3);

@@ -1,4 +1,5 @@
-//! Whole programs: celllist against the second reader's listing, and beside GDAL's ogrinfo where that is installed.
+//! Whole programs: celllist against the second reader's listing, and celllist and textlist beside GDAL's ogrinfo where that
+//! is installed.
 
 use crate::calls;
 use crate::inputs::{make, make_after, Kind, KIB, KINDS};
@@ -55,8 +56,9 @@ fn program(path: &str, arguments: &[&str], folder: &str, input: &str) -> Program
     }
 }
 
-fn celllist(folder: &str, input: &str) -> Program {
-    program(&format!("{ROOT}/target/bin/celllist"), &[], folder, input)
+/// One of the repository's programs by its name.
+fn own(name: &str, folder: &str, input: &str) -> Program {
+    program(&format!("{ROOT}/target/bin/{name}"), &[], folder, input)
 }
 
 /// The listings of 64 KiB are the same; their times, and that of a process that only reads its input.
@@ -67,7 +69,7 @@ pub fn listing(folder: &str, rounds: usize) {
     let input = format!("{folder}/input");
     for kind in KINDS.into_iter().filter(|kind| kind.dim() == 2) {
         std::fs::write(&input, make(kind, 64 * KIB, 1).file).expect("the input");
-        let ours = celllist(folder, &input);
+        let ours = own("celllist", folder, &input);
         let theirs = program(&second, &[], folder, &input);
         let alone = program(&second, &["nothing"], folder, &input);
         let listed = ours.listed();
@@ -84,8 +86,8 @@ pub fn listing(folder: &str, rounds: usize) {
     }
 }
 
-/// Lines behind the first element of a real file, which ogrinfo wants to see. It prints every field and point, so its
-/// time stands beside ours and is no ratio of like to like.
+/// Lines, and texts, behind the first element of a real file, which ogrinfo wants to see. It prints every field and point, so
+/// its time stands beside ours and is no ratio of like to like.
 pub fn beside_gdal(folder: &str, rounds: usize) {
     if !Command::new("ogrinfo").arg("--version").stdout(Stdio::null()).status().is_ok_and(|s| s.success()) {
         println!("\nogrinfo (Debian: gdal-bin) is not installed: no figures beside GDAL.");
@@ -93,12 +95,21 @@ pub fn beside_gdal(folder: &str, rounds: usize) {
     }
     let real = words_of(&std::fs::read(format!("{ROOT}/tests/real/a02_lines_2d.dgn")).expect("a real file"));
     let front = &real[..2 + real[1] as usize];
+    let mut numbers = vec![0; 18 * 17_476];
+    let judged = |file: &[u8]| assert!(calls::judge(file, 2).is_ok());
+    beside(folder, rounds, front, Kind::Lines, "celllist", "judge", judged);
+    let read = |file: &[u8]| assert!(calls::texts(file, 2, 0, &mut numbers).is_ok());
+    beside(folder, rounds, front, Kind::Texts, "textlist", "all texts", read);
+}
+
+/// A table of one kind of element: ogrinfo, a program of the repository and a call of the library.
+fn beside(folder: &str, rounds: usize, front: &[u16], kind: Kind, listing: &str, what: &str, mut call: impl FnMut(&[u8])) {
     let path = |name: &str| format!("{folder}/{name}.dgn");
     let bare = [front, &[65535]].concat();
     std::fs::write(path("bare"), bytes_of(&bare)).expect("the input");
-    let small = make_after(front, Kind::Lines, 64 * KIB, 1);
+    let small = make_after(front, kind, 64 * KIB, 1);
     std::fs::write(path("small"), &small.file).expect("the input");
-    let large = make_after(front, Kind::Lines, 1024 * KIB, 1);
+    let large = make_after(front, kind, 1024 * KIB, 1);
     std::fs::write(path("large"), &large.file).expect("the input");
     let ogrinfo = |name: &str| Box::new(program("ogrinfo", &["-al", "-q", &path(name)], folder, "/dev/null"));
     let file = &large.file;
@@ -107,15 +118,16 @@ pub fn beside_gdal(folder: &str, rounds: usize) {
             ogrinfo("bare"),
             ogrinfo("small"),
             ogrinfo("large"),
-            Box::new(celllist(folder, &path("bare"))),
-            Box::new(celllist(folder, &path("small"))),
-            Box::new(|| assert!(calls::judge(file, 2).is_ok())),
+            Box::new(own(listing, folder, &path("bare"))),
+            Box::new(own(listing, folder, &path("small"))),
+            Box::new(|| call(file)),
         ],
         rounds,
     );
-    heading(&["beside GDAL, lines, µs", "no lines", "64 KiB", "1024 KiB"]);
+    let name = kind.name();
+    heading(&[&format!("beside GDAL, {name}, µs"), &format!("no {name}"), "64 KiB", "1024 KiB"]);
     let cell = |who: usize| format!("{:.0}", times.time(who) * 1e6);
     row(&["`ogrinfo -al -q`, process".to_string(), cell(0), cell(1), cell(2)]);
-    row(&["celllist, process".to_string(), cell(3), cell(4), "(65,536 bytes at most)".to_string()]);
-    row(&["judge, call".to_string(), String::new(), String::new(), cell(5)]);
+    row(&[format!("{listing}, process"), cell(3), cell(4), "(65,536 bytes at most)".to_string()]);
+    row(&[format!("{what}, call"), String::new(), String::new(), cell(5)]);
 }

@@ -1,4 +1,4 @@
-//! Whole files: all views and all points, in one part and in parts, against C that judges once and fills in the same
+//! Whole files: all views, points and texts, in one part and in parts, against C that judges once and fills in the same
 //! numbers. Every part judges the file again, so parts stand against C in one part and its judging once more for each
 //! further one.
 
@@ -6,11 +6,13 @@ use crate::calls;
 use crate::inputs::Input;
 use crate::tables::{heading, row};
 use crate::timing::{measure, Measured};
+use dgn::raw;
 use std::hint::black_box;
 
-/// So many views, and so many numbers of points, are a part.
+/// So many views, numbers of points, and texts, are a part.
 pub const VIEWS: usize = 4096;
 pub const NUMBERS: usize = 65_536;
+pub const TEXTS: usize = 4096;
 
 /// The same call of the library or of C: puts what stands from element number k on into a slice, and gives the next
 /// element number and how many numbers were put there.
@@ -94,4 +96,9 @@ pub fn views(all: &[Input], rounds: usize) {
 pub fn points(all: &[Input], rounds: usize) {
     titles("all points, 1 MiB, parts of 65,536 numbers");
     table(all, rounds, calls::points, calls::points_in_c, NUMBERS);
+}
+
+pub fn texts(all: &[Input], rounds: usize) {
+    titles("all texts, 1 MiB, parts of 4,096");
+    table(all, rounds, calls::texts, calls::texts_in_c, raw::TEXTS_NUMBERS * TEXTS);
 }

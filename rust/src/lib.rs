@@ -3,7 +3,7 @@
 //!
 //! A file is a slice of an even number of bytes, at most [`FILE_BYTES`]. A place is the index of a 16-bit word, from 0.
 //! Every file is allowed, and no caller has to check one first. Each call judges the whole file, one pass over its
-//! bytes, so a whole file is read by [`views`] and [`points`] and not by a call for each element. There is no state:
+//! bytes, so a whole file is read by [`views`], [`points`] and [`texts`] and not by a call for each element. There is no state:
 //! any thread may call.
 //!
 //! A call that is refused answers a [`Refusal`] and changes no byte of what it was lent.
@@ -24,6 +24,12 @@
 //! for drawn in dgn::all_points(&file, Dimension::Two)? {
 //!     println!("{}: {:?}", drawn.place, drawn.points);
 //! }
+//!
+//! // all words of a drawing
+//! let file = std::fs::read(concat!(env!("CARGO_MANIFEST_DIR"), "/../samples/plate.dgn"))?;
+//! for found in dgn::all_texts(&file, Dimension::Two)? {
+//!     println!("{} {}", found.place, file[found.text.characters].escape_ascii());
+//! }
 //! # Ok::<(), Box<dyn std::error::Error>>(())
 //! ```
 
@@ -40,6 +46,7 @@ pub mod raw;
 mod reading;
 mod refusals;
 mod sessions;
+mod texts;
 mod whole;
 mod writing;
 
@@ -49,6 +56,9 @@ pub use names::{pack, unpack, Name};
 pub use reading::{extent, find, judge, linkage, point, view, Found, Judged};
 pub use refusals::{Number, Refusal};
 pub use sessions::Session;
+pub use texts::{
+    all_texts, characters, field, text, texts, write_text, Field, Text, TextAt, TextFields, Texts, Turn,
+};
 pub use whole::{all_points, all_views, points, views, Drawn, Pointed, Points, Views};
 pub use writing::{write, Fields};
 

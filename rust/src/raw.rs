@@ -11,8 +11,17 @@ pub const TOP: usize = usize::MAX;
 /// The numbers of a view.
 pub const VIEW_NUMBERS: usize = 32;
 
-/// The fields that [`write()`] takes.
+/// The numbers of a text.
+pub const TEXT_NUMBERS: usize = 15;
+
+/// The numbers of a text among those of a file.
+pub const TEXTS_NUMBERS: usize = 18;
+
+/// The fields that [`write()`] and [`write_text()`] take.
 pub const WRITE_FIELDS: usize = 16;
+
+/// The numbers of a text that [`write_text()`] takes.
+pub const WRITE_TEXT_NUMBERS: usize = 12;
 
 /// Makes each `pub fn NAME(ARGUMENTS) = C_NAME;` a function that declares the C one and calls it: a slice becomes a
 /// pointer and a length, a number stays. In brackets, as far as they are made: the arguments in C's declaration, and what
@@ -63,11 +72,23 @@ functions! {
     /// out: 1 for a user linkage, place, size, id.
     pub fn linkage(file: &[u8], dim: usize, place: usize, k: usize, out: &mut [usize]) = dgn_linkage;
 
+    /// out: the 15 numbers of a text.
+    pub fn text(file: &[u8], dim: usize, place: usize, out: &mut [i64]) = dgn_text;
+
+    /// out: the byte where the characters begin, how many.
+    pub fn characters(file: &[u8], dim: usize, place: usize, out: &mut [usize]) = dgn_characters;
+
+    /// out: first character, how many, justification.
+    pub fn field(file: &[u8], dim: usize, place: usize, k: usize, out: &mut [i64]) = dgn_field;
+
     /// out: how many views were put into `views`, 32 numbers each.
     pub fn views(file: &[u8], dim: usize, k: usize, views: &mut [i64], out: &mut [usize]) = dgn_views;
 
     /// out: the next element number, how many numbers were put into `numbers`.
     pub fn points(file: &[u8], dim: usize, k: usize, numbers: &mut [i64], out: &mut [usize]) = dgn_points;
+
+    /// out: the next element number, how many texts were put into `numbers`, 18 numbers each.
+    pub fn texts(file: &[u8], dim: usize, k: usize, numbers: &mut [i64], out: &mut [usize]) = dgn_texts;
 
     /// out: two words.
     pub fn pack(text: &[u8], out: &mut [usize]) = dgn_pack;
@@ -80,6 +101,12 @@ functions! {
         fields: &[usize], points: &[i32], tail: &[u8],
         dim: usize, buffer: &mut [u8], out: &mut [usize]
     ) = dgn_write;
+
+    /// out: the words written to the front of `buffer`.
+    pub fn write_text(
+        fields: &[usize], text: &[i64], characters: &[u8], triples: &[u8], tail: &[u8],
+        dim: usize, buffer: &mut [u8], out: &mut [usize]
+    ) = dgn_write_text;
 
     /// out: the used lengths of file and journal.
     pub fn mark(

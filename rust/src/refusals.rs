@@ -10,7 +10,8 @@ extern "C" {
 }
 
 numbered! {
-    /// The number of a refusal. Judging a file can answer those to [`Number::Name`]; the others are about a call.
+    /// The number of a refusal. Judging a file can answer those to [`Number::Name`] and [`Number::Field`]; the others are
+    /// about a call.
     pub enum Number {
         /// A length, a field out of its range, a used file without its end.
         Call = 1,
@@ -22,7 +23,7 @@ numbered! {
         Reserved = 4,
         /// The component bit is wrong.
         Place = 5,
-        /// The type may not stand there, or is not read.
+        /// The type may not stand there, or is not read; the element is no text.
         Kind = 6,
         /// An element is below its fixed part, or its number of points is out of range.
         Short = 7,
@@ -36,7 +37,7 @@ numbered! {
         Linkage = 11,
         /// A stored name or a text is wrong.
         Name = 12,
-        /// Place, point, linkage or name not there.
+        /// Place, point, linkage, field or name not there.
         NoSuch = 13,
         /// The deleted flag is already as wanted.
         Already = 14,
@@ -50,6 +51,8 @@ numbered! {
         NotACell = 18,
         /// The last record is ill-formed or its reversal is not allowed.
         BadJournal = 19,
+        /// An enter-data field of a text is wrong.
+        Field = 20,
     }
 }
 

@@ -7,7 +7,7 @@ use crate::refusals::{done, Refusal};
 /// The header fields of an element to write. Size and number of points follow from the rest.
 #[derive(Clone, Copy, PartialEq, Eq, Hash, Debug)]
 pub struct Fields {
-    /// 3, 4, 6 or 11.
+    /// 3, 4, 6 or 11; 17 for [`write_text`](crate::write_text).
     pub kind: Type,
     /// 0 to 63.
     pub level: u8,
@@ -28,7 +28,7 @@ impl Fields {
         Fields { kind, level: 0, component: false, deleted: false, bounds, display }
     }
 
-    fn numbers(&self) -> [usize; raw::WRITE_FIELDS] {
+    pub(crate) fn numbers(&self) -> [usize; raw::WRITE_FIELDS] {
         let Fields { kind, level, component, deleted, bounds, display } = *self;
         // a number below 0 is as far out of range as one above
         let [low, high] = [bounds.low, bounds.high].map(|corner| corner.map(|number| number as usize));

@@ -1,11 +1,11 @@
 -- A slice beside the one for the answer, by whether that has room; numbers put behind others, and numbers at the front read back.
 use Prim.Native.Nat.{ℕ, suc, _+_, _<_, _≤_}
-use mathlib.Core.Path.{_≡_, refl, ap, _∙_}
+use mathlib.Core.Path.{_≡_, refl, sym, ap, _∙_}
 use mathlib.Core.List.{List, [], _∷_, _++_}
 use native.Mathlib.Omega.{arith}
 use native.Mathlib.Nat.{add-zero}
 use lib.ListN.{length, getD, take, drop, set, List·getD-append}
-use lib.Seq.{take-at, sets, sets-eq}
+use lib.Seq.{take-at, take-suc, length-take-le, sets, sets-eq}
 use borrow.Author.Tests.{le-leb, lt-leb}
 use Rattle.answers.specs.Answers.{Reply, withRoom}
 use Rattle.answers.specs.Besides.{besides}
@@ -27,3 +27,11 @@ front-read vs s h = ap (take (length vs)) (sets-eq vs s 0 (omega arith)) ∙ tak
 
 pub front-at : {A : Type 0} (vs s : List A) (i : ℕ) (z : A) → i < length vs → length vs ≤ length s → getD (sets s 0 vs) i z ≡ getD vs i z
 front-at vs s i z h l = ap (λ t. getD t i z) (sets-eq vs s 0 (omega arith)) ∙ List·getD-append vs (drop (0 + length vs) s) z i h
+
+-- a turn of the loop that puts the numbers of x, one by one
+pub put-turn : {A : Type 0} (s t x : List A) (at k : ℕ) (d : A) → t ≡ sets s at (take k x) → k < length x → set t (at + k) (getD x k d) ≡ sets s at (take (suc k) x)
+put-turn s t x at k d e h =
+    let l = length-take-le k x (omega arith) in
+    ap (λ u. set u (at + k) (getD x k d)) e
+    ∙ put-then s at (take k x) (getD x k d ∷ []) (at + k) (omega arith)
+    ∙ ap (sets s at) (sym (take-suc x k d h))

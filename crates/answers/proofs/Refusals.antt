@@ -13,7 +13,7 @@ use Rattle.files.specs.Refused.{RefusedBy}
 use Rattle.files.specs.declared.Judged.the-variants.{Refused}
 use Rattle.files.proofs.Laws.{judge-call}
 use Rattle.grammar.specs.FirstFault.{Refusal}
-use Rattle.grammar.proofs.FirstFault.{refusal-place}
+use Rattle.grammar.proofs.FirstFault.{number-within, refusal-place}
 use Rattle.answers.specs.Answers.{Small}
 use Rattle.answers.proofs.Elements.{call-words}
 
@@ -24,7 +24,10 @@ module _ (dim : ℕ) (s : List ℕ) (n p : ℕ) where
       go : (b : Bool) → callOk dim s ≡ b → Refusal (length (words s)) n p → Small n p
       go true c (inl x) = (omega arith, omega arith, omega arith)
       go true c (inr (inl x)) = let l = call-words dim s c in (omega arith, omega arith, omega arith)
-      go true c (inr (inr x)) = let l = call-words dim s c in (omega arith, omega arith, omega arith)
+      go true c (inr (inr x)) =
+          let l = call-words dim s c in
+          let m = number-within (x .0) in
+          (omega arith, omega arith, omega arith)
       go false c r =
           let e = judge-call dim s c in
           let number : 1 ≡ n = cc in

@@ -1,5 +1,4 @@
--- What fits and what does not: where every test holds the bytes are copied in or the words stored, and where one of them
--- fails the buffer is as it was.
+-- What fits and what does not: where every test holds the words are stored, and where one of them fails the buffer is as it was.
 use Prim.Native.Nat.{ℕ, _+_, _*_, _%_, _≤_}
 use mathlib.Core.Path.{_≡_, refl}
 use mathlib.Core.List.{List}
@@ -10,21 +9,12 @@ use borrow.Author.Tests.{eq-eqb, le-leb, eqb-true, leb-true}
 use Rattle.words.specs.Words.{words, over}
 use Rattle.edits.specs.Edits.{splice, cut}
 use Rattle.edits.specs.Calls.{usedWords, stored}
-use Rattle.buffers.specs.Moves.{copied}
 use Rattle.buffers.specs.Files.{insertFits, wordsInserted, removeFits, wordsRemoved}
 
 -- a choice by a test that does not hold
 pub kept : (t : Bool) (x s : List ℕ) → (t ≡ true → ⊥) → s ≡ cond t x s
 kept true x s miss = absurd (miss refl)
 kept false x s miss = refl
-
-pub copied-fits : (s : List ℕ) (a : ℕ) (x : List ℕ) → a + length x ≤ length s → copied s a x ≡ over s a x
-unfolding copied
-copied-fits s a x h = rw (le-leb (a + length x) (length s) h) refl
-
-pub copied-not : (s : List ℕ) (a : ℕ) (x : List ℕ) → (a + length x ≤ length s → ⊥) → s ≡ copied s a x
-unfolding copied
-copied-not s a x miss = kept (leb (a + length x) (length s)) (over s a x) s (λ e. miss (leb-true (a + length x) (length s) e))
 
 module _ (s : List ℕ) (used p : ℕ) (x : List ℕ) where
   pub inserted-fits : used % 2 ≡ 0 → length x % 2 ≡ 0 → used + length x ≤ length s → 2 * p ≤ used

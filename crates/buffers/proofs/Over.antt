@@ -1,4 +1,4 @@
--- Each turn of a move or a copy writes the next byte of what it moves.
+-- Each turn of a move writes the next byte of what it moves.
 use Prim.Native.Nat.{ℕ, zero, suc, _+_, _-_, _≤_, _<_}
 use mathlib.Core.Path.{_≡_, refl, sym, ap}
 use mathlib.Core.List.{List, [], _∷_, _++_}
@@ -25,12 +25,6 @@ down-turn d s at n k e h l =
     let p = length-slice (at + n) k d (omega arith) in
     let g : getD s k 0 ≡ getD d k 0 = rw e (over-above d at (slice (at + n) k d) k (omega arith) (omega arith)) in
     rw (g, e, over-snoc d at (slice (at + n) k d) (k - n) (getD d k 0) (omega arith) (omega arith), slice-snoc (at + n) k d h l) refl
-
-pub copy-turn : (d s x : List ℕ) (at k : ℕ) → s ≡ over d at (take k x) → k < length x → at + length x ≤ length d
-    → set s (at + k) (getD x k 0) ≡ over d at (take (suc k) x)
-copy-turn d s x at k e h l =
-    let t = length-take-le k x (omega arith) in
-    rw (e, over-snoc d at (take k x) (at + k) (getD x k 0) (omega arith) (omega arith), take-suc x k 0 h) refl
 
 replicate-snoc : (n v : ℕ) → replicate (suc n) v ≡ replicate n v ++ (v ∷ [])
 replicate-snoc zero v = refl

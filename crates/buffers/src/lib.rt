@@ -1,12 +1,11 @@
 // The lent buffer of a file, changed in place: words put into its used part and taken out of it, by moves of bytes.
 // Lengths are in bytes, places in words. Where the numbers do not fit, the buffer stays as it was. Definitions:
-// specs/Moves, specs/Files.
+// specs/Files.
 ghost use mathlib.Core.Path.{_≡_};
 ghost use Prim.Native.Nat.{_+_, _-_, _≤_};
 ghost use lib.ListN.{length, replicate};
 ghost use lib.Seq.{slice};
 ghost use Rattle.words.specs.Words.{over};
-ghost use Rattle.buffers.specs.Moves.{copied};
 ghost use Rattle.buffers.specs.Files.{wordsInserted, wordsRemoved};
 
 // The bytes from `at` to `used` move up by n.
@@ -45,23 +44,6 @@ fn clear(s: &mut [u8], at: usize, end: usize)
     }
 }
 
-// The bytes from `at` on become those of src, where they fit.
-pub fn copy_in(s: &mut [u8], at: usize, src: &[u8])
-    ensures { λ _. ⌜ now (s .exit) ≡ copied (now (s .entry)) at (now (src .entry)) ⌝ }
-{
-    if s.len() < at {
-        return;
-    }
-    if s.len() - at < src.len() {
-        return;
-    }
-    let mut k = 0;
-    while k < src.len() {
-        s[at + k] = src[k];
-        k += 1;
-    }
-}
-
 // The piece's words go in at a place of the used words, and what stands from there on moves up.
 pub fn insert_words(file: &mut [u8], used: usize, place: usize, piece: &[u8])
     ensures { λ _. ⌜ now (file .exit) ≡ wordsInserted (now (file .entry)) used place (now (piece .entry)) ⌝ }
@@ -84,7 +66,7 @@ pub fn insert_words(file: &mut [u8], used: usize, place: usize, piece: &[u8])
     }
     let at = 2 * place;
     move_up(file, used, at, n);
-    copy_in(file, at, piece);
+    copies::copy_in(file, at, piece);
 }
 
 // n words are taken out from a place of the used words on: the rest moves down, and the freed bytes become zero.

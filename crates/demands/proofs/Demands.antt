@@ -56,6 +56,9 @@ use Rattle.linkages.specs.Listed.{FilledBy, kth}
 use Rattle.linkages.proofs.Meaning as meaning
 use Rattle.linkages.proofs.Listed as listed
 use Rattle.listing.specs.Lines.{headingLine, endLine}
+use Rattle.listing.specs.Texts.{textHeading}
+use Rattle.listing.specs.Told.{TextOneLine, TextTold}
+use Rattle.listing.proofs.Told as told
 use Rattle.fields.specs.declared.Fields.{Fields}
 use Rattle.writer.specs.Writing.{Writes, writtenBy}
 use Rattle.writer.specs.declared.Written.{Written}
@@ -65,7 +68,7 @@ use Rattle.round_trips.specs.RoundTrip.{ReadsBack, Rewrites, EveryGiven}
 use Rattle.round_trips.proofs.Given as given
 use Rattle.round_trips.proofs.InFile as back
 use Rattle.round_trips.proofs.Again as again
-use Rattle.demands.specs.Listing.{listingOf, walkLines, walkPlace}
+use Rattle.demands.specs.Listing.{listingOf, textListingOf, walkLines, walkTexts, walkPlace}
 use Rattle.demands.specs.Starred.{allHold, starred}
 use Rattle.demands.specs.ReadingCalls.{FileRefused, Found}
 use Rattle.demands.proofs.ReadingCalls as reads
@@ -109,12 +112,34 @@ use Rattle.dgn_points.specs.Answers.{pointsReply}
 use Rattle.dgn_points.specs.Calls.{AllPoints, PointsWithin}
 use Rattle.dgn_points.proofs.Small as small-points
 use Rattle.dgn_points.proofs.All as every-point
+use Rattle.dgn_texts.specs.Calls.{AllTexts}
+use Rattle.dgn_texts.specs.Answers.{textsReply}
+use Rattle.dgn_texts.proofs.All as every-text
+use Rattle.dgn_texts.proofs.Small as small-texts
+use Rattle.text_fields.specs.declared.Text.{Text}
+use Rattle.text_writer.specs.Writing.{WritesText}
+use Rattle.text_writer.proofs.Refusals as writes-text
+use Rattle.dgn_text.specs.TextReplies.{textReply, charactersReply, fieldReply}
+use Rattle.dgn_text.proofs.Small as small-text
+use Rattle.text_views.specs.TextViews.{textOf as textRead, charactersOf, fieldOf}
+use Rattle.text_views.specs.declared.TextView.the-variants as lettered
+use Rattle.text_views.specs.declared.Characters.the-variants as characters
+use Rattle.text_views.specs.declared.FieldView.the-variants as field
+use Rattle.text_views.specs.Fields.{FieldsWithin}
+use Rattle.text_views.specs.Refusals.{TextRefused}
+use Rattle.text_views.proofs.Fields as text-fields
+use Rattle.text_views.proofs.Refusals as texts-refused
+use Rattle.text_parts.specs.Own.{CharactersOwn, TextsApart}
+use Rattle.text_parts.proofs.Own as own-characters
 use Rattle.dgn_linkages.specs.LinkageNumbers.{linkageReply}
 use Rattle.dgn_linkages.proofs.Small as dgn-linkages
 use Rattle.dgn_names.specs.PackUnpack.{packReply, unpackReply}
 use Rattle.dgn_names.proofs.Small as dgn-names
-use Rattle.dgn_writer.specs.Writing.{givenFault, writeReply}
+use Rattle.write_answers.specs.Writing.{writeReply}
+use Rattle.dgn_writer.specs.Writing.{givenFault}
 use Rattle.dgn_writer.proofs.Small as dgn-writer
+use Rattle.dgn_text_writer.specs.Writing.{givenFault as givenTextFault}
+use Rattle.dgn_text_writer.proofs.Small as dgn-text-writer
 use Rattle.edit_answers.proofs.Places as fits
 use Rattle.dgn_record.specs.LastRecord.{EndsThere, recordReply, RecordWithin}
 use Rattle.dgn_record.proofs.Small as small-record
@@ -131,8 +156,8 @@ use Rattle.dgn_sessions.proofs.History as history
 pub refusal-keeps : (dim : ℕ) (s : Session) (c : Call) → wasRefused (step dim s c .answer) ≡ true → step dim s c .after ≡ s
 refusal-keeps = refusals.refusal-keeps
 
--- and its number is one from 1 to 19
-pub call-number : (dim : ℕ) (s : Session) (c : Call) (n p : ℕ) → step dim s c .answer ≡ edit.Refused n p → (1 ≤ n) × (n ≤ 19)
+-- and its number is one from 1 to 20
+pub call-number : (dim : ℕ) (s : Session) (c : Call) (n p : ℕ) → step dim s c .answer ≡ edit.Refused n p → (1 ≤ n) × (n ≤ 20)
 call-number = calls.call-number
 
 -- and its place is at most 524,288, so the one number that the C interface returns gives both back
@@ -149,7 +174,7 @@ pub bad-text : (dim : ℕ) (s : Session) (p : ℕ) (t : List ℕ) (n q : ℕ) �
     wasRefused (step dim s (rename-call p t) .answer) ≡ true
 bad-text = reads.bad-text
 
--- the piece's own refusal is a number from 3 to 12, at a word of the piece; of an empty piece at 0
+-- the piece's own refusal is a number from 3 to 12 or 20, at a word of the piece; of an empty piece at 0
 pub piece-place : PiecePlace
 piece-place = calls.piece-place
 
@@ -176,6 +201,16 @@ view-refused = seen.view-refused
 pub point-refused : (dim : ℕ) (s : List ℕ) (at k n p : ℕ) → pointOf dim s at k ≡ point.Refused n p → RefusedBy dim s (13 ∷ []) n p
 point-refused = points.point-refused
 
+-- the calls for a text, also with 6 at an element that is none; where a field's number is above those there are, 13
+pub text-refused : (dim : ℕ) (s : List ℕ) (at n p : ℕ) → textRead dim s at ≡ lettered.Refused n p → TextRefused dim s at n p
+text-refused = texts-refused.text-refused
+
+pub characters-refused : (dim : ℕ) (s : List ℕ) (at n p : ℕ) → charactersOf dim s at ≡ characters.Refused n p → TextRefused dim s at n p
+characters-refused = texts-refused.characters-refused
+
+pub field-refused : (dim : ℕ) (s : List ℕ) (at n p k : ℕ) → fieldOf dim s at k ≡ field.Refused n p → TextRefused dim s at n p
+field-refused = texts-refused.field-refused
+
 pub linkage-refused : (dim : ℕ) (s : List ℕ) (at k n p : ℕ) → linkageOf dim s at k ≡ attribute.Refused n p → RefusedBy dim s (13 ∷ []) n p
 linkage-refused = points.linkage-refused
 
@@ -199,6 +234,11 @@ pub write-refused : (dim : ℕ) (f : Fields) (points : List ℤ) (tail out : Lis
     Writes dim f points tail out r last → r ≡ written.Refused n p → (oneOf (1 ∷ 7 ∷ 8 ∷ 11 ∷ 15 ∷ []) n ≡ true) × (p ≡ 0) × (last ≡ out)
 write-refused = writes.write-refused
 
+-- and the writer of texts
+pub write-text-refused : (dim : ℕ) (f : Fields) (t : Text) (characters triples tail out : List ℕ) (r : Written) (last : List ℕ) (n p : ℕ) →
+    WritesText dim f t characters triples tail out r last → r ≡ written.Refused n p → (oneOf (1 ∷ 20 ∷ 8 ∷ 11 ∷ 15 ∷ []) n ≡ true) × (p ≡ 0) × (last ≡ out)
+write-text-refused = writes-text.write-text-refused
+
 ---- demand 1: the functions for C
 
 -- of the functions for C, whose contracts are `Replied`: a refusal changes no number of the lent slice
@@ -210,7 +250,7 @@ refusal-leaves = answers.refusal-leaves
 pub read-as : {A : Type 0} (needed : ℕ) (q : Reply A) (s t : List A) (n : ℕ) → SmallReply q → Replied needed q s n t → ReadAs (withRoom needed q s) s n t
 read-as = answers.read-as
 
--- as each is: its number is one from 1 to 19, its detail, a place or a count, at most 524,288
+-- as each is: its number is one from 1 to 20, its detail, a place or a count, at most 524,288
 pub judge-small : (dim : ℕ) (s : List ℕ) → SmallReply (judgeReply (judgeOf dim s))
 judge-small = dgn.judge-small
 
@@ -238,11 +278,27 @@ unpack-small = dgn-names.unpack-small
 pub write-small : (dim : ℕ) (f : List ℕ) (points : List ℤ) (tail : List ℕ) (room size : ℕ) → SmallReply (writeReply (writtenBy (givenFault dim f points tail room) size))
 write-small = dgn-writer.write-small
 
+pub write-text-small : (dim : ℕ) (f : List ℕ) (l : List ℤ) (characters triples tail : List ℕ) (room size : ℕ) →
+    SmallReply (writeReply (writtenBy (givenTextFault dim f l characters triples tail room) size))
+write-text-small = dgn-text-writer.write-text-small
+
 pub views-small : (dim : ℕ) (s : List ℕ) (k room : ℕ) → SmallReply (viewsReply dim s k room)
 views-small = small-views.views-small
 
+pub text-small : (dim : ℕ) (s : List ℕ) (at : ℕ) → SmallReply (textReply dim at (textRead dim s at))
+text-small = small-text.text-reply-small
+
+pub characters-small : (dim : ℕ) (s : List ℕ) (at : ℕ) → SmallReply (charactersReply (charactersOf dim s at))
+characters-small = small-text.characters-reply-small
+
+pub field-small : (dim : ℕ) (s : List ℕ) (at k : ℕ) → SmallReply (fieldReply (fieldOf dim s at k))
+field-small = small-text.field-reply-small
+
 pub points-small : (dim : ℕ) (s : List ℕ) (k room : ℕ) → SmallReply (pointsReply dim s k room)
 points-small = small-points.points-small
+
+pub texts-small : (dim : ℕ) (s : List ℕ) (k room : ℕ) → SmallReply (textsReply dim s k room)
+texts-small = small-texts.texts-small
 
 pub record-small : (journal : List ℕ) (used : ℕ) → SmallReply (recordReply journal used)
 record-small = small-record.record-small
@@ -267,6 +323,10 @@ all-views = whole.all-views
 -- 0, 1, .. give; 305 numbers hold any element
 pub all-points : AllPoints
 all-points = every-point.all-points
+
+-- and of all texts by dgn_texts: of each its place, whether it is deleted, its depth, and the numbers that the call for it gives
+pub all-texts : AllTexts
+all-texts = every-text.all-texts
 
 -- every number of a view is below 4,294,967,296
 pub view-below : (dim : ℕ) (s : List ℕ) (at : ℕ) (e : Element) → Below 256 s → viewOf dim s at ≡ view.Seen e → Below 4294967296 (viewNumbers at e)
@@ -299,7 +359,7 @@ one-fault = faults.one-fault
 pub refused-call : (dim : ℕ) (s : List ℕ) → (judgeOf dim s ≡ Refused 1 0) ↔ (callOk dim s ≡ false)
 refused-call = faults.refused-call
 
--- a refusal is 1 at 0, 2 at the file's end, or a number from 3 to 12 at a word of the file
+-- a refusal is 1 at 0, 2 at the file's end, or a number from 3 to 12 or 20 at a word of the file
 pub refusal-place : (dim : ℕ) (s : List ℕ) (n p : ℕ) → judgeOf dim s ≡ Refused n p → Refusal (length (words s)) n p
 refusal-place = faults.refusal-place
 
@@ -324,6 +384,19 @@ count-is-length = exact.count-is-length
 pub listing-is : (s : List ℕ) (e d m : ℕ) → length s ≤ 65536 → judgeOf 2 s ≡ Accepted e d m →
     (headingLine ++ (walkLines e (words s) walkStart ++ endLine m) ≡ listingOf s) × (walkPlace e (words s) walkStart ≡ m)
 listing-is = listing.listing-is
+
+-- the lines of texts along the same walk are the listing of textlist: a line for each text of the file, in file order
+pub text-listing-is : (s : List ℕ) (e d m : ℕ) → length s ≤ 65536 → judgeOf 2 s ≡ Accepted e d m →
+    textHeading ++ (walkTexts e s walkStart ++ endLine m) ≡ textListingOf s
+text-listing-is = listing.text-listing-is
+
+-- whatever the characters are, a text's line is bytes that print, and a line feed
+pub text-one-line : TextOneLine
+text-one-line = told.text-one-line
+
+-- and it tells the text: two texts with the same line have the same place, depth, state and characters
+pub text-told : TextTold
+text-told = told.text-told
 
 -- the test that linkages fill an attribute part is their meaning
 pub linkages-are : (n : ℕ) (ws : List ℕ) (at end : ℕ) → at ≤ end → end ≤ length ws → fillFrom n ws at end ≡ true →
@@ -377,18 +450,34 @@ never-another = named.never-another
 pub one-text : (dim : ℕ) (s t u : List ℕ) (place n k : ℕ) → findOf dim s t ≡ found.At place n → findOf dim s u ≡ found.At place k → t ≡ u
 one-text = named.one-text
 
+---- demand 2: the characters of a text and its fields
+
+-- the characters handed back are the bytes of the file from byte 60 of the text on, 76 in 3D, as many as it counts, within its own
+-- words, which no other element has a word of
+pub characters-own : CharactersOwn
+characters-own = own-characters.characters-own
+
+-- so the characters of two texts have no byte in common
+pub texts-apart : TextsApart
+texts-apart = own-characters.texts-apart
+
+-- a field that is given lies in the characters, with a justification of -1, 0 or 1
+pub fields-within : FieldsWithin
+fields-within = text-fields.fields-within
+
 ---- demand 2: what is written reads back the same, and what was accepted rewrites to the same bytes
 
 -- what the writer leaves in its buffer, put into an accepted file as its C and its type allow, makes an accepted file, and
--- view, points, linkages and the extent's bytes give back what was handed in
+-- view, points or text with its characters and fields, linkages and the extent's bytes give back what was handed in
 pub reads-back : ReadsBack
 reads-back = back.reads-back
 
--- writing what view, points and the extent's bytes give of an accepted element of a type that is written makes the same bytes
+-- writing what view, points or text with its characters and fields, and the extent's bytes give of an accepted element of type 3, 4, 6,
+-- 11 or 17 makes the same bytes
 pub rewrites : Rewrites
 rewrites = again.rewrites
 
--- and each element of such a type in an accepted file of bytes gives them: fields, points and tail
+-- and each element of such a type in an accepted file of bytes gives them
 pub every-given : EveryGiven
 every-given = given.every-given
 

@@ -20,6 +20,7 @@ use Rattle.points_linkages.specs.Points.{pointOf}
 use Rattle.points_linkages.specs.Linkages.{linkageOf}
 use Rattle.points_linkages.specs.declared.Point.the-variants as point
 use Rattle.points_linkages.specs.declared.Attribute.the-variants as attribute
+use Rattle.text_views.specs.TextViews.{textOf, charactersOf, fieldOf}
 use Rattle.finder.specs.Finder.{findOf}
 use Rattle.finder.specs.declared.Found.the-variants as found
 use Rattle.kinds.specs.Kinds.{isCell}
@@ -31,12 +32,15 @@ use Rattle.edits.specs.Book.{wasRefused}
 use Rattle.demands.specs.ReadingCalls.{FileRefused, Found}
 
 pub file-refused : (dim : ℕ) (s : List ℕ) (n p : ℕ) → judgeOf dim s ≡ Refused n p → FileRefused dim s n p
-unfolding spottedAt extentAnswer viewOf pointOf linkageOf findOf
+unfolding spottedAt extentAnswer viewOf pointOf linkageOf textOf charactersOf fieldOf findOf
 file-refused dim s n p e = record {
   extents = λ at. rw e refl;
   views = λ at. rw e refl;
   points = λ at k. rw e refl;
   linkages = λ at k. rw e refl;
+  texts = λ at. rw e refl;
+  characters = λ at. rw e refl;
+  fields = λ at k. rw e refl;
   finder = λ t. rw e refl;
 }
 

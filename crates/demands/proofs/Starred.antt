@@ -4,16 +4,18 @@ use mathlib.Core.Bool.{true}
 use Rattle.words.specs.Words.{over}
 use Rattle.names.specs.Names.{codeOf, letterOf, wordFrom, packed, wordOk, nameOk, textIn, textAnswer, unpacked}
 use Rattle.linkages.specs.Linkages.{linkageWords, fillFrom, linkagesFill}
+use Rattle.texts.specs.Texts.{byteAt, textPart, eachFieldOk, fieldsOk}
 use Rattle.kinds.specs.Kinds.{fixedPart, mayStand}
 use Rattle.elements.specs.Attributes.{attributesOk, linkagesOk}
 use Rattle.headers.specs.Flags.{reservedOk, placeOk}
-use Rattle.elements.specs.Rules.{fixedOk, extentOk, storedNameOk, faultOf, headOf, countOk}
+use Rattle.elements.specs.Rules.{fixedOk, textFieldsOk, extentOk, storedNameOk, faultOf, headOf, countOk}
 use Rattle.files.specs.Ends.{stopOf}
 use Rattle.files.specs.Judge.{elementFrom, listFrom, elementOf, topOf, judgeOf}
 use Rattle.files.specs.Spots.{spotsFrom, spotsOf}
 use Rattle.limits.specs.Limits.{callOk}
 use Rattle.places.specs.Places.{spottedAt}
 use Rattle.points_linkages.specs.Points.{pointOf}
+use Rattle.text_views.specs.TextViews.{turnAt, originAt, oddAt, textAt, fieldAt, textIn as textRead, charactersAt, fieldIn, textOf, charactersOf, fieldOf}
 use Rattle.edits.specs.Edits.{corrected, splice, cut, apply}
 use Rattle.edits.specs.Allowed.{markFault, renameFault, gapOk, pieceFault, insertFault, removeFault, editFault}
 use Rattle.edits.specs.Records.{recordOf, recordWords, lastRecord, reversal, reversible}
@@ -22,8 +24,8 @@ use Rattle.demands.specs.Starred.{allHold, starred}
 
 pub starred-hold : allHold starred ≡ true
 unfolding over codeOf letterOf wordFrom packed wordOk nameOk textIn textAnswer unpacked linkageWords fillFrom linkagesFill
-    fixedPart mayStand attributesOk linkagesOk reservedOk placeOk fixedOk extentOk storedNameOk faultOf headOf countOk stopOf
-    listFrom elementFrom elementOf topOf callOk judgeOf spotsFrom spotsOf spottedAt pointOf corrected splice cut apply markFault renameFault
+    byteAt textPart eachFieldOk fieldsOk fixedPart mayStand attributesOk linkagesOk reservedOk placeOk fixedOk textFieldsOk extentOk storedNameOk faultOf headOf countOk stopOf
+    listFrom elementFrom elementOf topOf callOk judgeOf spotsFrom spotsOf spottedAt pointOf turnAt originAt oddAt textAt fieldAt textRead charactersAt fieldIn textOf charactersOf fieldOf corrected splice cut apply markFault renameFault
     gapOk pieceFault insertFault removeFault editFault recordOf recordWords lastRecord reversal reversible sessionOk
     sessionFault openFault stored editMade editWithin edited undoMade undone step
 starred-hold = refl

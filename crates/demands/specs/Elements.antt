@@ -2,6 +2,7 @@
 use Prim.Native.Nat.{ℕ, zero, suc, _+_, _*_, _-_, min}
 use mathlib.Core.List.{List, [], _∷_, _++_}
 use lib.ListN.{length, replicate}
+use Rattle.words.specs.Words.{words}
 
 -- word 0: type, C, bit 6 and the deleted flag; level 0
 abbrev pub firstWord : ℕ → ℕ → ℕ → ℕ → ℕ
@@ -28,7 +29,7 @@ attributed kind size index own = element (live kind 0) size index 2048 own
 abbrev pub raw : ℕ → List ℕ
 raw c = live 5 c ∷ 0 ∷ []
 
--- a 2D line, live and deleted, and a text
+-- a 2D line, live and deleted, and an empty 2D text
 abbrev pub line : ℕ → List ℕ
 line c = plain 3 c 26 []
 
@@ -36,7 +37,17 @@ abbrev pub deadLine : ℕ → List ℕ
 deadLine c = element (firstWord 3 c 0 1) 26 0 0 []
 
 abbrev pub text : ℕ → List ℕ
-text c = plain 17 c 18 []
+text c = plain 17 c 30 []
+
+-- what a text has from word 18 on: zeros, in 2D 11 and in 3D 19, the counts of characters and fields, and the bytes of both
+abbrev pub texted : ℕ → ℕ → ℕ → List ℕ → List ℕ
+texted zeros characters fields given = replicate zeros 0 ++ ((characters + 256 * fields) ∷ words (given ++ (0 ∷ [])))
+
+abbrev pub flatText : ℕ → ℕ → ℕ → List ℕ → List ℕ
+flatText size characters fields given = plain 17 0 size (texted 11 characters fields given)
+
+abbrev pub solidText : ℕ → ℕ → ℕ → List ℕ → List ℕ
+solidText size characters fields given = plain 17 0 size (texted 19 characters fields given)
 
 -- the headers, each before what stands under it: a 2D cell with its total, and one at the top with its name too
 abbrev pub cell : ℕ → ℕ → List ℕ

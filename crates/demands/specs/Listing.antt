@@ -1,11 +1,12 @@
--- The listing of the program celllist (RULES.md, "Listing"): one line of a refused file or of more than
--- 65,536 bytes; else the heading, a line for each element in file order, and the end.
+-- The listings of the programs celllist and textlist (RULES.md, "Listing"): one line of a refused file or of more than
+-- 65,536 bytes; else the heading, a line for each element, or for each text, in file order, and the end.
 use Prim.Native.Nat.{ℕ, zero, suc}
 use mathlib.Core.Bool.{cond}
 use mathlib.Core.List.{List, [], _∷_, _++_}
-use lib.Dec.{leb}
+use lib.Dec.{eqb, leb}
 use lib.ListN.{length}
 use Rattle.words.specs.Words.{words}
+use Rattle.headers.specs.Header.{typeAt}
 use Rattle.files.specs.Judge.{judgeOf}
 use Rattle.files.specs.Spots.{Spot, spotsOf}
 use Rattle.files.specs.declared.Judged.{Judged}
@@ -13,26 +14,52 @@ use Rattle.files.specs.declared.Judged.the-variants.{Accepted, Refused}
 use Rattle.walking.specs.declared.Walk.{Walk}
 use Rattle.walking.specs.Walk.{nextOf}
 use Rattle.listing.specs.Lines.{headingLine, refusedLine, endLine}
+use Rattle.listing.specs.Texts.{textHeading}
 use Rattle.lines.specs.Element.{lineOf}
+use Rattle.text_lines.specs.Text.{textLineOf}
 
--- a line for each element
-abbrev pub elementLines : List ℕ → List Spot → List ℕ
-elementLines ws [] = []
-elementLines ws (x ∷ xs) = lineOf ws (x .place) (x .depth) ++ elementLines ws xs
+---- the listings
 
 -- by what judging answers
-abbrev pub listingBy : Judged → List ℕ → List Spot → List ℕ
-listingBy (Refused number place) ws xs = refusedLine number place
-listingBy (Accepted elements deepest marker) ws xs = headingLine ++ (elementLines ws xs ++ endLine marker)
+abbrev pub listingBy : Judged → List ℕ → List ℕ → List ℕ
+listingBy (Refused number place) heading lines = refusedLine number place
+listingBy (Accepted elements deepest marker) heading lines = heading ++ (lines ++ endLine marker)
 
--- the listing of the bytes s of a 2D file
-unfoldable pub listingOf : List ℕ → List ℕ
-listingOf s = cond (leb (length s) 65536) (listingBy (judgeOf 2 s) (words s) (spotsOf 2 (words s))) (refusedLine 1 0)
+-- of the bytes s of a 2D file, with a heading and lines
+unfoldable pub listed : List ℕ → List ℕ → List ℕ → List ℕ
+listed heading lines s = cond (leb (length s) 65536) (listingBy (judgeOf 2 s) heading lines) (refusedLine 1 0)
+
+-- the line of each element, by its place and depth
+abbrev pub linesOf : (ℕ → ℕ → List ℕ) → List Spot → List ℕ
+linesOf line [] = []
+linesOf line (x ∷ xs) = line (x .place) (x .depth) ++ linesOf line xs
+
+-- celllist: all elements
+abbrev pub listingOf : List ℕ → List ℕ
+listingOf s = listed headingLine (linesOf (lineOf (words s)) (spotsOf 2 (words s))) s
+
+-- the texts among elements
+abbrev pub textsAmong : List ℕ → List Spot → List Spot
+textsAmong ws [] = []
+textsAmong ws (x ∷ xs) = cond (eqb (typeAt ws (x .place)) 17) (x ∷ textsAmong ws xs) (textsAmong ws xs)
+
+-- textlist: all texts
+abbrev pub textListingOf : List ℕ → List ℕ
+textListingOf s = listed textHeading (linesOf (textLineOf s) (textsAmong (words s) (spotsOf 2 (words s)))) s
+
+---- along the walk
 
 -- the lines of n steps of the walk, from a step on
+abbrev pub linesAlong : (ℕ → ℕ → List ℕ) → ℕ → List ℕ → Walk → List ℕ
+linesAlong line zero ws w = []
+linesAlong line (suc n) ws w = line (w .place) (w .depth) ++ linesAlong line n ws (nextOf ws w)
+
+-- those of celllist and of textlist, of which an element that is no text has none
 abbrev pub walkLines : ℕ → List ℕ → Walk → List ℕ
-walkLines zero ws w = []
-walkLines (suc n) ws w = lineOf ws (w .place) (w .depth) ++ walkLines n ws (nextOf ws w)
+walkLines n ws w = linesAlong (lineOf ws) n ws w
+
+abbrev pub walkTexts : ℕ → List ℕ → Walk → List ℕ
+walkTexts n s w = linesAlong (textLineOf s) n (words s) w
 
 -- where the walk is after n steps
 abbrev pub walkPlace : ℕ → List ℕ → Walk → ℕ

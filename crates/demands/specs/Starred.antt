@@ -1,10 +1,11 @@
 -- The worked cases that RULES.md marks with *, its table of fixed parts, its rules of what may stand where and of
--- bits 6 and 7, cases of its depths, totals, counts, stored names and attribute parts, of its orders of checks and of
--- sessions, as one list. That all hold is one statement of the page of demands.
+-- bits 6 and 7, cases of its depths, totals, counts, stored names, attribute parts and texts, of its orders of checks and
+-- of sessions, as one list. That all hold is one statement of the page of demands.
 use Prim.Native.Nat.{ℕ, zero, suc, _+_, _*_}
 use mathlib.Core.List.{List, [], _∷_, _++_}
 use mathlib.Core.Bool.{Bool, true, _&&_}
 use lib.IntN.{ℤ, pos, negsuc}
+use lib.ListN.{replicate}
 use Rattle.words.specs.Words.{words, bytes, longAt, signed}
 use Rattle.names.specs.Names.{wordOf, packed, packedNumbers, unpacked, answerNumbers}
 use Rattle.names.specs.declared.Packed.{Packed}
@@ -12,13 +13,27 @@ use Rattle.names.specs.declared.Packed.the-variants as name
 use Rattle.kinds.specs.FirstWord.{bit}
 use Rattle.kinds.specs.Kinds.{fixedPart, mayStand}
 use Rattle.limits.specs.Limits.{sizeOk, usedOk}
-use Rattle.elements.specs.Rules.{extentOk}
+use Rattle.headers.specs.Checks.{firstFault}
+use Rattle.elements.specs.Rules.{extentOk, contentChecks}
 use Rattle.files.specs.Judge.{judgeOf, judgedNumbers}
 use Rattle.points_linkages.specs.Points.{pointOf}
 use Rattle.points_linkages.specs.declared.Point.{Point}
 use Rattle.points_linkages.specs.declared.Point.the-variants as point
+use Rattle.text_views.specs.TextViews.{textOf, charactersOf, fieldOf}
+use Rattle.text_views.specs.declared.Turn.{Turn}
+use Rattle.text_views.specs.declared.Turn.the-variants as turn
+use Rattle.text_views.specs.declared.Origin.{Origin}
+use Rattle.text_views.specs.declared.Origin.the-variants as origin
+use Rattle.text_views.specs.declared.Odd.{Odd}
+use Rattle.text_views.specs.declared.Odd.the-variants as odd
+use Rattle.text_views.specs.declared.TextView.{TextView}
+use Rattle.text_views.specs.declared.TextView.the-variants as texts
+use Rattle.text_views.specs.declared.Characters.{Characters}
+use Rattle.text_views.specs.declared.Characters.the-variants as characters
+use Rattle.text_views.specs.declared.FieldView.{FieldView}
+use Rattle.text_views.specs.declared.FieldView.the-variants as field
 use Rattle.demands.specs.Cases.{Case, case, holds}
-use Rattle.demands.specs.Elements.{firstWord, live, plain, attributed, raw, line, deadLine, text, cell, namedCell, libraryCell, chain, counting, inCells, text00417, text417}
+use Rattle.demands.specs.Elements.{firstWord, live, plain, attributed, raw, line, deadLine, text, texted, flatText, solidText, cell, namedCell, libraryCell, chain, counting, inCells, text00417, text417}
 use Rattle.demands.specs.SessionCases.{sessionCases}
 
 -- whether each case of a list holds
@@ -122,11 +137,12 @@ cellCases =
     case (judged2D (cellWithLine 54)) (3 ∷ 72 ∷ []) ∷
     []
 
--- the fixed parts of a type in words, 2D and 3D, with N points
+-- the fixed parts of a type in words, 2D and 3D, by the word that sizes them
 abbrev pub fixedParts : ℕ → ℕ → List ℕ
 fixedParts kind n = fixedPart 2 kind n ∷ fixedPart 3 kind n ∷ []
 
--- the table of fixed parts: 1, 2, 3; 4, 6, 11, 21 with N=2 and N=101; 7, 12, 14, 17; 18 and 19, in a 2D file refused, 6
+-- the table of fixed parts: 1, 2, 3; 4, 6, 11, 21 with N=2 and N=101; 7, 12, 14; 17 with no characters
+-- and fields, with one of each and with 255 of each; 18 and 19, in a 2D file refused, 6
 abbrev pub tableCases : List Case
 tableCases =
     case (fixedParts 1 0) (35 ∷ 35 ∷ []) ∷
@@ -143,7 +159,9 @@ tableCases =
     case (fixedParts 7 0) (35 ∷ 43 ∷ []) ∷
     case (fixedParts 12 0) (20 ∷ 20 ∷ []) ∷
     case (fixedParts 14 0) (20 ∷ 20 ∷ []) ∷
-    case (fixedParts 17 0) (18 ∷ 18 ∷ []) ∷
+    case (fixedParts 17 0) (30 ∷ 38 ∷ []) ∷
+    case (fixedParts 17 257) (32 ∷ 40 ∷ []) ∷
+    case (fixedParts 17 65535) (540 ∷ 548 ∷ []) ∷
     case (fixedPart 3 18 0 ∷ judged2D (plain 18 0 21 (2 ∷ []))) (21 ∷ 6 ∷ 0 ∷ []) ∷
     case (fixedPart 3 19 0 ∷ judged2D (plain 19 0 21 (2 ∷ []))) (21 ∷ 6 ∷ 0 ∷ []) ∷
     []
@@ -263,7 +281,7 @@ countCases =
     -- left out of the total it stands at the top, where C is wrong
     case (judged2D (chain 0 27 1 ++ line 1 ++ deadLine 1)) (5 ∷ 46 ∷ []) ∷
     -- the count of a text node, and one that differs
-    case (judged2D (counting 7 35 2 (text 1 ++ text 1))) (0 ∷ 3 ∷ 1 ∷ 71 ∷ []) ∷
+    case (judged2D (counting 7 35 2 (text 1 ++ text 1))) (0 ∷ 3 ∷ 1 ∷ 95 ∷ []) ∷
     case (judged2D (counting 7 35 1 (text 1 ++ text 1))) (9 ∷ 0 ∷ []) ∷
     -- of a shape
     case (judged2D (counting 14 20 1 (line 1))) (0 ∷ 2 ∷ 1 ∷ 46 ∷ []) ∷
@@ -293,7 +311,60 @@ attributeCases =
     case (judged2D (line 0 ++ attributed 12 20 5 (1 ∷ []))) (11 ∷ 26 ∷ []) ∷
     []
 
--- the order of checks of one element: 3, 4, 5, 10, 6, 7, 8, 11, 12, its components, 9; each case has two faults
+-- a text of three characters, in 2D, and one field of them
+abbrev pub withField : ℕ → ℕ → ℕ → List ℕ
+withField first size justification = judged2D (flatText 33 3 1 (65 ∷ 66 ∷ 67 ∷ first ∷ size ∷ justification ∷ []))
+
+-- texts: the counts size the fixed part, and a field begins at a character, ends by the last and is justified -1, 0 or 1
+abbrev pub textCases : List Case
+textCases =
+    -- an empty text, and one word fewer: 7; in 3D
+    case (judged2D (text 0)) (0 ∷ 1 ∷ 0 ∷ 30 ∷ []) ∷
+    case (judged2D (plain 17 0 29 [])) (7 ∷ 0 ∷ []) ∷
+    case (judged3D (plain 17 0 38 [])) (0 ∷ 1 ∷ 0 ∷ 38 ∷ []) ∷
+    case (judged3D (plain 17 0 37 [])) (7 ∷ 0 ∷ []) ∷
+    -- a character and a field fill two words together, not one and two
+    case (judged2D (flatText 32 1 1 (65 ∷ 1 ∷ 1 ∷ 0 ∷ []))) (0 ∷ 1 ∷ 0 ∷ 32 ∷ []) ∷
+    case (judged2D (flatText 31 1 1 (65 ∷ 1 ∷ 1 ∷ 0 ∷ []))) (7 ∷ 0 ∷ []) ∷
+    case (judged3D (solidText 40 1 1 (65 ∷ 1 ∷ 1 ∷ 0 ∷ []))) (0 ∷ 1 ∷ 0 ∷ 40 ∷ []) ∷
+    case (judged3D (solidText 39 1 1 (65 ∷ 1 ∷ 1 ∷ 0 ∷ []))) (7 ∷ 0 ∷ []) ∷
+    -- an odd last byte takes a word
+    case (judged2D (flatText 31 1 0 (65 ∷ []))) (0 ∷ 1 ∷ 0 ∷ 31 ∷ []) ∷
+    case (judged2D (flatText 30 1 0 (65 ∷ []))) (7 ∷ 0 ∷ []) ∷
+    -- a field that ends at the last character, and one past it
+    case (withField 2 2 0) (0 ∷ 1 ∷ 0 ∷ 33 ∷ []) ∷
+    case (withField 2 3 0) (20 ∷ 0 ∷ []) ∷
+    -- of length 0: it begins at a character all the same
+    case (withField 3 0 0) (0 ∷ 1 ∷ 0 ∷ 33 ∷ []) ∷
+    case (withField 4 0 0) (20 ∷ 0 ∷ []) ∷
+    case (withField 0 1 0) (20 ∷ 0 ∷ []) ∷
+    -- a text without characters has no place for a field
+    case (judged2D (flatText 32 0 1 (0 ∷ 0 ∷ 0 ∷ []))) (20 ∷ 0 ∷ []) ∷
+    case (judged2D (flatText 32 0 1 (1 ∷ 0 ∷ 0 ∷ []))) (20 ∷ 0 ∷ []) ∷
+    -- justifications
+    case (withField 1 3 255) (0 ∷ 1 ∷ 0 ∷ 33 ∷ []) ∷
+    case (withField 1 3 1) (0 ∷ 1 ∷ 0 ∷ 33 ∷ []) ∷
+    case (withField 1 3 2) (20 ∷ 0 ∷ []) ∷
+    case (withField 1 3 254) (20 ∷ 0 ∷ []) ∷
+    -- 255 + 255 is 510
+    case (judged2D (flatText 159 255 1 (replicate 255 65 ++ (255 ∷ 1 ∷ 0 ∷ [])))) (0 ∷ 1 ∷ 0 ∷ 159 ∷ []) ∷
+    case (judged2D (flatText 159 255 1 (replicate 255 65 ++ (255 ∷ 255 ∷ 0 ∷ [])))) (20 ∷ 0 ∷ []) ∷
+    -- the second of two fields, behind an odd number of characters; fields may overlap
+    case (judged2D (flatText 34 1 2 (65 ∷ 1 ∷ 1 ∷ 0 ∷ 1 ∷ 1 ∷ 255 ∷ []))) (0 ∷ 1 ∷ 0 ∷ 34 ∷ []) ∷
+    case (judged2D (flatText 34 1 2 (65 ∷ 1 ∷ 1 ∷ 0 ∷ 2 ∷ 1 ∷ 255 ∷ []))) (20 ∷ 0 ∷ []) ∷
+    -- an attribute part that begins where the characters and fields end, and one in their words: 11
+    case (judged2D (attributed 17 32 16 (texted 11 1 1 (65 ∷ 1 ∷ 1 ∷ 0 ∷ [])))) (0 ∷ 1 ∷ 0 ∷ 32 ∷ []) ∷
+    case (judged2D (attributed 17 32 15 (texted 11 1 1 (65 ∷ 1 ∷ 1 ∷ 0 ∷ [])))) (11 ∷ 0 ∷ []) ∷
+    -- in a text node 20 stands at the text
+    case (judged2D (counting 7 35 2 (text 1 ++ plain 17 1 32 (texted 11 1 1 (65 ∷ 1 ∷ 1 ∷ 0 ∷ []))))) (0 ∷ 3 ∷ 1 ∷ 97 ∷ []) ∷
+    case (judged2D (counting 7 35 2 (text 1 ++ plain 17 1 32 (texted 11 1 1 (65 ∷ 2 ∷ 1 ∷ 0 ∷ []))))) (20 ∷ 65 ∷ []) ∷
+    []
+
+-- what a 2D text of one character, one field and, by its word 1, 65,536 words is refused with
+abbrev pub largeText : List ℕ → List ℕ
+largeText given = firstFault (contentChecks 2 (live 17 0 ∷ 65534 ∷ replicate 16 0 ++ texted 11 1 1 given) 0 65536) ∷ []
+
+-- the order of checks of one element: 3, 4, 5, 10, 6, 7, 20, 8, 11, 12, its components, 9; each case has two faults
 abbrev pub orderCases : List Case
 orderCases =
     -- cut, and bit 6 set
@@ -308,6 +379,13 @@ orderCases =
     case (judged2D (plain 18 0 20 [])) (6 ∷ 0 ∷ []) ∷
     -- a cell shorter than its fixed part, and its total too large
     case (judged2D (plain 2 0 45 (65517 ∷ []))) (7 ∷ 0 ∷ []) ∷
+    -- a text shorter than its fixed part, and a field outside the characters
+    case (judged2D (flatText 31 1 1 (65 ∷ 2 ∷ 0 ∷ 0 ∷ []))) (7 ∷ 0 ∷ []) ∷
+    -- a field outside the characters, and 65,536 words; the size alone
+    case (largeText (65 ∷ 2 ∷ 0 ∷ 0 ∷ []) ++ largeText (65 ∷ 1 ∷ 1 ∷ 0 ∷ [])) (20 ∷ 8 ∷ []) ∷
+    -- a field outside the characters, and an attribute part in the fixed part; the attribute part alone
+    case (judged2D (attributed 17 32 0 (texted 11 1 1 (65 ∷ 2 ∷ 0 ∷ 0 ∷ [])))) (20 ∷ 0 ∷ []) ∷
+    case (judged2D (attributed 17 32 0 (texted 11 1 1 (65 ∷ 1 ∷ 0 ∷ 0 ∷ [])))) (11 ∷ 0 ∷ []) ∷
     -- a total too large, and an attribute part in the fixed part
     case (judged2D (attributed 2 46 0 (65517 ∷ []))) (8 ∷ 0 ∷ []) ∷
     -- an attribute part in the fixed part, and a word above 63999 in the name
@@ -351,8 +429,69 @@ givenCases =
     case (pointNumbers 2 (text 0) 0) (13 ∷ 0 ∷ []) ∷
     []
 
+-- what the calls for a text, its characters and a field give, of the element at the front of a file: 0 and the numbers, signed ones as
+-- for points, the odd byte behind a 1; or the refusal
+abbrev pub turnShown : Turn → List ℕ
+turnShown (turn.Flat rotation) = rotation ∷ []
+turnShown (turn.Solid a b c d) = a ∷ b ∷ c ∷ d ∷ []
+
+abbrev pub originShown : Origin → List ℕ
+originShown (origin.Flat x y) = signedAll (x ∷ y ∷ [])
+originShown (origin.Solid x y z) = signedAll (x ∷ y ∷ z ∷ [])
+
+abbrev pub oddShown : Odd → List ℕ
+oddShown odd.Absent = 0 ∷ []
+oddShown (odd.Byte value) = 1 ∷ value ∷ []
+
+abbrev pub textShown : TextView → List ℕ
+textShown (texts.Read t) =
+    0 ∷ t .font ∷ t .justification ∷ t .length ∷ t .height
+    ∷ (turnShown (t .turn) ++ (originShown (t .origin) ++ (t .characters ∷ t .fields ∷ oddShown (t .odd))))
+textShown (texts.Refused n p) = n ∷ p ∷ []
+
+abbrev pub charactersShown : Characters → List ℕ
+charactersShown (characters.At start count) = 0 ∷ start ∷ count ∷ []
+charactersShown (characters.Refused n p) = n ∷ p ∷ []
+
+abbrev pub fieldShown : FieldView → List ℕ
+fieldShown (field.Read first count justification) = 0 ∷ first ∷ count ∷ signedAll (justification ∷ [])
+fieldShown (field.Refused n p) = n ∷ p ∷ []
+
+abbrev pub withMarker : List ℕ → List ℕ
+withMarker ws = bytes (ws ++ (65535 ∷ []))
+
+-- `SEAL 7`, a field of its last two characters with justification -1, and an odd byte 42, in 2D and in 3D, every number another
+abbrev pub sealBytes : List ℕ
+sealBytes = 83 ∷ 69 ∷ 65 ∷ 76 ∷ 32 ∷ 55 ∷ 5 ∷ 2 ∷ 255 ∷ 42 ∷ []
+
+abbrev pub flatSeal : List ℕ
+flatSeal = plain 17 0 35 (1795 ∷ 0 ∷ 1000 ∷ 65535 ∷ 1 ∷ 1 ∷ 2 ∷ 65535 ∷ 65534 ∷ 0 ∷ 5 ∷ 262 ∷ words sealBytes)
+
+abbrev pub solidSeal : List ℕ
+solidSeal =
+    plain 17 0 43
+    (1795 ∷ 0 ∷ 1000 ∷ 65535 ∷ 1 ∷ 1 ∷ 2 ∷ 0 ∷ 11 ∷ 0 ∷ 12 ∷ 65535 ∷ 13 ∷ 65535 ∷ 65534 ∷ 0 ∷ 5 ∷ 65535 ∷ 65529 ∷ 262 ∷ words sealBytes)
+
+abbrev pub readCases : List Case
+readCases =
+    case (textShown (textOf 2 (withMarker flatSeal) 0)) (0 ∷ 3 ∷ 7 ∷ 1000 ∷ 4294901761 ∷ 65538 ∷ 1 ∷ 2 ∷ 0 ∷ 5 ∷ 6 ∷ 1 ∷ 1 ∷ 42 ∷ []) ∷
+    case (textShown (textOf 3 (withMarker solidSeal) 0))
+    (0 ∷ 3 ∷ 7 ∷ 1000 ∷ 4294901761 ∷ 65538 ∷ 11 ∷ 12 ∷ 4294901773 ∷ 1 ∷ 2 ∷ 0 ∷ 5 ∷ 1 ∷ 7 ∷ 6 ∷ 1 ∷ 1 ∷ 42 ∷ []) ∷
+    case (textShown (textOf 2 (withMarker (text 0)) 0)) (0 ∷ 0 ∷ 0 ∷ 0 ∷ 0 ∷ 0 ∷ 0 ∷ 0 ∷ 0 ∷ 0 ∷ 0 ∷ 0 ∷ 0 ∷ []) ∷
+    case (textShown (textOf 2 (withMarker (line 0)) 0)) (6 ∷ 0 ∷ []) ∷
+    case (textShown (textOf 2 (withMarker flatSeal) 1)) (13 ∷ 0 ∷ []) ∷
+    case (charactersShown (charactersOf 2 (withMarker flatSeal) 0)) (0 ∷ 60 ∷ 6 ∷ []) ∷
+    case (charactersShown (charactersOf 3 (withMarker solidSeal) 0)) (0 ∷ 76 ∷ 6 ∷ []) ∷
+    case (charactersShown (charactersOf 2 (withMarker (raw 0 ++ flatSeal)) 2)) (0 ∷ 64 ∷ 6 ∷ []) ∷
+    case (fieldShown (fieldOf 2 (withMarker flatSeal) 0 0)) (0 ∷ 5 ∷ 2 ∷ 1 ∷ 1 ∷ []) ∷
+    case (fieldShown (fieldOf 3 (withMarker solidSeal) 0 0)) (0 ∷ 5 ∷ 2 ∷ 1 ∷ 1 ∷ []) ∷
+    case (fieldShown (fieldOf 2 (withMarker flatSeal) 0 1)) (13 ∷ 0 ∷ []) ∷
+    case (fieldShown (fieldOf 2 (withMarker (line 0)) 0 0)) (6 ∷ 0 ∷ []) ∷
+    []
+
 -- the one list
 abbrev pub starred : List Case
 starred =
     longCases ++ nameCases ++ fileCases ++ lineCases ++ pointCases ++ cellCases ++ tableCases ++ placeCases ++ ruleCases
-    ++ lengthCases ++ givenCases ++ codeCases ++ depthCases ++ totalCases ++ countCases ++ attributeCases ++ orderCases ++ sessionCases
+    ++ lengthCases ++ givenCases ++ codeCases ++ depthCases ++ totalCases ++ countCases ++ attributeCases ++ textCases
+    ++ readCases ++ orderCases ++ sessionCases

@@ -46,7 +46,7 @@ kept-in hs depth place next h = rw (lt-ltb depth next h) refl
 pub kept-out : (hs : List ℕ) (depth place next : ℕ) → next ≤ depth → kept hs depth place next ≡ hs
 kept-out hs depth place next h = rw (le-ltb depth next h) refl
 
-kept-length : (hs : List ℕ) (depth place next : ℕ) → length (kept hs depth place next) ≡ length hs
+pub kept-length : (hs : List ℕ) (depth place next : ℕ) → length (kept hs depth place next) ≡ length hs
 kept-length hs depth place next = go (ltb depth next)
   where
     go : (b : Bool) → length (cond b (set hs next place) hs) ≡ length hs

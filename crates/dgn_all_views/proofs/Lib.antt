@@ -1,4 +1,6 @@
 pub mod Heads
+pub mod Alike
+pub mod Tops
 pub mod Tours
 pub mod Puts
 pub mod Replies

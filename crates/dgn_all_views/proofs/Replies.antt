@@ -1,5 +1,5 @@
 -- Each case of the answer: refused at once, no room for one view, done.
-use Prim.Native.Nat.{ℕ, _+_, _-_, _*_, _/_, _≤_, _<_, _^_, min}
+use Prim.Native.Nat.{ℕ, zero, suc, _+_, _*_, _≤_, _<_}
 use mathlib.Core.Path.{_≡_, refl, sym, ap, _∙_, subst}
 use mathlib.Core.Bool.{true, false}
 use mathlib.Core.List.{List, [], _∷_}
@@ -9,11 +9,12 @@ use lib.ListN.{length, set}
 use lib.Seq.{sets}
 use Rattle.words.specs.Words.{words, Below}
 use Rattle.files.specs.Judge.{judgeOf}
+use Rattle.answers.proofs.Elements.{elements-few}
+use Rattle.order.proofs.Order.{count-is}
 use Rattle.order.specs.declared.Begun.the-variants.{Refused}
 use Rattle.order.specs.Calls.{begunOf, noneFits}
 use Rattle.order.proofs.Calls.{GoesOn, call-refused, call-full, call-done}
-use Rattle.dgn_all_views.specs.Tour.{tourOf}
-use Rattle.dgn_all_views.specs.Views.{viewsMany, viewsPart, viewsFrom}
+use Rattle.dgn_all_views.specs.Views.{viewsMany, viewsPart, Begins, PartPut}
 use Rattle.dgn_all_views.specs.Answers.{viewsCount, viewsReply, ViewsGiven}
 use Rattle.dgn_all_views.proofs.Tours.{views-are, tour-inside}
 
@@ -31,9 +32,13 @@ module _ (dim : ℕ) (s : List ℕ) (k : ℕ) (views : List ℤ) (out : List ℕ
     counted : n ≡ many
     counted = count ∙ sym (ap (λ v. viewsCount v (length views) k) (on .accepted))
 
-    -- so many fit, and each is in the file
-    pub views-fit : k < 2 ^ 64 → e < 2 ^ 64 → (32 * n ≤ length views) × ((k + n < 2 ^ 64) × (0 < n → (i : ℕ) → i < k + n → tourOf (words s) i .walk .place < length (words s)))
-    views-fit a b = (omega arith, (omega arith, λ z i h. tour-inside dim s e (on .deepest) (on .marker) (on .accepted) i (omega arith)))
+    -- so many fit, and the walk from any element at the top comes to words of the file
+    pub views-fit : (32 * n ≤ length views) × (0 < n → (k + n ≤ 1048576) × Begins (words s) k n)
+    views-fit =
+        let f = elements-few dim s e (on .deepest) (on .marker) (on .accepted) in
+        let c = count-is dim s e (on .deepest) (on .marker) (on .accepted) in
+        let few : 0 < n → k + n ≤ e = λ z. omega arith in
+        (omega arith, λ z. (omega (arith, few z), λ r b i h. tour-inside dim s e (on .deepest) (on .marker) (on .accepted) k r b (omega (arith, few z)) n i (few z) h))
 
     pub views-full : true ≡ noneFits n k e → ViewsGiven dim s k views out 15 views out
     unfolding viewsReply
@@ -41,9 +46,18 @@ module _ (dim : ℕ) (s : List ℕ) (k : ℕ) (views : List ℤ) (out : List ℕ
         let g = call-full dim s 1 many k (many ∷ []) out (viewsPart dim s k many) views e on (f ∙ ap (λ i. noneFits i k e) counted) in
         record { replied = g .0; given = g .1 }
 
-    pub views-done : false ≡ noneFits n k e → Below 256 s → (t : List ℤ) → t ≡ sets views 0 (viewsFrom n (words s) k) → ViewsGiven dim s k views out 0 t (set out 0 n)
+    -- what is put is those of the elements
+    part-is : Below 256 s → (t : List ℤ) → PartPut (words s) k n views t → t ≡ sets views 0 (viewsPart dim s k n)
+    unfolding viewsPart
+    part-is b t h = go n refl
+      where
+        go : (i : ℕ) → n ≡ i → t ≡ sets views 0 (viewsPart dim s k n)
+        go zero z = h .given ∙ rw z refl
+        go (suc i) z = h .given ∙ ap (sets views 0) (views-are dim s e (on .deepest) (on .marker) (on .accepted) b k n (h .from) (h .top (omega arith)) (omega arith) (omega arith))
+
+    pub views-done : false ≡ noneFits n k e → Below 256 s → (t : List ℤ) → PartPut (words s) k n views t → ViewsGiven dim s k views out 0 t (set out 0 n)
     unfolding viewsReply
     views-done f b t h =
-        let z = h ∙ ap (sets views 0) (views-are dim s e (on .deepest) (on .marker) (on .accepted) b n k (omega arith) ∙ ap (viewsPart dim s k) counted) in
+        let z = part-is b t h ∙ ap (λ i. sets views 0 (viewsPart dim s k i)) counted in
         let g = call-done dim s 1 many k (many ∷ []) out (viewsPart dim s k many) views e on (f ∙ ap (λ i. noneFits i k e) counted) in
         subst (λ i. ViewsGiven dim s k views out 0 t (set out 0 i)) (sym counted) (record { replied = g .0; given = z ∙ g .1 })

@@ -1,35 +1,53 @@
-// The C interface of the views of a whole file, as in include/dgn.h: the file is judged once, and then one walk goes over
-// its elements and keeps the header of each depth. Definitions: specs/Tour, specs/Views.
+// The C interface of the views of a whole file, as in include/dgn.h: the file is judged once; then a hop finds an element at
+// the top from which one walk goes over the elements and keeps the header of each depth. Definitions: specs/Tour, specs/Views.
 ghost use mathlib.Core.Path.{_≡_};
-ghost use mathlib.Core.Bool.{true, cond};
+ghost use mathlib.Core.Bool.{true, cond, not};
 ghost use Prim.Native.Nat.{ℕ, _+_, _-_, _*_, _≤_, _<_, _^_};
-ghost use lib.ListN.{length, getD};
+ghost use lib.ListN.{length};
 ghost use lib.Seq.{sets};
 ghost use lib.Dec.{ltb};
-ghost use Rattle.words.specs.Words.{words};
+ghost use Rattle.words.specs.Words.{words, wordAt};
+ghost use Rattle.headers.specs.Flags.{placeOk};
 ghost use Rattle.places.specs.Places.{aboveOf};
-ghost use Rattle.dgn_all_views.specs.Tour.{kept, headerIn, GoesOn, tourOf};
-ghost use Rattle.dgn_all_views.specs.Views.{viewsMany, shownAt, viewsFrom};
+ghost use Rattle.dgn_all_views.specs.Tour.{headerIn, GoesOn, tourOf, TopBefore};
+ghost use Rattle.dgn_all_views.specs.Views.{viewsMany, shownAt, viewsFrom, Begins, PartPut};
 ghost use Rattle.dgn_all_views.specs.Answers.{ViewsGiven};
 
-// The place of the header around the elements of each depth.
-struct Kept {
-    headers: [usize; 9],
+// An element's number and place.
+struct Numbered {
+    number: usize,
+    place: usize,
 }
 
-// The headers that are kept where an element at a depth is followed by one at the depth `next`.
-fn kept_headers(headers: [usize; 9], depth: usize, place: usize, next: usize) -> [usize; 9]
-    ensures { λ r. ⌜ r ≡ kept headers depth place next ⌝ }
+// Whether the element at a place is no component, by its C: it is at the top. C of type 9 does not tell.
+fn no_component(file: &[u8], at: usize) -> bool
+    ensures { λ r. ⌜ r ≡ not (placeOk 1 (wordAt (words (now (file .entry))) at)) ⌝ }
 {
-    if next <= depth {
-        return headers;
+    let w = words::word(file, at);
+    if kinds::type_of(w) == 9 {
+        return false;
     }
-    if 8 < next {
-        return headers;
+    w / 128 % 2 == 0
+}
+
+// The last element up to number k that shows that it is at the top. Of each element before it words 0 and 1 are read, and
+// nothing is kept.
+fn top_before(file: &[u8], k: usize) -> Numbered
+    requires { ⌜ k ≤ 1048576 ⌝ }
+    ensures { λ r. ⌜ TopBefore (words (now (file .entry))) k r ⌝ }
+{
+    let mut at = 0;
+    let mut i = 0;
+    let mut place = 0;
+    let mut number = 0;
+    while i < k {
+        at += headers::size_at(file, at);
+        i += 1;
+        let top = no_component(file, at);
+        place = kinds::pick(top, at, place);
+        number = kinds::pick(top, i, number);
     }
-    let mut more = headers;
-    more[next] = place;
-    more
+    Numbered { number, place }
 }
 
 // The direct header of an element at a depth.
@@ -45,16 +63,6 @@ fn above_in(headers: [usize; 9], depth: usize) -> places::Above
     places::Above::Under {
         place: headers[depth],
     }
-}
-
-// The end that is kept of the list at a depth.
-fn end_in(ends: [usize; 9], depth: usize) -> usize
-    ensures { λ r. ⌜ r ≡ getD ends depth 0 ⌝ }
-{
-    if 8 < depth {
-        return 0;
-    }
-    ends[depth]
 }
 
 // Whether the element at a place opens no list and is not the last of its own, which ends at `end`: so that the next one is in
@@ -75,7 +83,7 @@ fn goes_on(file: &[u8], place: usize, depth: usize, end: usize) -> bool
     place + size != end
 }
 
-// The view of element number i at a place, where i is k or more, behind those of the elements before it.
+// The view of the i-th element of the walk, where i is k or more, behind those of the elements before it.
 fn put_one(
     file: &[u8],
     place: usize,
@@ -101,38 +109,52 @@ fn put_one(
     }
 }
 
-// The views of n elements from number k on: one walk from the first element, which keeps the header of each depth.
-fn put_views(file: &[u8], k: usize, n: usize, views: &mut [i64])
-    requires { ⌜ (32 * n ≤ length (now views)) × ((k + n < 2 ^ 64) × (0 < n → (i : ℕ) → i < k + n → tourOf (words (now file)) i .walk .place < length (words (now file)))) ⌝ }
-    ensures { λ _. ⌜ now (views .exit) ≡ sets (now (views .entry)) 0 (viewsFrom n (words (now (file .entry))) k) ⌝ }
+// The views of n elements from the k-th on of the walk that begins with the element at the place `top`, at the top.
+fn put_views(file: &[u8], top: usize, k: usize, n: usize, views: &mut [i64])
+    requires { ⌜ (32 * n ≤ length (now views)) × ((k + n < 2 ^ 64) × ((i : ℕ) → i < k + n → tourOf (words (now file)) top i .walk .place < length (words (now file)))) ⌝ }
+    ensures { λ _. ⌜ now (views .exit) ≡ sets (now (views .entry)) 0 (viewsFrom n (words (now (file .entry))) top k) ⌝ }
 {
-    if n == 0 {
-        return;
-    }
     let last = k + n;
-    let mut w = walking::start();
-    let mut kept = Kept { headers: [0; 9] };
+    let mut place = top;
+    let mut depth = 0;
+    let mut ends = [0; 9];
+    let mut headers = [0; 9];
     let mut end = 0;
     let mut above = places::Above::Top;
     let mut i = 0;
     while i < last {
-        let place = w.place;
-        let depth = w.depth;
         put_one(file, place, depth, above, views, k, i);
         i += 1;
+        let size = headers::size_at(file, place);
         if goes_on(file, place, depth, end) {
-            w.place = place + headers::size_at(file, place);
+            place += size;
+        } else if walking::opens_list(file, place, depth) {
+            depth += 1;
+            end = place + headers::extent_words(file, place);
+            ends[depth] = end;
+            headers[depth] = place;
+            above = places::Above::Under { place };
+            place += size;
         } else {
-            w = walking::next(file, w);
-            let next = w.depth;
-            let ends = w.ends;
-            let headers = kept.headers;
-            let headers = kept_headers(headers, depth, place, next);
-            end = end_in(ends, next);
-            above = above_in(headers, next);
-            kept = Kept { headers };
+            place += size;
+            depth = walking::closed_to(depth, ends, place);
+            end = walking::end_in(ends, depth);
+            above = above_in(headers, depth);
         }
     }
+}
+
+// The views of n elements from number k on.
+fn put_part(file: &[u8], k: usize, n: usize, views: &mut [i64])
+    requires { ⌜ (32 * n ≤ length (now views)) × (0 < n → (k + n ≤ 1048576) × Begins (words (now file)) k n) ⌝ }
+    ensures { λ _. ⌜ PartPut (words (now (file .entry))) k n (now (views .entry)) (now (views .exit)) ⌝ }
+{
+    if n == 0 {
+        return;
+    }
+    let top = top_before(file, k);
+    let number = top.number;
+    put_views(file, top.place, k - number, n, views);
 }
 
 // How many views there are and fit.
@@ -164,7 +186,7 @@ pub extern "C" fn dgn_views(
             if order::none_fits(n, k, elements) {
                 return 15;
             }
-            put_views(file, k, n, views);
+            put_part(file, k, n, views);
             out[0] = n;
             0
         }

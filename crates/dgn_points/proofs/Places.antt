@@ -13,7 +13,8 @@ use Rattle.files.specs.Spots.{Spot, spotsOf}
 use Rattle.files.specs.declared.Judged.the-variants.{Accepted}
 use Rattle.order.specs.Order.{placeOf, InOrder}
 use Rattle.order.proofs.Order.{order-from, file-order, count-is}
-use Rattle.dgn_points.specs.Points.{pointNumbers, pointsPart, partOf, pointsFrom}
+use Rattle.order.specs.Fitting.{partOf}
+use Rattle.dgn_points.specs.Points.{pointNumbers, pointsPart, pointsFrom}
 
 by-places : (dim : ℕ) (ws : List ℕ) (end k : ℕ) (xs : List Spot) → InOrder ws (placeOf ws k) xs end →
     map (λ x. pointNumbers dim ws (x .place)) xs ≡ pointsFrom (length xs) dim ws k

@@ -1,12 +1,12 @@
 -- Every refusal of dgn_points is small, and so is every number that it gives: a place, a number of points, signed longs.
 use Prim.Native.Nat.{ℕ, zero, suc, _+_, _*_}
-use mathlib.Core.Path.{_≡_, refl, sym, subst}
+use mathlib.Core.Path.{_≡_, refl, sym, ap, _∙_, subst}
 use mathlib.Core.Bool.{Bool, true, false, cond}
-use mathlib.Core.List.{List, [], _∷_}
+use mathlib.Core.List.{List, [], _∷_, map}
 use mathlib.Core.Option.{some}
 use native.Mathlib.Omega.{arith}
-use lib.IntN.{pos}
-use lib.ListN.{length, take, drop, length-drop, length-map}
+use lib.IntN.{ℤ, pos}
+use lib.ListN.{length, getD, take, drop, length-drop, length-map}
 use lib.Dec.{eqb}
 use Rattle.words.specs.Words.{words, Below, longAt}
 use Rattle.words.proofs.Laws.{words-below}
@@ -18,18 +18,54 @@ use Rattle.places.proofs.Places.{spot-rules}
 use Rattle.points_linkages.specs.Points.{pointCount, beforePoints}
 use Rattle.points_linkages.specs.Coordinates.{longs}
 use Rattle.answers.specs.Answers.{SmallReply}
+use Rattle.answers.proofs.Besides.{front-read, front-at}
 use Rattle.answers.proofs.Elements.{elements-few, element-standing}
 use Rattle.order.specs.Parts.{Lent, Within}
 use Rattle.order.proofs.Order.{FoundIn, found-drop, file-found}
-use Rattle.order.proofs.Answers.{reply-small, done-accepted, within-append}
+use Rattle.order.proofs.Answers.{reply-small, when-done, done-accepted, within-append}
+use Rattle.order.proofs.Took.{joined, Took, took}
 use Rattle.dgn_points.specs.Points.{pointNumbers, pointsPart}
 use Rattle.dgn_points.specs.Answers.{pointsReply}
 use Rattle.dgn_points.specs.Calls.{pointsCall, PointsSmall, PointsWithin}
-use Rattle.dgn_points.proofs.All.{joined, numbersOf, done-read, count-few}
+use Rattle.dgn_points.proofs.All.{count-few}
 
 pub points-small : (dim : ℕ) (s : List ℕ) (k room : ℕ) → SmallReply (pointsReply dim s k room)
 unfolding pointsReply
 points-small dim s k room = let q = pointsPart dim (words s) room k in reply-small dim s (length (q .given)) (q .next) (q .next ∷ length (q .given) ∷ [])
+
+---- a call that is done
+
+-- the numbers of elements, each apart
+abbrev numbersOf : ℕ → List ℕ → List Spot → List (List ℤ)
+numbersOf dim ws xs = map (λ x. pointNumbers dim ws (x .place)) xs
+
+-- it took so many elements from number k on, and its slices hold their numbers and the answer
+record Read (dim : ℕ) (s : List ℕ) (k : ℕ) (x y : Lent) : Type 0 where
+  took : Took (length (x .numbers)) k (numbersOf dim (words s) (drop k (spotsOf dim (words s)))) (pointsPart dim (words s) (length (x .numbers)) k)
+  next : getD (y .out) 0 0 ≡ k + took .many
+  written : getD (y .out) 1 0 ≡ length (pointsPart dim (words s) (length (x .numbers)) k .given)
+  is : take (getD (y .out) 1 0) (y .numbers) ≡ joined (take (took .many) (numbersOf dim (words s) (drop k (spotsOf dim (words s)))))
+
+taken : (dim : ℕ) (ws : List ℕ) (room k : ℕ) → Took room k (numbersOf dim ws (drop k (spotsOf dim ws))) (pointsPart dim ws room k)
+unfolding pointsPart
+taken dim ws room k = took room k (numbersOf dim ws (drop k (spotsOf dim ws)))
+
+done-read : (dim : ℕ) (s : List ℕ) (e d m : ℕ) → judgeOf dim s ≡ Accepted e d m → (k : ℕ) (x y : Lent) → pointsCall dim s .Answers k x 0 y → Read dim s k x y
+unfolding pointsReply
+done-read dim s e d m j k x y a =
+    let q = pointsPart dim (words s) (length (x .numbers)) k in
+    let t = taken dim (words s) (length (x .numbers)) k in
+    let answer = q .next ∷ length (q .given) ∷ [] in
+    let w = when-done (judgeOf dim s) j 2 (length (q .given)) (q .next) answer (x .out) (a .replied) (q .given) (x .numbers) (y .numbers) (a .given) refl in
+    let size = ap (λ o. getD o 1 0) (w .answer) ∙ front-at answer (x .out) 1 0 (omega arith) (w .room) in
+    record {
+      took = t;
+      next = ap (λ o. getD o 0 0) (w .answer) ∙ front-at answer (x .out) 0 0 (omega arith) (w .room) ∙ t .next;
+      written = size;
+      is = ap (λ i. take i (y .numbers)) size ∙ ap (take (length (q .given))) (w .numbers) ∙ front-read (q .given) (x .numbers) (t .fits) ∙ t .given;
+    }
+
+---- its numbers
 
 longs-within : (s : List ℕ) → Below 256 s → (n q : ℕ) → Within 2147483648 (longs n (words s) q)
 longs-within s b zero q = tt

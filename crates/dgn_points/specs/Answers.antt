@@ -1,21 +1,15 @@
 -- What dgn_points answers, and what it leaves in the slice of numbers.
-use Prim.Native.Nat.{ℕ, _+_, _-_}
+use Prim.Native.Nat.{ℕ}
 use mathlib.Core.Path.{_≡_}
 use mathlib.Core.List.{List, [], _∷_}
-use mathlib.Core.Bool.{cond}
 use lib.IntN.{ℤ}
 use lib.ListN.{length}
-use lib.Seq.{sets}
-use lib.Dec.{leb}
 use Rattle.words.specs.Words.{words}
 use Rattle.files.specs.Judge.{judgeOf}
 use Rattle.answers.specs.Answers.{Reply, withRoom, Replied}
 use Rattle.answers.specs.Besides.{besides}
 use Rattle.order.specs.Calls.{replyBy}
-use Rattle.dgn_points.specs.Points.{Fitting, pointsPart}
-use Rattle.dgn_points.specs.declared.Taken.{Taken}
-use Rattle.dgn_points.specs.declared.Taken.the-variants.{Full, Used}
-use Rattle.dgn_points.specs.declared.Part.{Part}
+use Rattle.dgn_points.specs.Points.{pointsPart}
 
 -- 15 where an element is left and none fits; done: the next element's number and how many numbers
 unfoldable pub pointsReply : ℕ → List ℕ → ℕ → ℕ → Reply ℕ
@@ -27,14 +21,3 @@ pointsReply dim s k room =
 pub record PointsGiven (dim : ℕ) (s : List ℕ) (k : ℕ) (numbers : List ℤ) (out : List ℕ) (r : ℕ) (numbers' : List ℤ) (out' : List ℕ) : Type 0 where
   pub replied : Replied 2 (pointsReply dim s k (length numbers)) out r out'
   pub given : numbers' ≡ besides (withRoom 2 (pointsReply dim s k (length numbers)) out) (pointsPart dim (words s) (length numbers) k .given) numbers
-
--- an element whose numbers e are put behind those that are used, where they fit
-pub record ElementPut (e numbers : List ℤ) (used : ℕ) (r : Taken) (numbers' : List ℤ) : Type 0 where
-  pub is : r ≡ cond (leb (length e) (length numbers - used)) (Used (used + length e)) Full
-  pub given : numbers' ≡ cond (leb (length e) (length numbers - used)) (sets numbers used e) numbers
-
--- the elements that were taken
-pub record PartPut (q : Fitting) (numbers : List ℤ) (r : Part) (numbers' : List ℤ) : Type 0 where
-  pub next : r .next ≡ q .next
-  pub used : r .used ≡ length (q .given)
-  pub given : numbers' ≡ sets numbers 0 (q .given)

@@ -3,7 +3,7 @@
 use Prim.Native.Nat.{ℕ, _≤_, max}
 use mathlib.Core.Path.{_≡_}
 use mathlib.Core.Bool.{cond}
-use mathlib.Core.List.{List, [], _∷_, _++_}
+use mathlib.Core.List.{List, [], _∷_}
 use lib.IntN.{ℤ, pos}
 use lib.ListN.{length, getD, take}
 use lib.Dec.{eqb}
@@ -13,6 +13,7 @@ use Rattle.files.specs.Spots.{Spot, spotsOf}
 use Rattle.files.specs.declared.Judged.the-variants.{Accepted}
 use Rattle.points_linkages.specs.Points.{pointCount}
 use Rattle.points_linkages.specs.Coordinates.{pointsFrom}
+use Rattle.order.specs.Fitting.{allOf}
 use Rattle.order.specs.Parts.{Lent, InParts, Called, GivesAll, Within}
 use Rattle.dgn_points.specs.Answers.{PointsGiven}
 
@@ -25,8 +26,7 @@ elementPoints dim s at =
 
 -- of elements, one after another
 abbrev pub pointsOf : ℕ → List ℕ → List Spot → List ℤ
-pointsOf dim s [] = []
-pointsOf dim s (x ∷ xs) = elementPoints dim s (x .place) ++ pointsOf dim s xs
+pointsOf dim s = allOf (λ x. elementPoints dim s (x .place))
 
 -- the call by its contract; its answer is the number of the element to go on with, and how many numbers there are
 abbrev pub pointsCall : ℕ → List ℕ → InParts

@@ -7,20 +7,11 @@ ghost use lib.Seq.{sets};
 ghost use Rattle.words.specs.Words.{words};
 ghost use Rattle.points_linkages.specs.Coordinates.{longs};
 ghost use Rattle.order.specs.Order.{placeOf};
-ghost use Rattle.dgn_points.specs.Points.{pointNumbers, pointsFrom, partOf};
-ghost use Rattle.dgn_points.specs.Answers.{ElementPut, PartPut, PointsGiven};
-
-// An element does not fit, or so many numbers are used with it.
-enum Taken {
-    Full,
-    Used { used: usize },
-}
-
-// The number of the next element, and how many numbers are used.
-struct Part {
-    next: usize,
-    used: usize,
-}
+ghost use Rattle.order.specs.Fitting.{partOf, ElementPut, PartPut};
+ghost use Rattle.dgn_points.specs.Points.{pointNumbers, pointsFrom};
+ghost use Rattle.dgn_points.specs.Answers.{PointsGiven};
+use order::Part;
+use order::Taken;
 
 // The place of element number k.
 fn place_of(file: &[u8], k: usize) -> usize

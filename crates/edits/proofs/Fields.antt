@@ -13,8 +13,8 @@ use borrow.Author.Tests.{eqb-true, eq-eqb, ne-eqb}
 use Rattle.words.specs.Words.{Below, wordAt}
 use Rattle.names.specs.Names.{nameOk}
 use Rattle.kinds.specs.FirstWord.{reservedOf, cOf, typeOf, deletedOf}
-use Rattle.headers.specs.Header.{typeAt, pointsAt}
-use Rattle.kinds.specs.Kinds.{isHeader, isCounted, isPointed, isLinked, isCell, nameWord, fixedPart}
+use Rattle.headers.specs.Header.{typeAt, sizingAt}
+use Rattle.kinds.specs.Kinds.{isHeader, isCounted, isSized, isLinked, isCell, nameWord, fixedPart}
 use Rattle.headers.proofs.Laws.{own-first, own-second}
 use Rattle.elements.specs.Rules.{storedNameOk, countOk}
 use Rattle.grammar.proofs.Tests.{OwnTests, Extent}
@@ -103,10 +103,10 @@ own-marked {dim} {inside = inside} {k} {own} d o =
       reserved = ap reservedOf first ∙ reserved-flagged d (wordAt own 0);
       c = ap cOf first ∙ c-flagged d (wordAt own 0);
       follow = marked-other d own 1 (omega arith);
-      points = λ _. marked-other d own 18 (omega arith);
+      sized = λ _ i h. marked-other d own i (omega arith);
       index = λ _. marked-other d own 15 (omega arith);
       properties = λ _. marked-other d own 16 (omega arith);
-      tail = λ e i b. let l = linked-long dim (typeAt own 0) (pointsAt own 0) e in marked-other d own i (omega arith);
+      tail = λ e i b. let l = linked-long dim (typeAt own 0) (sizingAt dim own 0) e in marked-other d own i (omega arith);
     }
 
     named : storedNameOk own 0 ≡ true → storedNameOk (marked d own) 0 ≡ true
@@ -150,7 +150,7 @@ cell-types own e = each-named (λ k. (k ≡ 1) ⊎ (k ≡ 2)) (1 ∷ 2 ∷ []) (
 
 module _ {dim depth under inside k : ℕ} {own : List ℕ} (o : OwnTests dim depth under own inside k) where
   pub cell-words : isCell (typeAt own 0) ≡ true → 21 ≤ length own
-  cell-words e = let l = cell-long dim (typeAt own 0) (pointsAt own 0) e in let f = own-fixed o in omega arith
+  cell-words e = let l = cell-long dim (typeAt own 0) (sizingAt dim own 0) e in let f = own-fixed o in omega arith
 
   -- the name that stands there is one
   pub cell-named : isCell (typeAt own 0) ≡ true → nameOk (wordAt own (nameIn own)) (wordAt own (nameIn own + 1)) ≡ true
@@ -158,7 +158,7 @@ module _ {dim depth under inside k : ℕ} {own : List ℕ} (o : OwnTests dim dep
   cell-named e = rule-of (isCell (typeAt own 0)) (nameOk (wordAt own (nameIn own)) (wordAt own (nameIn own + 1))) (rw (own-first own, own-second own) at (o .name)) e
 
   -- two words of the fixed part stored that no rule but the name's reads
-  alike-two : (i a b : ℕ) → 2 ≤ i → isPointed (typeAt own 0) ≡ false → (isLinked (typeAt own 0) ≡ true → (17 ≤ i) × (i + 1 < fixedPart dim (typeAt own 0) (pointsAt own 0))) →
+  alike-two : (i a b : ℕ) → 2 ≤ i → isSized (typeAt own 0) ≡ false → (isLinked (typeAt own 0) ≡ true → (17 ≤ i) × (i + 1 < fixedPart dim (typeAt own 0) (sizingAt dim own 0))) →
       Alike dim own (set2 own i a b)
   alike-two i a b h p l =
       let first = set2-other own i a b 0 (omega arith) (omega arith) in
@@ -168,7 +168,7 @@ module _ {dim depth under inside k : ℕ} {own : List ℕ} (o : OwnTests dim dep
         reserved = ap reservedOf first;
         c = ap cOf first;
         follow = set2-other own i a b 1 (omega arith) (omega arith);
-        points = λ e. absurd (false≢true (sym p ∙ e));
+        sized = λ e. absurd (false≢true (sym p ∙ e));
         index = λ e. let m = l e .0 in set2-other own i a b 15 (omega arith) (omega arith);
         properties = λ e. let m = l e .0 in set2-other own i a b 16 (omega arith) (omega arith);
         tail = λ e j f. let m = l e .1 in set2-other own i a b j (omega arith) (omega arith);
@@ -190,7 +190,7 @@ module _ {dim depth under inside k : ℕ} {own : List ℕ} (o : OwnTests dim dep
       own-two-named 16 a b l (set2-other own 16 a b 18 (omega arith) (omega arith)) (rw t refl) (ok l)
     where
       long : 21 ≤ length own
-      long = let l = cell-long dim (typeAt own 0) (pointsAt own 0) (rw t refl) in let f = own-fixed o in omega arith
+      long = let l = cell-long dim (typeAt own 0) (sizingAt dim own 0) (rw t refl) in let f = own-fixed o in omega arith
 
       ok : Alike dim own (set2 own 16 a b) → storedNameOk (set2 own 16 a b) 0 ≡ true
       ok l =
@@ -203,8 +203,8 @@ module _ {dim depth under inside k : ℕ} {own : List ℕ} (o : OwnTests dim dep
       let l : Alike dim own (set2 own 19 a b) = alike-two 19 a b (omega arith) (rw t refl) (λ _. (omega arith, far)) in
       own-two-named 19 a b l (set2-other own 19 a b 18 (omega arith) (omega arith)) (rw t refl) (ok l)
     where
-      far : 20 < fixedPart dim (typeAt own 0) (pointsAt own 0)
-      far = cell-long dim (typeAt own 0) (pointsAt own 0) (rw t refl)
+      far : 20 < fixedPart dim (typeAt own 0) (sizingAt dim own 0)
+      far = cell-long dim (typeAt own 0) (sizingAt dim own 0) (rw t refl)
 
       ok : Alike dim own (set2 own 19 a b) → storedNameOk (set2 own 19 a b) 0 ≡ true
       ok l =

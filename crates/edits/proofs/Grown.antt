@@ -13,12 +13,12 @@ use borrow.Author.Tests.{eqb-true, eqb-false, eq-eqb}
 use Rattle.words.specs.Words.{Below, wordAt}
 use Rattle.names.specs.Names.{nameOk}
 use Rattle.kinds.specs.FirstWord.{reservedOf, cOf, typeOf}
-use Rattle.headers.specs.Header.{typeAt, pointsAt, countAt}
+use Rattle.headers.specs.Header.{typeAt, sizingAt, countAt}
 use Rattle.kinds.specs.Kinds.{isHeader, isCounted, isCell, nameWord}
 use Rattle.headers.proofs.Laws.{own-first, own-second}
 use Rattle.elements.specs.Rules.{storedNameOk, countOk}
 use Rattle.grammar.proofs.Tests.{OwnTests, Extent}
-use Rattle.kinds.proofs.Types.{header-long, header-pointless, each-named}
+use Rattle.kinds.proofs.Types.{header-long, header-unsized, each-named}
 use Rattle.edits.specs.Edits.{moved, countMoved, corrected}
 use Rattle.edits.proofs.Tests.{both-and, rule-of, of-rule}
 use Rattle.edits.proofs.Parts.{read-in, read-first, set-in}
@@ -127,7 +127,7 @@ cell-uncounted true t e = rw e refl
 cell-uncounted false t e = refl
 
 pub header-twenty : {dim depth under inside k : ℕ} {own : List ℕ} → OwnTests dim depth under own inside k → isHeader (typeAt own 0) ≡ true → 20 ≤ length own
-header-twenty {dim} {own = own} o h = let a = own-fixed o in let b = header-long dim (typeAt own 0) (pointsAt own 0) h in omega arith
+header-twenty {dim} {own = own} o h = let a = own-fixed o in let b = header-long dim (typeAt own 0) (sizingAt dim own 0) h in omega arith
 
 -- a header's extent
 pub header-extent : {dim depth under inside k : ℕ} {own : List ℕ} → OwnTests dim depth under own inside k → isHeader (typeAt own 0) ≡ true → Extent true own inside k
@@ -163,10 +163,10 @@ module _ {dim depth under inside k : ℕ} {own : List ℕ} (o : OwnTests dim dep
         reserved = ap reservedOf first;
         c = ap cOf first;
         follow = grown-other up n direct own 1 (omega arith) (omega arith);
-        points = λ e. absurd (false≢true (sym (header-pointless (typeAt own 0) h) ∙ e));
+        sized = λ e. absurd (false≢true (sym (header-unsized (typeAt own 0) h) ∙ e));
         index = λ _. grown-other up n direct own 15 (omega arith) (omega arith);
         properties = λ _. grown-other up n direct own 16 (omega arith) (omega arith);
-        tail = λ _ i b. let l = header-long dim (typeAt own 0) (pointsAt own 0) h in grown-other up n direct own i (omega arith) (omega arith);
+        tail = λ _ i b. let l = header-long dim (typeAt own 0) (sizingAt dim own 0) h in grown-other up n direct own i (omega arith) (omega arith);
       }
 
   -- the count of a header that has one

@@ -1,7 +1,7 @@
 -- Every refusal of a call of a session is the file's own, one of the call's numbers at place 0, or of an insert the piece's
 -- own or 8 at a header of the path; so its number is one of the table's.
 use Prim.Native.Nat.{ℕ, _+_, _-_, _*_, _≤_, _<_, max}
-use mathlib.Core.Path.{_≡_, refl, subst₂}
+use mathlib.Core.Path.{_≡_, refl, subst, subst₂}
 use mathlib.Core.Logic.{inl, inr}
 use mathlib.Core.Bool.{Bool, true, false, cond, not, _&&_, _||_, false≢true, and-eq-true-iff}
 use mathlib.Core.List.{List, [], _∷_}
@@ -21,7 +21,8 @@ use Rattle.files.specs.Spots.{spotsOf}
 use Rattle.files.specs.declared.Verdict.{Verdict}
 use Rattle.files.specs.declared.Verdict.the-variants.{Good, Fault}
 use Rattle.grammar.proofs.Numbers.{refusal-number}
-use Rattle.grammar.proofs.FirstFault.{element-refusal}
+use Rattle.grammar.specs.FirstFault.{ElementNumber}
+use Rattle.grammar.proofs.FirstFault.{number-within, element-refusal}
 use Rattle.grammar.proofs.Forest.{flat}
 use Rattle.grammar.proofs.Sound.{element-sound}
 use Rattle.grammar.proofs.Stands.{stands-fit}
@@ -211,16 +212,16 @@ every-refusal dim s c = by-so dim s c (openFault dim s c) (callOn dim s (wordsOf
 
 abbrev inTable : List ℕ → Bool
 inTable [] = true
-inTable (m ∷ ms) = (leb 1 m && leb m 19) && inTable ms
+inTable (m ∷ ms) = (leb 1 m && leb m 20) && inTable ms
 
-table-number : (ms : List ℕ) (n : ℕ) → inTable ms ≡ true → OneOf ms n → (1 ≤ n) × (n ≤ 19)
+table-number : (ms : List ℕ) (n : ℕ) → inTable ms ≡ true → OneOf ms n → (1 ≤ n) × (n ≤ 20)
 table-number [] n t o = absurd o
 table-number (m ∷ ms) n t (inl e) =
-    let p = and-eq-true-iff (leb 1 m) (leb m 19) .0 (and-eq-true-iff (leb 1 m && leb m 19) (inTable ms) .0 t .0) in
+    let p = and-eq-true-iff (leb 1 m) (leb m 20) .0 (and-eq-true-iff (leb 1 m && leb m 20) (inTable ms) .0 t .0) in
     let low = leb-true 1 m (p .0) in
-    let high = leb-true m 19 (p .1) in
+    let high = leb-true m 20 (p .1) in
     (omega arith, omega arith)
-table-number (m ∷ ms) n t (inr o) = table-number ms n (and-eq-true-iff (leb 1 m && leb m 19) (inTable ms) .0 t .1) o
+table-number (m ∷ ms) n t (inr o) = table-number ms n (and-eq-true-iff (leb 1 m && leb m 20) (inTable ms) .0 t .1) o
 
 own-table : (c : Call) → inTable (ownNumbers c) ≡ true
 own-table (mark-call p d) = refl
@@ -236,15 +237,15 @@ unfolding pieceFault elementOf
 piece-place dim xs ws h x n p = judged (elementOf dim (depthUnder xs h) (typeUnder ws h) x 0 (length x)) refl
   where
     -- words left over: 3 at the first of them
-    whole : (next : ℕ) → next ≤ length x → (b : Bool) → eqb next (length x) ≡ b → cond b fine (fault 3 next) ≡ fault n p → (3 ≤ n) × (n ≤ 12) × (p < max (length x) 1)
+    whole : (next : ℕ) → next ≤ length x → (b : Bool) → eqb next (length x) ≡ b → cond b fine (fault 3 next) ≡ fault n p → ElementNumber n × (p < max (length x) 1)
     whole next l true t q = let z : _≡_ {A = ℕ} 0 1 = cc in absurd (omega arith)
     whole next l false t q =
         let number : 3 ≡ n = cc in
         let place : next ≡ p = cc in
         let other = eqb-false next (length x) t in
-        (omega arith, omega arith, omega arith)
+        (inl (omega arith), omega arith)
 
-    judged : (v : Verdict) → elementOf dim (depthUnder xs h) (typeUnder ws h) x 0 (length x) ≡ v → wholeBy v (length x) ≡ fault n p → (3 ≤ n) × (n ≤ 12) × (p < max (length x) 1)
+    judged : (v : Verdict) → elementOf dim (depthUnder xs h) (typeUnder ws h) x 0 (length x) ≡ v → wholeBy v (length x) ≡ fault n p → ElementNumber n × (p < max (length x) 1)
     judged (Good next e d k) t q =
         let r = element-sound dim x (2 * (length x - 0) + 1) (depthUnder xs h) (typeUnder ws h) 0 (length x) next e d k (omega arith) (omega arith) t in
         let l = stands-fit (r .stands) (omega arith) in
@@ -255,20 +256,20 @@ piece-place dim xs ws h x n p = judged (elementOf dim (depthUnder xs h) (typeUnd
         let number : m ≡ n = cc in
         let place : r ≡ p = cc in
         let f = element-refusal dim x (depthUnder xs h) (typeUnder ws h) 0 (length x) (omega arith) (omega arith) m r t in
-        (omega arith, omega arith, omega arith)
+        (subst ElementNumber number (f .0), omega arith)
 
-piece-number : (dim : ℕ) (ws : List ℕ) (c : Call) (n p : ℕ) → PieceRefused dim ws c n p → (1 ≤ n) × (n ≤ 19)
+piece-number : (dim : ℕ) (ws : List ℕ) (c : Call) (n p : ℕ) → PieceRefused dim ws c n p → (1 ≤ n) × (n ≤ 20)
 piece-number dim ws (mark-call p d) n q x = absurd x
 piece-number dim ws (rename-call p text) n q x = absurd x
-piece-number dim ws (insert-call h p piece) n q (inl e) = let x = piece-place dim (spotsOf dim ws) ws h (words piece) n q e in (omega arith, omega arith)
+piece-number dim ws (insert-call h p piece) n q (inl e) = let x = number-within (piece-place dim (spotsOf dim ws) ws h (words piece) n q e .0) in (omega arith, omega arith)
 piece-number dim ws (insert-call h p piece) n q (inr x) = let z = x .0 in (omega arith, omega arith)
 piece-number dim ws (remove-call p) n q x = absurd x
 piece-number dim ws undo-call n q x = absurd x
 
-pub call-number : (dim : ℕ) (s : Session) (c : Call) (n p : ℕ) → step dim s c .answer ≡ Refused n p → (1 ≤ n) × (n ≤ 19)
+pub call-number : (dim : ℕ) (s : Session) (c : Call) (n p : ℕ) → step dim s c .answer ≡ Refused n p → (1 ≤ n) × (n ≤ 20)
 call-number dim s c n p e = go (every-refusal dim s c n p e)
   where
-    go : RefusedSo dim s c n p → (1 ≤ n) × (n ≤ 19)
+    go : RefusedSo dim s c n p → (1 ≤ n) × (n ≤ 20)
     go (inl (inl j)) = let x = refusal-number dim (usedBytes s) n p j in (omega arith, omega arith)
     go (inl (inr o)) = table-number (ownNumbers c) n (own-table c) (o .0)
     go (inr x) = piece-number dim (wordsOf s) c n p x

@@ -1,47 +1,43 @@
 -- Own words that differ from an element's only in words that none of its rules reads are an element's own words again,
 -- with the extent, name and count that they say.
 use Prim.Native.Nat.{ℕ, _+_, _-_, _≤_}
-use mathlib.Core.Path.{_≡_, refl, sym, ap, _∙_}
+use mathlib.Core.Path.{_≡_, refl, sym, ap, ap₂, _∙_}
 use mathlib.Core.Bool.{Bool, true, false, not, _&&_, _||_, and-eq-true-iff}
 use mathlib.Core.List.{List}
 use native.Mathlib.Omega.{arith}
 use lib.ListN.{length}
-use lib.Dec.{leb}
-use borrow.Author.Tests.{le-leb, leb-true}
+use lib.Dec.{eqb, leb}
+use borrow.Author.Tests.{le-leb, leb-true, eqb-true}
 use Rattle.words.specs.Words.{wordAt}
 use Rattle.linkages.specs.Linkages.{linkagesFill}
 use Rattle.linkages.proofs.Local.{fill-local}
+use Rattle.texts.specs.Texts.{fieldsOk}
+use Rattle.texts.proofs.Laws.{counts-late, text-same}
 use Rattle.kinds.specs.FirstWord.{reservedOf, cOf}
-use Rattle.headers.specs.Header.{typeAt, sizeAt, pointsAt, attributesAt, attributePartAt}
-use Rattle.kinds.specs.Kinds.{isHeader, isPointed, isLinked, fixedPart}
+use Rattle.headers.specs.Header.{typeAt, sizeAt, sizingAt, attributesAt, attributePartAt}
+use Rattle.kinds.specs.Kinds.{isHeader, isPointed, isSized, sizingWord, pointsWithin, isLinked, fixedPart}
 use Rattle.elements.specs.Attributes.{hasAttributes, attributesOk, linkagesOk}
 use Rattle.headers.specs.Flags.{reservedOk, placeOk}
-use Rattle.elements.specs.Rules.{pointsOk, fixedOk, storedNameOk, countOk}
+use Rattle.elements.specs.Rules.{sizedOk, pointsOk, fixedOk, textFieldsOk, storedNameOk, countOk}
 use Rattle.grammar.proofs.Tests.{OwnTests, Extent}
-use Rattle.kinds.proofs.Types.{fixed-any}
+use Rattle.kinds.proofs.Types.{fixed-any, sizing-late, pointed-sized}
 use Rattle.elements.proofs.Laws.{fixed-least}
 use Rattle.edits.proofs.Tests.{both-and, rule-of, of-rule}
 
--- own′ has the length of own and the words that the rules read: those of the first two, N where there is one, and for a
--- type with attributes words 15, 16 and all from the fixed part's end on
+-- own′ has the length of own and the words that the rules read: those of the first two, for a type that a word sizes all
+-- from word 18 on, and for a type with attributes words 15, 16 and all from the fixed part's end on
 pub record Alike (dim : ℕ) (own own′ : List ℕ) : Type 0 where
   pub long : length own′ ≡ length own
   pub type : typeAt own′ 0 ≡ typeAt own 0
   pub reserved : reservedOf (wordAt own′ 0) ≡ reservedOf (wordAt own 0)
   pub c : cOf (wordAt own′ 0) ≡ cOf (wordAt own 0)
   pub follow : wordAt own′ 1 ≡ wordAt own 1
-  pub points : isPointed (typeAt own 0) ≡ true → wordAt own′ 18 ≡ wordAt own 18
+  pub sized : isSized (typeAt own 0) ≡ true → (i : ℕ) → 18 ≤ i → wordAt own′ i ≡ wordAt own i
   pub index : isLinked (typeAt own 0) ≡ true → wordAt own′ 15 ≡ wordAt own 15
   pub properties : isLinked (typeAt own 0) ≡ true → wordAt own′ 16 ≡ wordAt own 16
-  pub tail : isLinked (typeAt own 0) ≡ true → (i : ℕ) → fixedPart dim (typeAt own 0) (pointsAt own 0) ≤ i → wordAt own′ i ≡ wordAt own i
+  pub tail : isLinked (typeAt own 0) ≡ true → (i : ℕ) → fixedPart dim (typeAt own 0) (sizingAt dim own 0) ≤ i → wordAt own′ i ≡ wordAt own i
 
--- the parts of rule 7
-fixed-parts : (dim : ℕ) (own : List ℕ) → fixedOk dim own 0 ≡ true →
-    ((not (isPointed (typeAt own 0)) || pointsOk own 0) ≡ true) × (leb (fixedPart dim (typeAt own 0) (pointsAt own 0)) (sizeAt own 0) ≡ true)
-unfolding fixedOk
-fixed-parts dim own e = and-eq-true-iff (not (isPointed (typeAt own 0)) || pointsOk own 0) (leb (fixedPart dim (typeAt own 0) (pointsAt own 0)) (sizeAt own 0)) .0 e
-
-pub own-fixed : {dim depth under inside n : ℕ} {own : List ℕ} → OwnTests dim depth under own inside n → fixedPart dim (typeAt own 0) (pointsAt own 0) ≤ length own
+pub own-fixed : {dim depth under inside n : ℕ} {own : List ℕ} → OwnTests dim depth under own inside n → fixedPart dim (typeAt own 0) (sizingAt dim own 0) ≤ length own
 own-fixed {dim} {own = own} o =
     let l = fixed-least dim own 0 (o .fixed) in
     let s = o .size in
@@ -49,11 +45,11 @@ own-fixed {dim} {own = own} o =
 
 -- the parts of rule 11
 attribute-parts : (dim : ℕ) (own : List ℕ) → attributesOk dim own 0 ≡ true →
-    (fixedPart dim (typeAt own 0) (pointsAt own 0) ≤ attributePartAt own 0) × (attributePartAt own 0 ≤ sizeAt own 0)
+    (fixedPart dim (typeAt own 0) (sizingAt dim own 0) ≤ attributePartAt own 0) × (attributePartAt own 0 ≤ sizeAt own 0)
     × (linkagesFill own (0 + attributePartAt own 0) (0 + sizeAt own 0) ≡ true)
 unfolding attributesOk
 attribute-parts dim own e =
-    let x = fixedPart dim (typeAt own 0) (pointsAt own 0) in
+    let x = fixedPart dim (typeAt own 0) (sizingAt dim own 0) in
     let y = attributePartAt own 0 in
     let z = sizeAt own 0 in
     let fill = linkagesFill own (0 + y) (0 + z) in
@@ -61,17 +57,21 @@ attribute-parts dim own e =
     let q = and-eq-true-iff (leb y z) fill .0 (p .1) in
     (leb-true x y (p .0), leb-true y z (q .0), q .1)
 
-parts-attribute : (dim : ℕ) (own : List ℕ) → fixedPart dim (typeAt own 0) (pointsAt own 0) ≤ attributePartAt own 0 → attributePartAt own 0 ≤ sizeAt own 0 →
+parts-attribute : (dim : ℕ) (own : List ℕ) → fixedPart dim (typeAt own 0) (sizingAt dim own 0) ≤ attributePartAt own 0 → attributePartAt own 0 ≤ sizeAt own 0 →
     linkagesFill own (0 + attributePartAt own 0) (0 + sizeAt own 0) ≡ true → attributesOk dim own 0 ≡ true
 unfolding attributesOk
 parts-attribute dim own p q f = both-and (le-leb _ _ p) (both-and (le-leb _ _ q) f)
 
 module _ {dim : ℕ} {own own′ : List ℕ} (a : Alike dim own own′) where
-  fixed-same : fixedPart dim (typeAt own′ 0) (pointsAt own′ 0) ≡ fixedPart dim (typeAt own 0) (pointsAt own 0)
-  fixed-same = ap (λ t. fixedPart dim t (pointsAt own′ 0)) (a .type) ∙ go (isPointed (typeAt own 0)) refl
+  -- the word that sizes a fixed part
+  sizing-same : isSized (typeAt own 0) ≡ true → wordAt own′ (0 + sizingWord dim (typeAt own 0)) ≡ sizingAt dim own 0
+  sizing-same e = let l = sizing-late dim (typeAt own 0) in a .sized e (0 + sizingWord dim (typeAt own 0)) (omega arith)
+
+  fixed-same : fixedPart dim (typeAt own′ 0) (sizingAt dim own′ 0) ≡ fixedPart dim (typeAt own 0) (sizingAt dim own 0)
+  fixed-same = rw (a .type) (go (isSized (typeAt own 0)) refl)
     where
-      go : (b : Bool) → isPointed (typeAt own 0) ≡ b → fixedPart dim (typeAt own 0) (pointsAt own′ 0) ≡ fixedPart dim (typeAt own 0) (pointsAt own 0)
-      go true e = ap (fixedPart dim (typeAt own 0)) (a .points e)
+      go : (b : Bool) → isSized (typeAt own 0) ≡ b → fixedPart dim (typeAt own 0) (wordAt own′ (0 + sizingWord dim (typeAt own 0))) ≡ fixedPart dim (typeAt own 0) (sizingAt dim own 0)
+      go true e = ap (fixedPart dim (typeAt own 0)) (sizing-same e)
       go false e = fixed-any dim (typeAt own 0) _ _ e
 
   size-same : sizeAt own′ 0 ≡ sizeAt own 0
@@ -85,16 +85,29 @@ module _ {dim : ℕ} {own own′ : List ℕ} (a : Alike dim own own′) where
   unfolding placeOk
   place-alike depth e = rw (a .type, a .c) e
 
-  fixed-alike : fixedOk dim own 0 ≡ true → fixedOk dim own′ 0 ≡ true
-  unfolding fixedOk
-  fixed-alike e =
-      let p = fixed-parts dim own e in
-      both-and (of-rule (isPointed (typeAt own′ 0)) (pointsOk own′ 0) points-alike) (rw (fixed-same, size-same) (p .1))
+  sized-same : sizedOk dim own′ 0 ≡ sizedOk dim own 0
+  sized-same = rw (a .type, a .follow)
+
+  points-same : pointsOk own′ 0 ≡ pointsOk own 0
+  points-same = rw (a .type) (go (isPointed (typeAt own 0)) refl)
     where
-      points-alike : isPointed (typeAt own′ 0) ≡ true → pointsOk own′ 0 ≡ true
-      points-alike q =
-          let t : isPointed (typeAt own 0) ≡ true = rw (a .type) at q in
-          rw (a .points t, a .follow) (rule-of (isPointed (typeAt own 0)) (pointsOk own 0) (fixed-parts dim own e .0) t)
+      go : (b : Bool) → isPointed (typeAt own 0) ≡ b → (not b || pointsWithin (wordAt own′ 18)) ≡ (not b || pointsWithin (wordAt own 18))
+      go true e = ap pointsWithin (a .sized (pointed-sized dim (typeAt own 0) e .0) 18 (omega arith))
+      go false e = refl
+
+  fixed-alike : fixedOk dim own′ 0 ≡ fixedOk dim own 0
+  unfolding fixedOk
+  fixed-alike = ap₂ _&&_ sized-same (ap₂ _&&_ points-same (ap₂ leb fixed-same size-same))
+
+  fields-alike : textFieldsOk dim own′ 0 ≡ textFieldsOk dim own 0
+  unfolding textFieldsOk
+  fields-alike = rw (a .type) (go (eqb (typeAt own 0) 17) refl)
+    where
+      go : (b : Bool) → eqb (typeAt own 0) 17 ≡ b → (not b || fieldsOk dim own′ 0) ≡ (not b || fieldsOk dim own 0)
+      go true e =
+          let t : isSized (typeAt own 0) ≡ true = rw (eqb-true (typeAt own 0) 17 e) refl in
+          text-same dim own′ own 0 0 (λ i h _. let l = counts-late dim in a .sized t (0 + i) (omega arith))
+      go false e = refl
 
   -- where the attribute part begins and ends, and between, the words are the same
   fill-alike : isLinked (typeAt own 0) ≡ true → attributesOk dim own 0 ≡ true → attributesOk dim own′ 0 ≡ true
@@ -128,7 +141,8 @@ module _ {dim : ℕ} {own own′ : List ℕ} (a : Alike dim own own′) where
     place = place-alike depth (o .place);
     deep = o .deep;
     kind = rw (a .type) (o .kind);
-    fixed = fixed-alike (o .fixed);
+    fixed = fixed-alike ∙ o .fixed;
+    fields = fields-alike ∙ o .fields;
     small = rw (a .long) (o .small);
     extent = x;
     linkages = linkages-alike (o .linkages);

@@ -1,5 +1,5 @@
 -- With which numbers and places each call of a session is refused (RULES.md, "Refusals", "Order of checks").
-use Prim.Native.Nat.{ℕ, _≤_, _<_, max}
+use Prim.Native.Nat.{ℕ, _<_, max}
 use mathlib.Core.Path.{_≡_}
 use mathlib.Core.Logic.{_⊎_}
 use mathlib.Core.List.{List, [], _∷_}
@@ -9,6 +9,7 @@ use Rattle.words.specs.Words.{words}
 use Rattle.words.specs.OneOf.{OneOf}
 use Rattle.files.specs.Refused.{RefusedBy}
 use Rattle.files.specs.Spots.{Spot, spotsOf}
+use Rattle.grammar.specs.FirstFault.{ElementNumber}
 use Rattle.edits.specs.declared.Edited.the-variants.{Refused}
 use Rattle.edits.specs.Edits.{downTo}
 use Rattle.edits.specs.Allowed.{fault, pieceFault}
@@ -39,8 +40,8 @@ RefusedSo dim s c n p = RefusedBy dim (usedBytes s) (ownNumbers c) n p ⊎ Piece
 abbrev pub EveryRefusal : Type 0
 EveryRefusal = (dim : ℕ) (s : Session) (c : Call) (n p : ℕ) → step dim s c .answer ≡ Refused n p → RefusedSo dim s c n p
 
--- the piece's own: a number from 3 to 12, at a word of the piece; of an empty piece at 0
+-- the piece's own: a number of an element's faults, at a word of the piece; of an empty piece at 0
 abbrev pub PiecePlace : Type 0
 PiecePlace =
     (dim : ℕ) (xs : List Spot) (ws : List ℕ) (h : Option ℕ) (x : List ℕ) (n p : ℕ) → pieceFault dim xs ws h x ≡ fault n p →
-    (3 ≤ n) × (n ≤ 12) × (p < max (length x) 1)
+    ElementNumber n × (p < max (length x) 1)

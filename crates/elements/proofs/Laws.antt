@@ -1,22 +1,24 @@
 -- Laws of the rules of one element: no fault is that every test passes, and what the answer then is.
 use Prim.Native.Nat.{ℕ, _+_, _-_, _<_, _≤_}
 use mathlib.Core.Path.{_≡_, refl, sym, ap, subst, _∙_}
-use mathlib.Core.List.{List, [], _∷_}
+use mathlib.Core.List.{List, [], _∷_, _++_}
 use mathlib.Core.Bool.{Bool, true, false, cond, not, _&&_, _||_, and-true, and-false}
 use native.Mathlib.Omega.{arith}
 use lib.Dec.{eqb, leb}
 use borrow.Author.Tests.{leb-true, leb-false, le-leb, lt-leb, eqb-true, eqb-false, ne-eqb}
 use Rattle.words.specs.Words.{words, wordAt}
-use Rattle.headers.specs.Header.{typeAt, sizeAt, pointsAt, extentAt, attributesAt}
-use Rattle.kinds.specs.Kinds.{isHeader, isLinked, isPointed, isUnread, fixedPart, mayStand}
+use Rattle.texts.specs.Texts.{countsWord, countsAt, textPart, fieldsOk}
+use Rattle.texts.proofs.Laws.{text-past}
+use Rattle.headers.specs.Header.{typeAt, sizeAt, sizingAt, extentAt, attributesAt}
+use Rattle.kinds.specs.Kinds.{isHeader, isLinked, isSized, isUnread, fixedPart, mayStand}
 use Rattle.elements.specs.Attributes.{attributesOk, linkagesOk}
 use Rattle.headers.specs.Flags.{reservedOk, placeOk}
-use Rattle.elements.specs.Rules.{pointsOk, fixedOk, extentOk, storedNameOk, checks, faultOf, headOf, HeadRead}
+use Rattle.elements.specs.Rules.{sizedOk, pointsOk, fixedOk, textFieldsOk, extentOk, storedNameOk, checks, faultOf, headOf, HeadRead}
 use Rattle.headers.proofs.Checks.{both-true, pass-all}
-use Rattle.headers.specs.Checks.{check, firstFault}
+use Rattle.headers.specs.Checks.{Check, check, firstFault}
 use Rattle.elements.specs.declared.Head.{Head}
 use Rattle.elements.specs.declared.Head.the-variants.{Bad, Plain, Complex}
-use Rattle.kinds.proofs.Types.{header-long, linked-long, fixed-any, not-header, raw-pointless, raw-part, header-pointless, stands-raw}
+use Rattle.kinds.proofs.Types.{header-long, linked-long, fixed-any, unsized-no-text, unsized-pointless, not-header, raw-unsized, raw-part, header-unsized, stands-raw}
 
 -- all tests of an element pass
 pub record Checked (dim depth under : ℕ) (ws : List ℕ) (at bound : ℕ) : Type 0 where
@@ -27,29 +29,29 @@ pub record Checked (dim depth under : ℕ) (ws : List ℕ) (at bound : ℕ) : Ty
   pub deep : leb depth 8 ≡ true
   pub kind : mayStand dim under (typeAt ws at) ≡ true
   pub fixed : fixedOk dim ws at ≡ true
+  pub fields : textFieldsOk dim ws at ≡ true
   pub extent : extentOk ws at (bound - at) ≡ true
   pub linkages : linkagesOk dim ws at ≡ true
   pub name : storedNameOk ws at ≡ true
 
 ---- the sizes that the fixed part gives
 
-pub fixed-least : (dim : ℕ) (ws : List ℕ) (at : ℕ) → fixedOk dim ws at ≡ true → fixedPart dim (typeAt ws at) (pointsAt ws at) ≤ sizeAt ws at
+pub fixed-least : (dim : ℕ) (ws : List ℕ) (at : ℕ) → fixedOk dim ws at ≡ true → fixedPart dim (typeAt ws at) (sizingAt dim ws at) ≤ sizeAt ws at
 unfolding fixedOk
 fixed-least dim ws at e =
-    leb-true _ (sizeAt ws at)
-    (both-true (not (isPointed (typeAt ws at)) || pointsOk ws at)
-    (leb (fixedPart dim (typeAt ws at) (pointsAt ws at)) (sizeAt ws at)) e .1)
+    let long = leb (fixedPart dim (typeAt ws at) (sizingAt dim ws at)) (sizeAt ws at) in
+    leb-true _ (sizeAt ws at) (both-true (pointsOk ws at) long (both-true (sizedOk dim ws at) (pointsOk ws at && long) e .1) .1)
 
 pub header-size : (dim : ℕ) (ws : List ℕ) (at t : ℕ) → t ≡ typeAt ws at → fixedOk dim ws at ≡ true → isHeader t ≡ true → 20 ≤ sizeAt ws at
 header-size dim ws at t q e h =
     let least = fixed-least dim ws at e in
-    let long = header-long dim (typeAt ws at) (pointsAt ws at) (rw q at h) in
+    let long = header-long dim (typeAt ws at) (sizingAt dim ws at) (rw q at h) in
     omega arith
 
 pub linked-size : (dim : ℕ) (ws : List ℕ) (at t : ℕ) → t ≡ typeAt ws at → fixedOk dim ws at ≡ true → isLinked t ≡ true → 18 ≤ sizeAt ws at
 linked-size dim ws at t q e h =
     let least = fixed-least dim ws at e in
-    let long = linked-long dim (typeAt ws at) (pointsAt ws at) (rw q at h) in
+    let long = linked-long dim (typeAt ws at) (sizingAt dim ws at) (rw q at h) in
     omega arith
 
 -- a header's extent ends not before the header does, and by its bound
@@ -64,24 +66,31 @@ extent-within ws at room e h =
 ---- the tests that a type decides
 
 module _ (dim : ℕ) (ws : List ℕ) (at : ℕ) where
-  -- without points only the size is tested
-  pub fixed-pointless : isPointed (typeAt ws at) ≡ false → fixedOk dim ws at ≡ leb (fixedPart dim (typeAt ws at) 0) (sizeAt ws at)
+  -- where no word sizes the fixed part only the size is tested
+  pub fixed-unsized : isSized (typeAt ws at) ≡ false → fixedOk dim ws at ≡ leb (fixedPart dim (typeAt ws at) 0) (sizeAt ws at)
   unfolding fixedOk
-  fixed-pointless e = simp (e, fixed-any dim (typeAt ws at) (pointsAt ws at) 0 e)
+  fixed-unsized e =
+      simp (e, unsized-pointless (typeAt ws at) e, fixed-any dim (typeAt ws at) (sizingAt dim ws at) 0 e)
 
-  pub fixed-pointed : (not (isPointed (typeAt ws at)) || pointsOk ws at) ≡ true → fixedOk dim ws at ≡ leb (fixedPart dim (typeAt ws at) (pointsAt ws at)) (sizeAt ws at)
+  -- else that word comes first
+  pub fixed-sized : (b : Bool) → (sizedOk dim ws at && pointsOk ws at) ≡ b → fixedOk dim ws at ≡ (b && leb (fixedPart dim (typeAt ws at) (sizingAt dim ws at)) (sizeAt ws at))
   unfolding fixedOk
-  fixed-pointed e = rw e
-
-  pub fixed-points : (not (isPointed (typeAt ws at)) || pointsOk ws at) ≡ false → fixedOk dim ws at ≡ false
-  unfolding fixedOk
-  fixed-points e = rw e
+  fixed-sized b e = go (sizedOk dim ws at) (pointsOk ws at) _ ∙ rw e
+    where
+      go : (x y z : Bool) → (x && (y && z)) ≡ ((x && y) && z)
+      go true y z = refl
+      go false y z = refl
 
   pub fixed-raw : isHeader (typeAt ws at) ≡ false → isLinked (typeAt ws at) ≡ false → fixedOk dim ws at ≡ true
   fixed-raw h k =
-      fixed-pointless (raw-pointless (typeAt ws at) k)
+      fixed-unsized (raw-unsized (typeAt ws at) k)
       ∙ ap (λ (n : ℕ). leb n (sizeAt ws at)) (raw-part dim (typeAt ws at) 0 h k)
       ∙ le-leb 2 (sizeAt ws at) (omega arith)
+
+  -- only a text has fields
+  pub fields-none : eqb (typeAt ws at) 17 ≡ false → textFieldsOk dim ws at ≡ true
+  unfolding textFieldsOk
+  fields-none e = rw e
 
   pub linkages-linked : isLinked (typeAt ws at) ≡ true → linkagesOk dim ws at ≡ (not (attributesAt ws at) || attributesOk dim ws at)
   unfolding linkagesOk
@@ -118,47 +127,75 @@ name-simple ws at h = simp (not-header (typeAt ws at) 1 h refl, not-header (type
 
 -- the same of an element whose type, size and fixed part were read
 module _ (dim : ℕ) (ws : List ℕ) (at t size : ℕ) (q : t ≡ typeAt ws at) (z : size ≡ sizeAt ws at) where
-  pub plain-fixed : (fixed : ℕ) → fixed ≡ fixedPart dim t (pointsAt ws at) → (not (isPointed t) || pointsOk ws at) ≡ true → fixedOk dim ws at ≡ leb fixed size
-  plain-fixed fixed e p = fixed-pointed dim ws at (rw q at p) ∙ rw (e, q, z)
+  pub plain-fixed : (fixed : ℕ) → fixed ≡ fixedPart dim t (sizingAt dim ws at) → (sizedOk dim ws at && pointsOk ws at) ≡ true → fixedOk dim ws at ≡ leb fixed size
+  plain-fixed fixed e p = fixed-sized dim ws at true p ∙ rw (e, q, z)
 
   pub header-short : (fixed : ℕ) → fixed ≡ fixedPart dim t 0 → isHeader t ≡ true → size < fixed → fixedOk dim ws at ≡ false
-  header-short fixed e k h = fixed-pointless dim ws at (header-pointless (typeAt ws at) (rw q at k)) ∙ lt-leb _ _ (rw (e, q, z) at h)
+  header-short fixed e k h = fixed-unsized dim ws at (header-unsized (typeAt ws at) (rw q at k)) ∙ lt-leb _ _ (rw (e, q, z) at h)
 
   pub header-fixed : (fixed : ℕ) → fixed ≡ fixedPart dim t 0 → isHeader t ≡ true → fixed ≤ size → fixedOk dim ws at ≡ true
-  header-fixed fixed e k h = fixed-pointless dim ws at (header-pointless (typeAt ws at) (rw q at k)) ∙ le-leb _ _ (rw (e, q, z) at h)
+  header-fixed fixed e k h = fixed-unsized dim ws at (header-unsized (typeAt ws at) (rw q at k)) ∙ le-leb _ _ (rw (e, q, z) at h)
 
-  pub header-part : (fixed : ℕ) → fixed ≡ fixedPart dim t 0 → isHeader t ≡ true → fixed ≡ fixedPart dim (typeAt ws at) (pointsAt ws at)
-  header-part fixed e k = e ∙ fixed-any dim t 0 (pointsAt ws at) (header-pointless t k) ∙ ap (λ (u : ℕ). fixedPart dim u (pointsAt ws at)) q
+  pub header-part : (fixed : ℕ) → fixed ≡ fixedPart dim t 0 → isHeader t ≡ true → fixed ≡ fixedPart dim (typeAt ws at) (sizingAt dim ws at)
+  header-part fixed e k = e ∙ fixed-any dim t 0 (sizingAt dim ws at) (header-unsized t k) ∙ ap (λ (u : ℕ). fixedPart dim u (sizingAt dim ws at)) q
+
+  pub header-fields : isHeader t ≡ true → textFieldsOk dim ws at ≡ true
+  header-fields k = fields-none dim ws at (unsized-no-text (typeAt ws at) (header-unsized (typeAt ws at) (rw q at k)))
+
+-- the same of a text, whose counts size its fixed part
+module _ (dim : ℕ) (ws : List ℕ) (at : ℕ) (e : 17 ≡ typeAt ws at) where
+  pub text-part-is : fixedPart dim (typeAt ws at) (sizingAt dim ws at) ≡ textPart dim (countsAt dim ws at)
+  unfolding fixedPart
+  text-part-is = rw (sym e)
+
+  pub text-fixed : fixedOk dim ws at ≡ leb (textPart dim (countsAt dim ws at)) (sizeAt ws at)
+  unfolding fixedOk fixedPart
+  text-fixed = rw (sym e) (go (leb (countsWord dim + 1) (sizeAt ws at)) refl)
+    where
+      go : (b : Bool) → leb (countsWord dim + 1) (sizeAt ws at) ≡ b → (b && leb (textPart dim (countsAt dim ws at)) (sizeAt ws at)) ≡ leb (textPart dim (countsAt dim ws at)) (sizeAt ws at)
+      go true q = refl
+      go false q =
+          let short = leb-false (countsWord dim + 1) (sizeAt ws at) q in
+          let past = text-past dim (countsAt dim ws at) in
+          sym (lt-leb (textPart dim (countsAt dim ws at)) (sizeAt ws at) (omega arith))
+
+  pub text-fields : textFieldsOk dim ws at ≡ fieldsOk dim ws at
+  unfolding textFieldsOk
+  text-fields = rw (sym e)
 
 -- the checks that a raw type leaves
 pub raw-same : (dim under : ℕ) (ws : List ℕ) (at t size : ℕ) → t ≡ typeAt ws at → isHeader t ≡ false → isLinked t ≡ false →
     firstFault (check (not (eqb under 7)) 6 ∷ check (not (isUnread t)) 6 ∷ check (leb size 65535) 8 ∷ [])
-    ≡ firstFault (check (mayStand dim under t) 6 ∷ check (fixedOk dim ws at) 7 ∷ check (leb size 65535) 8 ∷ check (linkagesOk dim ws at) 11 ∷ [])
+    ≡ firstFault (check (mayStand dim under t) 6 ∷ check (fixedOk dim ws at) 7 ∷ check (textFieldsOk dim ws at) 20 ∷ check (leb size 65535) 8 ∷ check (linkagesOk dim ws at) 11 ∷ [])
 raw-same dim under ws at t size q h k =
-    rw (stands-raw dim under t h k, fixed-raw dim ws at (rw q at h) (rw q at k), linkages-none dim ws at (rw q at k)) (go (eqb under 7) (isUnread t) (leb size 65535))
+    let raw : isLinked (typeAt ws at) ≡ false = rw q at k in
+    rw (
+      stands-raw dim under t h k,
+      fixed-raw dim ws at (rw q at h) raw,
+      fields-none dim ws at (unsized-no-text (typeAt ws at) (raw-unsized (typeAt ws at) raw)),
+      linkages-none dim ws at raw,
+    )
+    (go (eqb under 7) (isUnread t) (leb size 65535))
   where
-    go : (u v c : Bool) → firstFault (check (not u) 6 ∷ check (not v) 6 ∷ check c 8 ∷ []) ≡ firstFault (check (not v && not u) 6 ∷ check true 7 ∷ check c 8 ∷ check true 11 ∷ [])
+    go : (u v c : Bool) → firstFault (check (not u) 6 ∷ check (not v) 6 ∷ check c 8 ∷ []) ≡ firstFault (check (not v && not u) 6 ∷ check true 7 ∷ check true 20 ∷ check c 8 ∷ check true 11 ∷ [])
     go true true c = refl
     go true false c = refl
     go false true c = refl
     go false false true = refl
     go false false false = refl
 
--- the checks that a type that is no header leaves
-pub simple-same : (ws : List ℕ) (at room : ℕ) (m f l : Bool) → isHeader (typeAt ws at) ≡ false →
-    firstFault (check m 6 ∷ check f 7 ∷ check (leb (sizeAt ws at) 65535) 8 ∷ check l 11 ∷ [])
-    ≡ firstFault (check m 6 ∷ check f 7 ∷ check (extentOk ws at room) 8 ∷ check l 11 ∷ check (storedNameOk ws at) 12 ∷ [])
-simple-same ws at room m f l h =
-    go m f (leb (sizeAt ws at) 65535) l
-    ∙ ap (λ (b : Bool). firstFault (check m 6 ∷ check f 7 ∷ check b 8 ∷ check l 11 ∷ check true 12 ∷ [])) (sym (extent-simple ws at room h))
-    ∙ ap (λ (b : Bool). firstFault (check m 6 ∷ check f 7 ∷ check (extentOk ws at room) 8 ∷ check l 11 ∷ check b 12 ∷ [])) (sym (name-simple ws at h))
+-- the checks that a type that is no header leaves: the first ones as they are
+pub simple-same : (ws : List ℕ) (at room : ℕ) (cs : List Check) (l : Bool) → isHeader (typeAt ws at) ≡ false →
+    firstFault (cs ++ (check (leb (sizeAt ws at) 65535) 8 ∷ check l 11 ∷ []))
+    ≡ firstFault (cs ++ (check (extentOk ws at room) 8 ∷ check l 11 ∷ check (storedNameOk ws at) 12 ∷ []))
+simple-same ws at room [] l h = rw (extent-simple ws at room h, name-simple ws at h) (go (leb (sizeAt ws at) 65535) l)
   where
-    go : (m f e l : Bool) → firstFault (check m 6 ∷ check f 7 ∷ check e 8 ∷ check l 11 ∷ []) ≡ firstFault (check m 6 ∷ check f 7 ∷ check e 8 ∷ check l 11 ∷ check true 12 ∷ [])
-    go false f e l = refl
-    go true false e l = refl
-    go true true false l = refl
-    go true true true false = refl
-    go true true true true = refl
+    go : (e l : Bool) → firstFault (check e 8 ∷ check l 11 ∷ []) ≡ firstFault (check e 8 ∷ check l 11 ∷ check true 12 ∷ [])
+    go false l = refl
+    go true false = refl
+    go true true = refl
+simple-same ws at room (check true n ∷ cs) l h = simple-same ws at room cs l h
+simple-same ws at room (check false n ∷ cs) l h = refl
 
 ---- no fault: every test passes
 
@@ -175,9 +212,10 @@ module _ (dim depth under : ℕ) (ws : List ℕ) (at bound : ℕ) where
         deep = p .1 .1 .1 .1 .0;
         kind = p .1 .1 .1 .1 .1 .0;
         fixed = p .1 .1 .1 .1 .1 .1 .0;
-        extent = p .1 .1 .1 .1 .1 .1 .1 .0;
-        linkages = p .1 .1 .1 .1 .1 .1 .1 .1 .0;
-        name = p .1 .1 .1 .1 .1 .1 .1 .1 .1 .0;
+        fields = p .1 .1 .1 .1 .1 .1 .1 .0;
+        extent = p .1 .1 .1 .1 .1 .1 .1 .1 .0;
+        linkages = p .1 .1 .1 .1 .1 .1 .1 .1 .1 .0;
+        name = p .1 .1 .1 .1 .1 .1 .1 .1 .1 .1 .0;
       }
 
   pub fault-none : Checked dim depth under ws at bound → faultOf dim depth under ws at bound ≡ 0
@@ -191,6 +229,7 @@ module _ (dim depth under : ℕ) (ws : List ℕ) (at bound : ℕ) where
         c .deep,
         c .kind,
         c .fixed,
+        c .fields,
         c .extent,
         c .linkages,
         c .name,

@@ -1,4 +1,5 @@
--- The rules of one element, in their order (RULES.md, "Order of checks": 3, 4, 5, 10, 6, 7, 8, 11, 12), apart from its components.
+-- The rules of one element, in their order (RULES.md, "Order of checks": 3, 4, 5, 10, 6, 7, 20, 8, 11, 12), apart from its
+-- components.
 -- An element starts at the place `at`, its bound is the place `bound`, `under` is the type of its direct header (0 at
 -- the top) and `depth` how many headers stand above it.
 use Prim.Native.Nat.{ℕ, _+_, _-_, _≤_}
@@ -8,24 +9,32 @@ use mathlib.Core.Bool.{Bool, cond, not, _&&_, _||_}
 use lib.Dec.{eqb, leb}
 use Rattle.words.specs.Words.{words, wordAt}
 use Rattle.names.specs.Names.{nameOk}
+use Rattle.texts.specs.Texts.{fieldsOk}
 use Rattle.kinds.specs.FirstWord.{typeOf}
 use Rattle.headers.specs.Checks.{Check, check, firstFault}
 use Rattle.headers.specs.Flags.{flagChecks}
-use Rattle.headers.specs.Header.{typeAt, sizeAt, pointsAt, extentAt, countAt, nameFirst, nameSecond}
-use Rattle.kinds.specs.Kinds.{isHeader, isCounted, isPointed, isCell, fixedPart, mayStand, pointsWithin}
+use Rattle.headers.specs.Header.{typeAt, sizeAt, pointsAt, sizingAt, extentAt, countAt, nameFirst, nameSecond}
+use Rattle.kinds.specs.Kinds.{isHeader, isCounted, isPointed, isSized, sizingWord, isCell, fixedPart, mayStand, pointsWithin}
 use Rattle.elements.specs.Attributes.{linkagesOk}
 use Rattle.elements.specs.declared.Head.{Head}
 use Rattle.elements.specs.declared.Head.the-variants.{Bad, Plain, Complex}
 
--- N, which stands in the element's own words, is from 2 to 101
-abbrev pub pointsOk : List ℕ → ℕ → Bool
-pointsOk ws at = leb 19 (sizeAt ws at) && pointsWithin (pointsAt ws at)
+-- the element reaches past the word that sizes its fixed part, where there is one
+abbrev pub sizedOk : ℕ → List ℕ → ℕ → Bool
+sizedOk dim ws at = not (isSized (typeAt ws at)) || leb (sizingWord dim (typeAt ws at) + 1) (sizeAt ws at)
 
--- 7 unless N is right where there is one, and the element is not shorter than its fixed part
+-- N is from 2 to 101, where there is one
+abbrev pub pointsOk : List ℕ → ℕ → Bool
+pointsOk ws at = not (isPointed (typeAt ws at)) || pointsWithin (pointsAt ws at)
+
+-- 7 unless both are right and the element is not shorter than its fixed part
 unfoldable pub fixedOk : ℕ → List ℕ → ℕ → Bool
 fixedOk dim ws at =
-    (not (isPointed (typeAt ws at)) || pointsOk ws at)
-    && leb (fixedPart dim (typeAt ws at) (pointsAt ws at)) (sizeAt ws at)
+    sizedOk dim ws at && (pointsOk ws at && leb (fixedPart dim (typeAt ws at) (sizingAt dim ws at)) (sizeAt ws at))
+
+-- 20 unless the fields of a text are right
+unfoldable pub textFieldsOk : ℕ → List ℕ → ℕ → Bool
+textFieldsOk dim ws at = not (eqb (typeAt ws at) 17) || fieldsOk dim ws at
 
 -- 8 unless the size is at most 65,535 words and a header's extent ends neither before the header does, nor past the
 -- bound, nor above 65,535 words
@@ -47,6 +56,7 @@ placeChecks dim depth under w = flagChecks depth w ++ (check (mayStand dim under
 abbrev pub contentChecks : ℕ → List ℕ → ℕ → ℕ → List Check
 contentChecks dim ws at room =
     check (fixedOk dim ws at) 7
+    ∷ check (textFieldsOk dim ws at) 20
     ∷ check (extentOk ws at room) 8
     ∷ check (linkagesOk dim ws at) 11
     ∷ check (storedNameOk ws at) 12

@@ -8,9 +8,9 @@ ghost use lib.Dec.{eqb, leb};
 ghost use Rattle.words.specs.Words.{words};
 ghost use Rattle.kinds.specs.Kinds.{isHeader, isLinked, isUnread, fixedPart, mayStand};
 ghost use Rattle.headers.specs.Checks.{check, firstFault};
-ghost use Rattle.headers.specs.Header.{typeAt, sizeAt, pointsAt, extentAt, attributesAt};
+ghost use Rattle.headers.specs.Header.{typeAt, sizeAt, sizingAt, extentAt, attributesAt};
 ghost use Rattle.elements.specs.Attributes.{attributesOk, linkagesOk};
-ghost use Rattle.elements.specs.Rules.{fixedOk, storedNameOk, contentChecks, HeadRead};
+ghost use Rattle.elements.specs.Rules.{fixedOk, textFieldsOk, storedNameOk, contentChecks, HeadRead};
 
 // What one element is read as: refused with a number; an element that its own words end; or a header, whose
 // components stand from `inner` to `end`.
@@ -25,16 +25,6 @@ fn size_ok(size: usize) -> bool
     ensures { λ r. ⌜ r ≡ leb size 65535 ⌝ }
 {
     size <= 65535
-}
-
-// 6, of a known type that is no header: only type 17 may stand under 7.
-fn text_ok(under: usize, t: usize) -> bool
-    ensures { λ r. ⌜ r ≡ (not (eqb under 7) || eqb t 17) ⌝ }
-{
-    if under == 7 {
-        return t == 17;
-    }
-    true
 }
 
 // The number of the first fault of a raw element, 0 where there is none.
@@ -53,18 +43,15 @@ fn raw_fault(t: usize, size: usize, under: usize) -> usize
     0
 }
 
-// 7, of a known type that is no header: its fixed part, or a number above every size where N is wrong. Word 18 is read
-// only where it is the element's own.
+// 7, of type 3 or a type with points: its fixed part, or a number above every size where N is wrong. Word 18 is read only
+// where it is the element's own.
 fn plain_part(s: &[u8], at: usize, t: usize, size: usize, dim: usize) -> usize
     requires { ⌜ (t ≡ typeAt (words (now s)) at) × (size ≡ sizeAt (words (now s)) at) ⌝ }
-    requires { ⌜ (isLinked t ≡ true) × ((isHeader t ≡ false) × (at + size < 2 ^ 64)) ⌝ }
-    ensures { λ r. ⌜ (leb r size ≡ fixedOk dim (words (now (s .entry))) at) × (fixedOk dim (words (now (s .entry))) at ≡ true → r ≡ fixedPart dim t (pointsAt (words (now (s .entry))) at)) ⌝ }
+    requires { ⌜ (isLinked t ≡ true) × ((isHeader t ≡ false) × ((eqb t 17 ≡ false) × (at + size < 2 ^ 64))) ⌝ }
+    ensures { λ r. ⌜ (leb r size ≡ fixedOk dim (words (now (s .entry))) at) × (fixedOk dim (words (now (s .entry))) at ≡ true → r ≡ fixedPart dim t (sizingAt dim (words (now (s .entry))) at)) ⌝ }
 {
     if t == 3 {
         return kinds::pick(dim == 2, 26, 30);
-    }
-    if t == 17 {
-        return 18;
     }
     if size < 19 {
         return 65540;
@@ -83,7 +70,7 @@ fn plain_part(s: &[u8], at: usize, t: usize, size: usize, dim: usize) -> usize
 fn attributes_ok(s: &[u8], at: usize, fixed: usize, size: usize) -> bool
     requires { ⌜ size ≡ sizeAt (words (now s)) at ⌝ }
     requires { ⌜ (18 ≤ size) × (at + size < 2 ^ 64) ⌝ }
-    ensures { λ r. ⌜ ((dim : ℕ) → fixed ≡ fixedPart dim (typeAt (words (now (s .entry))) at) (pointsAt (words (now (s .entry))) at) → r ≡ (not (attributesAt (words (now (s .entry))) at) || attributesOk dim (words (now (s .entry))) at)) ⌝ }
+    ensures { λ r. ⌜ ((dim : ℕ) → fixed ≡ fixedPart dim (typeAt (words (now (s .entry))) at) (sizingAt dim (words (now (s .entry))) at) → r ≡ (not (attributesAt (words (now (s .entry))) at) || attributesOk dim (words (now (s .entry))) at)) ⌝ }
 {
     if words::word(s, at + 16) / 2048 % 2 != 1 {
         return true;
@@ -98,13 +85,44 @@ fn attributes_ok(s: &[u8], at: usize, fixed: usize, size: usize) -> bool
     linkages::linkages_fill(s, at + part, at + size)
 }
 
-// The number of the first fault of an element of a known type that is no header, 0 where there is none.
+// The number of the first fault in what a text holds, 0 where there is none. The counts are read only where they are its
+// own.
+fn text_fault(s: &[u8], at: usize, size: usize, dim: usize) -> usize
+    requires { ⌜ (17 ≡ typeAt (words (now s)) at) × ((size ≡ sizeAt (words (now s)) at) × (at + size < 2 ^ 64)) ⌝ }
+    ensures { λ r. ⌜ r ≡ firstFault (check (fixedOk dim (words (now (s .entry))) at) 7 ∷ check (textFieldsOk dim (words (now (s .entry))) at) 20 ∷ check (leb size 65535) 8 ∷ check (linkagesOk dim (words (now (s .entry))) at) 11 ∷ []) ⌝ }
+{
+    let place = texts::counts_word(dim);
+    if size <= place {
+        return 7;
+    }
+    let counts = words::word(s, at + place);
+    let fixed = texts::text_part(dim, counts);
+    if size < fixed {
+        return 7;
+    }
+    if !texts::counted_fields_ok(s, at, dim, counts) {
+        return 20;
+    }
+    if !size_ok(size) {
+        return 8;
+    }
+    if !attributes_ok(s, at, fixed, size) {
+        return 11;
+    }
+    0
+}
+
+// The number of the first fault of an element of a known type that is no header, 0 where there is none: only type 17 may
+// stand under 7.
 fn plain_fault(s: &[u8], at: usize, t: usize, size: usize, under: usize, dim: usize) -> usize
     requires { ⌜ (t ≡ typeAt (words (now s)) at) × (size ≡ sizeAt (words (now s)) at) ⌝ }
     requires { ⌜ (isLinked t ≡ true) × ((isHeader t ≡ false) × (at + size < 2 ^ 64)) ⌝ }
-    ensures { λ r. ⌜ r ≡ firstFault (check (not (eqb under 7) || eqb t 17) 6 ∷ check (fixedOk dim (words (now (s .entry))) at) 7 ∷ check (leb size 65535) 8 ∷ check (linkagesOk dim (words (now (s .entry))) at) 11 ∷ []) ⌝ }
+    ensures { λ r. ⌜ r ≡ firstFault (check (not (eqb under 7) || eqb t 17) 6 ∷ check (fixedOk dim (words (now (s .entry))) at) 7 ∷ check (textFieldsOk dim (words (now (s .entry))) at) 20 ∷ check (leb size 65535) 8 ∷ check (linkagesOk dim (words (now (s .entry))) at) 11 ∷ []) ⌝ }
 {
-    if !text_ok(under, t) {
+    if t == 17 {
+        return text_fault(s, at, size, dim);
+    }
+    if under == 7 {
         return 6;
     }
     let fixed = plain_part(s, at, t, size, dim);
@@ -124,7 +142,7 @@ fn plain_fault(s: &[u8], at: usize, t: usize, size: usize, under: usize, dim: us
 fn simple_fault(s: &[u8], at: usize, t: usize, size: usize, under: usize, dim: usize) -> usize
     requires { ⌜ (t ≡ typeAt (words (now s)) at) × (size ≡ sizeAt (words (now s)) at) ⌝ }
     requires { ⌜ (isHeader t ≡ false) × (at + size < 2 ^ 64) ⌝ }
-    ensures { λ r. ⌜ r ≡ firstFault (check (mayStand dim under t) 6 ∷ check (fixedOk dim (words (now (s .entry))) at) 7 ∷ check (leb size 65535) 8 ∷ check (linkagesOk dim (words (now (s .entry))) at) 11 ∷ []) ⌝ }
+    ensures { λ r. ⌜ r ≡ firstFault (check (mayStand dim under t) 6 ∷ check (fixedOk dim (words (now (s .entry))) at) 7 ∷ check (textFieldsOk dim (words (now (s .entry))) at) 20 ∷ check (leb size 65535) 8 ∷ check (linkagesOk dim (words (now (s .entry))) at) 11 ∷ []) ⌝ }
 {
     if kinds::is_linked(t) {
         return plain_fault(s, at, t, size, under, dim);
@@ -151,7 +169,7 @@ fn extent_ok(s: &[u8], at: usize, size: usize, room: usize) -> bool
 fn linkages_ok(s: &[u8], at: usize, t: usize, fixed: usize, size: usize) -> bool
     requires { ⌜ (t ≡ typeAt (words (now s)) at) × (size ≡ sizeAt (words (now s)) at) ⌝ }
     requires { ⌜ (isHeader t ≡ true) × ((18 ≤ size) × (at + size < 2 ^ 64)) ⌝ }
-    ensures { λ r. ⌜ ((dim : ℕ) → fixed ≡ fixedPart dim (typeAt (words (now (s .entry))) at) (pointsAt (words (now (s .entry))) at) → r ≡ linkagesOk dim (words (now (s .entry))) at) ⌝ }
+    ensures { λ r. ⌜ ((dim : ℕ) → fixed ≡ fixedPart dim (typeAt (words (now (s .entry))) at) (sizingAt dim (words (now (s .entry))) at) → r ≡ linkagesOk dim (words (now (s .entry))) at) ⌝ }
 {
     if t == 1 {
         return true;

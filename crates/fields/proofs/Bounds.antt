@@ -6,7 +6,7 @@ use mathlib.Core.List.{List, [], _∷_}
 use native.Mathlib.Omega.{arith}
 use lib.ListN.{length}
 use lib.Dec.{eqb, leb}
-use borrow.Author.Tests.{leb-true, le-leb, eqb-true, eq-eqb}
+use borrow.Author.Tests.{leb-true, le-leb, eqb-true, eq-eqb, ne-eqb}
 use Rattle.limits.specs.Limits.{dimOk}
 use Rattle.limits.proofs.Dimensions.{by-dims}
 use Rattle.kinds.specs.Kinds.{isPointed, fixedPart}
@@ -35,6 +35,16 @@ and-no b e = rw e refl
 
 pub and-on : {a b r : Bool} → a ≡ true → r ≡ b → r ≡ (a && b)
 and-on e q = rw e q
+
+-- a bit is 1 exactly where it is not 0
+pub one-not : (n : ℕ) → n ≡ 0 → eqb n 1 ≡ false
+one-not n z = ne-eqb n 1 (λ o. omega arith)
+
+pub one-else : (n : ℕ) → (n % 2 ≡ 0 → ⊥) → eqb (n % 2) 1 ≡ true
+one-else n h = eq-eqb (n % 2) 1 (go (n % 2) h (omega arith))
+  where
+    go : (m : ℕ) → (m ≡ 0 → ⊥) → m ≤ 1 → m ≡ 1
+    go m z l = let o : 1 ≤ m = omega arith in omega arith
 
 pub each-least : (m : ℕ) (xs : List ℕ) → eachAtMost m xs ≡ true → Each (λ x. x ≤ m) xs
 each-least m [] e = tt

@@ -1,12 +1,14 @@
 -- The checks of what is handed to the writer (RULES.md, "Writing"), in their order.
-use Prim.Native.Nat.{ℕ, _*_, _%_}
+use Prim.Native.Nat.{ℕ, _-_, _*_, _/_, _%_}
 use mathlib.Core.Bool.{Bool, true, cond, not, _&&_, _||_}
 use mathlib.Core.List.{List, [], _∷_}
 use lib.ListN.{length}
 use lib.Dec.{eqb, leb}
 use lib.IntN.{ℤ}
+use Rattle.words.specs.Words.{words}
 use Rattle.limits.specs.Limits.{dimOk}
 use Rattle.kinds.specs.Kinds.{oneOf, isPointed, pointsWithin}
+use Rattle.linkages.specs.Linkages.{linkagesFill}
 use Rattle.elements.specs.Attributes.{linkagesOk}
 use Rattle.headers.specs.Checks.{Check, check, firstFault}
 use Rattle.fields.specs.Words.{rangeLongs, pointsIn, sizeOf, elementWords}
@@ -44,6 +46,15 @@ argumentsOk dim f points tail =
 -- 7 unless N is from 2 to 101
 unfoldable pub pointNumberOk : ℕ → ℕ → Bool
 pointNumberOk kind n = not (isPointed kind) || pointsWithin n
+
+-- the attribute part of a tail whose first word has the attribute index `first`: where A is set it begins not before the tail
+-- nor after its end, and linkages fill it
+unfoldable pub tailOk : Fields → ℕ → List ℕ → Bool
+tailOk f first tail =
+    not (eqb (f .properties / 2048 % 2) 1)
+    || (leb first (f .index)
+    && (leb (f .index - first) (length tail / 2)
+    && linkagesFill (words tail) (f .index - first) (length tail / 2)))
 
 -- the checks, with a buffer of so many bytes: 8 is of the size, 11 of the attribute part, 15 of the room
 abbrev pub writeChecks : ℕ → Fields → List ℤ → List ℕ → ℕ → List Check

@@ -47,8 +47,13 @@ countWords kind n = cond (isPointed kind) (n ∷ []) []
 unfoldable pub sizeOf : ℕ → Fields → List ℤ → List ℕ → ℕ
 sizeOf dim f points tail = fixedPart dim (f .kind) (pointsIn dim points) + length tail / 2
 
--- all words: the header, N, the points as signed longs, the tail
+-- N and the points, as signed longs: the fixed part behind the header
+abbrev pub pointWords : ℕ → ℕ → List ℤ → List ℕ
+pointWords dim kind points = countWords kind (pointsIn dim points) ++ longs (map unsigned points)
+
+-- all words of an element of a size: the header, its body, which is the rest of the fixed part, and the tail
+abbrev pub elementOf : Fields → ℕ → List ℕ → List ℕ → List ℕ
+elementOf f size body tail = headerWords f size ++ (body ++ words tail)
+
 unfoldable pub elementWords : ℕ → Fields → List ℤ → List ℕ → List ℕ
-elementWords dim f points tail =
-    headerWords f (sizeOf dim f points tail)
-    ++ (countWords (f .kind) (pointsIn dim points) ++ (longs (map unsigned points) ++ words tail))
+elementWords dim f points tail = elementOf f (sizeOf dim f points tail) (pointWords dim (f .kind) points) tail

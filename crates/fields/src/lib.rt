@@ -6,7 +6,7 @@ ghost use lib.ListN.{length};
 ghost use Rattle.limits.specs.Limits.{dimOk};
 ghost use Rattle.elements.specs.Attributes.{linkagesOk};
 ghost use Rattle.fields.specs.Words.{rangeLongs, pointsIn, sizeOf, elementWords};
-ghost use Rattle.fields.specs.Faults.{eachAtMost, isWritten, wordsOk, symbologyOk, fieldsOk, pointsFit, argumentsOk, pointNumberOk, writeFault};
+ghost use Rattle.fields.specs.Faults.{eachAtMost, isWritten, wordsOk, symbologyOk, fieldsOk, pointsFit, argumentsOk, pointNumberOk, tailOk, writeFault};
 
 // All header fields of an element; its size and N follow from its points and its tail.
 pub struct Fields {
@@ -96,8 +96,8 @@ fn symbology_ok(fields: Fields) -> bool
     true
 }
 
-// 1: all fields.
-fn fields_ok(fields: Fields) -> bool
+// 1: all fields but the type.
+pub fn fields_ok(fields: Fields) -> bool
     ensures { λ r. ⌜ r ≡ fieldsOk fields ⌝ }
 {
     if 63 < fields.level {
@@ -165,26 +165,36 @@ fn size_of(dim: usize, fields: Fields, points: &[i32], tail: &[u8]) -> usize
     kinds::fixed_part(dim, fields.kind, n as u16) + tail.len() / 2
 }
 
-// 11: the attribute part, where A is set. It begins not before the tail nor after its end, and linkages fill it.
-fn tail_ok(dim: usize, fields: Fields, points: &[i32], tail: &[u8]) -> bool
-    requires { ⌜ argumentsOk dim fields (length (now points)) (length (now tail)) ≡ true ⌝ }
-    requires { ⌜ pointNumberOk (fields .kind) (pointsIn dim (now points)) ≡ true ⌝ }
-    ensures { λ r. ⌜ r ≡ linkagesOk dim (elementWords dim fields (now (points .entry)) (now (tail .entry))) 0 ⌝ }
+// 11: the attribute part of a tail whose first word has the attribute index `first`, where A is set. It begins not before the
+// tail nor after its end, and linkages fill it.
+pub fn tail_ok(fields: Fields, first: usize, tail: &[u8]) -> bool
+    ensures { λ r. ⌜ r ≡ tailOk fields first (now (tail .entry)) ⌝ }
 {
     if fields.properties / 2048 % 2 == 0 {
         return true;
     }
-    let n = points.len() / dim;
-    let fixed = kinds::fixed_part(dim, fields.kind, n as u16);
-    let part = 16 + fields.index;
-    if part < fixed {
+    if fields.index < first {
         return false;
     }
     let end = tail.len() / 2;
-    if end < part - fixed {
+    if end < fields.index - first {
         return false;
     }
-    linkages::linkages_fill(tail, part - fixed, end)
+    linkages::linkages_fill(tail, fields.index - first, end)
+}
+
+// 11: the same of the element; the attribute index counts from word 16.
+fn linkages_ok(dim: usize, fields: Fields, points: &[i32], tail: &[u8]) -> bool
+    requires { ⌜ argumentsOk dim fields (length (now points)) (length (now tail)) ≡ true ⌝ }
+    requires { ⌜ pointNumberOk (fields .kind) (pointsIn dim (now points)) ≡ true ⌝ }
+    ensures { λ r. ⌜ r ≡ linkagesOk dim (elementWords dim fields (now (points .entry)) (now (tail .entry))) 0 ⌝ }
+{
+    let n = points.len() / dim;
+    tail_ok(
+        fields,
+        kinds::fixed_part(dim, fields.kind, n as u16) - 16,
+        tail,
+    )
 }
 
 // The number of the first fault, 0 where there is none, with a buffer of `room` bytes.
@@ -201,7 +211,7 @@ pub fn write_fault(dim: usize, fields: Fields, points: &[i32], tail: &[u8], room
     if 65535 < size {
         return 8;
     }
-    if !tail_ok(dim, fields, points, tail) {
+    if !linkages_ok(dim, fields, points, tail) {
         return 11;
     }
     if room < 2 * size {

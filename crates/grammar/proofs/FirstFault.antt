@@ -3,15 +3,14 @@
 use Prim.Native.Nat.{ℕ, zero, suc, _+_, _-_, _*_, _≤_, _<_, max}
 use mathlib.Core.Path.{_≡_, refl, sym, ap, _∙_, subst}
 use mathlib.Core.Logic.{_↔_, _⊎_, inl, inr}
-use mathlib.Core.Bool.{Bool, true, false, cond, _&&_, and-eq-true-iff}
+use mathlib.Core.Bool.{Bool, true, false, cond, _&&_, _||_}
 use mathlib.Core.List.{List, _++_}
 use mathlib.Core.Option.{Option, none, some}
 use native.Mathlib.Omega.{arith}
 use native.Mathlib.Numerals.{add-one}
 use lib.ListN.{length, take, drop, length-append, length-drop}
 use lib.Seq.{length-take-le}
-use lib.Dec.{leb}
-use borrow.Author.Tests.{leb-true}
+use lib.Dec.{eqb, leb}
 use Rattle.words.specs.Words.{words}
 use Rattle.headers.specs.Header.{typeAt}
 use Rattle.headers.proofs.Checks.{first-in}
@@ -31,25 +30,33 @@ use Rattle.files.specs.declared.Verdict.the-variants.{Good, Fault}
 use Rattle.files.specs.declared.Judged.the-variants.{Refused}
 use Rattle.files.proofs.Laws as laws
 use Rattle.grammar.specs.Grammar.{Element, element, Components}
-use Rattle.grammar.specs.FirstFault.{fromTo, Due, ElementFault, own-words, inside, count, ListFault, here, later, no-end, FirstFault, Refusal}
+use Rattle.grammar.specs.FirstFault.{fromTo, Due, ElementFault, own-words, inside, count, ListFault, here, later, no-end, FirstFault, ElementNumber, Refusal}
 use Rattle.grammar.proofs.Meaning.{tests-own}
-use Rattle.grammar.proofs.Forest.{Forest, flat, num, weight, spots, element-tree, components-tree, tree-components}
+use Rattle.grammar.proofs.Forest.{flat, num, weight, spots, element-tree, components-tree, tree-components}
 use Rattle.grammar.proofs.Stands.{Stands, stands-part, stands-left}
 use Rattle.grammar.proofs.Rules.{own-two}
+use Rattle.grammar.proofs.Says.{says-eq, says-le, says-and, says-or}
 use Rattle.grammar.proofs.Ends.{own-more, stopped, due-more, end-lacking}
 use Rattle.grammar.proofs.Sound.{ElementRead, ListRead, element-sound, list-sound}
 use Rattle.grammar.proofs.Complete.{element-complete, list-complete}
 
 ---- the numbers of the checks
 
--- an element whose own words are at fault has a number from 3 to 12
-bad-number : (dim depth under : ℕ) (ws : List ℕ) (at bound n : ℕ) → headOf dim depth under ws at bound ≡ Bad n → (3 ≤ n) × (n ≤ 12)
+-- an element whose own words are at fault has one of the numbers
+abbrev elementNumber : ℕ → Bool
+elementNumber n = (leb 3 n && leb n 12) || eqb n 20
+
+bad-number : (dim depth under : ℕ) (ws : List ℕ) (at bound n : ℕ) → headOf dim depth under ws at bound ≡ Bad n → ElementNumber n
 unfolding faultOf
 bad-number dim depth under ws at bound n e =
     let m = head-means dim depth under ws at bound (Bad n) e in
-    let r = first-in (λ k. leb 3 k && leb k 12) (checks dim depth under ws at bound) refl (λ z. m .1 (sym (m .0) ∙ z)) in
-    let b = and-eq-true-iff (leb 3 n) (leb n 12) .0 (subst (λ k. (leb 3 k && leb k 12) ≡ true) (m .0) r) in
-    (leb-true 3 n (b .0), leb-true n 12 (b .1))
+    let r = first-in elementNumber (checks dim depth under ws at bound) refl (λ z. m .1 (sym (m .0) ∙ z)) in
+    says-or (says-and (says-le 3 n) (says-le n 12)) (says-eq n 20) .said (subst (λ k. elementNumber k ≡ true) (m .0) r)
+
+-- which are from 3 to 20
+pub number-within : {n : ℕ} → ElementNumber n → (3 ≤ n) × (n ≤ 20)
+number-within (inl x) = omega arith
+number-within (inr x) = omega arith
 
 ---- what a refusal was made of
 
@@ -267,40 +274,40 @@ module _ (dim : ℕ) (ws : List ℕ) where
 
   -- of a list: at the top it may be 2 at the bound
   abbrev Somewhere : ℕ → ℕ → ℕ → ℕ → Type 0
-  Somewhere zero bound n p = ((n ≡ 2) × (p ≡ bound)) ⊎ ((3 ≤ n) × (n ≤ 12) × (p < bound))
-  Somewhere (suc depth) bound n p = (3 ≤ n) × (n ≤ 12) × (p < bound)
+  Somewhere zero bound n p = ((n ≡ 2) × (p ≡ bound)) ⊎ (ElementNumber n × (p < bound))
+  Somewhere (suc depth) bound n p = ElementNumber n × (p < bound)
 
   due-before : (depth at bound : ℕ) → Due depth ws at bound → at < bound
   due-before zero at bound d = d .0
   due-before (suc depth) at bound d = d
 
-  of-element : (depth bound n p : ℕ) → (3 ≤ n) × (n ≤ 12) × (p < bound) → Somewhere depth bound n p
+  of-element : (depth bound n p : ℕ) → ElementNumber n × (p < bound) → Somewhere depth bound n p
   of-element zero bound n p s = inr s
   of-element (suc depth) bound n p s = s
 
   mutual
-    element-place : {depth under at bound n p : ℕ} → ElementFault dim ws depth under at bound n p → (3 ≤ n) × (n ≤ 12) × (p < max bound (at + 1))
-    element-place {depth} {under} {at} {bound} {n} (own-words h) = let m = bad-number dim depth under ws at bound n h in (m .0, m .1, omega arith)
+    element-place : {depth under at bound n p : ℕ} → ElementFault dim ws depth under at bound n p → ElementNumber n × (p < max bound (at + 1))
+    element-place {depth} {under} {at} {bound} {n} (own-words h) = (bad-number dim depth under ws at bound n h, omega arith)
     element-place {depth} {under} {at} {bound} (inside inner end h f) =
         let w = complex-within depth under at bound inner end h in
         let s = list-place f in
-        (s .0, s .1, omega arith)
-    element-place (count inner end k xs h c o) = (omega arith, omega arith, omega arith)
+        (s .0, omega arith)
+    element-place (count inner end k xs h c o) = (inl (omega arith), omega arith)
 
     list-place : {depth under : ℕ} {header : Option ℕ} {at bound n p : ℕ} → ListFault dim ws depth under header at bound n p → Somewhere depth bound n p
     list-place {depth} {under} {header} {at} {bound} {n} {p} (here d f) =
         let s = element-place f in
         let b = due-before depth at bound d in
-        of-element depth bound n p (s .0, s .1, omega arith)
+        of-element depth bound n p (s .0, omega arith)
     list-place (later next xs l x f) = list-place f
     list-place no-end = inl (refl, refl)
 
   -- of an element with its extent, and of a file
   pub element-refusal : (depth under at bound : ℕ) → at ≤ bound → bound ≤ length ws → (n p : ℕ) → elementOf dim depth under ws at bound ≡ Fault n p →
-      (3 ≤ n) × (n ≤ 12) × (p < max bound (at + 1))
+      ElementNumber n × (p < max bound (at + 1))
   element-refusal depth under at bound a b n p q = element-place (element-exactly depth under at bound n p a b .0 q)
 
-  pub fault-place : (n p : ℕ) → FirstFault dim ws n p → ((n ≡ 2) × (p ≡ length ws)) ⊎ ((3 ≤ n) × (n ≤ 12) × (p < length ws))
+  pub fault-place : (n p : ℕ) → FirstFault dim ws n p → ((n ≡ 2) × (p ≡ length ws)) ⊎ (ElementNumber n × (p < length ws))
   fault-place n p f = list-place f
 
 ---- a file
@@ -318,9 +325,9 @@ refused-exactly dim s n p c = (
 )
 
 -- any other file is refused with 1 at 0, and only such a file is
-above-one : {n p size : ℕ} → ((n ≡ 2) × (p ≡ size)) ⊎ ((3 ≤ n) × (n ≤ 12) × (p < size)) → n ≡ 1 → ⊥
+above-one : {n p size : ℕ} → ((n ≡ 2) × (p ≡ size)) ⊎ (ElementNumber n × (p < size)) → n ≡ 1 → ⊥
 above-one (inl x) e = omega arith
-above-one (inr x) e = omega arith
+above-one (inr x) e = omega (arith, number-within (x .0))
 
 pub refused-call : (dim : ℕ) (s : List ℕ) → (judgeOf dim s ≡ Refused 1 0) ↔ (callOk dim s ≡ false)
 refused-call dim s = (λ q. go (callOk dim s) refl q, λ c. sym (laws.judge-call dim s c))

@@ -1,26 +1,28 @@
 -- The tests of one element read its own words alone: where these words stand at a place, each test at that place is the
 -- test of the words themselves. A type's fixed part says which words are inside.
-use Prim.Native.Nat.{ℕ, _+_, _≤_}
+use Prim.Native.Nat.{ℕ, _+_, _≤_, _<_}
 use mathlib.Core.Path.{_≡_, refl, sym, ap, ap₂, _∙_}
 use mathlib.Core.Bool.{Bool, true, false, not, _&&_, _||_}
 use mathlib.Core.List.{List}
+use native.Mathlib.Nat.{zero-add}
 use native.Mathlib.Omega.{arith}
 use lib.ListN.{length}
 use lib.Dec.{eqb, leb}
-use borrow.Author.Tests.{leb-true}
+use borrow.Author.Tests.{leb-true, eqb-true}
 use Rattle.words.specs.Words.{wordAt}
 use Rattle.names.specs.Names.{nameOk}
 use Rattle.linkages.specs.Linkages.{linkagesFill}
+use Rattle.texts.proofs.Laws.{text-same}
 use Rattle.kinds.specs.FirstWord.{typeOf}
-use Rattle.headers.specs.Header.{typeAt, sizeAt, pointsAt, extentAt, attributesAt, attributePartAt}
-use Rattle.kinds.specs.Kinds.{isHeader, isCounted, isPointed, isLinked, isCell, nameWord, fixedPart}
+use Rattle.headers.specs.Header.{typeAt, sizeAt, sizingAt, extentAt, attributesAt, attributePartAt}
+use Rattle.kinds.specs.Kinds.{isHeader, isCounted, isPointed, isSized, sizingWord, isLinked, isCell, nameWord, fixedPart, pointsWithin}
 use Rattle.headers.proofs.Laws.{own-first, own-second}
 use Rattle.elements.specs.Attributes.{attributesOk, linkagesOk}
-use Rattle.elements.specs.Rules.{fixedOk, storedNameOk, countOk}
+use Rattle.elements.specs.Rules.{fixedOk, textFieldsOk, storedNameOk, countOk}
 use Rattle.grammar.proofs.Stands.{Stands, stands-word, stands-first}
-use Rattle.kinds.proofs.Types.{header-long, linked-long, fixed-any, name-early}
-use Rattle.elements.proofs.Laws.{fixed-least}
-use Rattle.grammar.proofs.Types.{counted-header, pointed-long, cell-long}
+use Rattle.kinds.proofs.Types.{header-long, linked-long, sized-long, pointed-sized, unsized-pointless, fixed-any, name-early}
+use Rattle.elements.proofs.Laws.{fixed-least, text-part-is}
+use Rattle.grammar.proofs.Types.{counted-header, cell-long}
 use Rattle.linkages.proofs.Local.{fill-local}
 
 ---- a test that is asked only where another holds
@@ -33,17 +35,21 @@ and-where-same : (b : Bool) {x y : Bool} → (b ≡ true → x ≡ y) → (b && 
 and-where-same true h = h refl
 and-where-same false h = refl
 
--- the test of the fixed part needs word 18 only of a type with N, and only where the element has it
-fixed-by : (dim t s p q : ℕ) → (19 ≤ s → p ≡ q) →
-    ((not (isPointed t) || (leb 19 s && (leb 2 p && leb p 101))) && leb (fixedPart dim t p) s)
-    ≡ ((not (isPointed t) || (leb 19 s && (leb 2 q && leb q 101))) && leb (fixedPart dim t q) s)
-fixed-by dim t s p q h = go (isPointed t) refl (leb 19 s) refl
-  where
-    go : (b : Bool) → isPointed t ≡ b → (c : Bool) → leb 19 s ≡ c →
-        ((not b || (c && (leb 2 p && leb p 101))) && leb (fixedPart dim t p) s) ≡ ((not b || (c && (leb 2 q && leb q 101))) && leb (fixedPart dim t q) s)
-    go false e c f = ap (λ n. leb n s) (fixed-any dim t p q e)
-    go true e true f = rw (h (leb-true 19 s f)) refl
-    go true e false f = refl
+-- the test of the fixed part needs the word that sizes it, and N, only of a type that has one, and only where the element
+-- reaches past it
+module _ (dim t size p q m n : ℕ) (points : 18 < size → p ≡ q) (sizing : sizingWord dim t < size → m ≡ n) where
+  fixed-by :
+      ((not (isSized t) || leb (sizingWord dim t + 1) size) && ((not (isPointed t) || pointsWithin p) && leb (fixedPart dim t m) size))
+      ≡ ((not (isSized t) || leb (sizingWord dim t + 1) size) && ((not (isPointed t) || pointsWithin q) && leb (fixedPart dim t n) size))
+  fixed-by = go (isSized t) refl (leb (sizingWord dim t + 1) size) refl
+    where
+      go : (b : Bool) → isSized t ≡ b → (c : Bool) → leb (sizingWord dim t + 1) size ≡ c →
+          ((not b || c) && ((not (isPointed t) || pointsWithin p) && leb (fixedPart dim t m) size)) ≡ ((not b || c) && ((not (isPointed t) || pointsWithin q) && leb (fixedPart dim t n) size))
+      go false e c f = rw (unsized-pointless t e, fixed-any dim t m n e) refl
+      go true e false f = refl
+      go true e true f =
+          let l = leb-true (sizingWord dim t + 1) size f in
+          ap₂ _&&_ (where-same (isPointed t) (λ h. let w = pointed-sized dim t h .1 in ap pointsWithin (points (omega arith)))) (ap (λ x. leb (fixedPart dim t x) size) (sizing (omega arith)))
 
 module _ (own ws : List ℕ) (at : ℕ) (s : Stands own at ws) (size : sizeAt own 0 ≡ length own) where
   pub type-local : typeAt ws at ≡ typeAt own 0
@@ -55,28 +61,29 @@ module _ (own ws : List ℕ) (at : ℕ) (s : Stands own at ws) (size : sizeAt ow
   pub first-local : wordAt ws at ≡ wordAt own 0
   first-local = stands-first s (omega arith)
 
-  points-local : 19 ≤ length own → pointsAt ws at ≡ pointsAt own 0
-  points-local h = stands-word s 18 h
+  -- word i of the element, there and of the words alone
+  word-local : (i : ℕ) → i < length own → wordAt ws (at + i) ≡ wordAt own (0 + i)
+  word-local i h = stands-word s i h ∙ ap (wordAt own) (sym (zero-add i))
 
   pub fixed-local : (dim : ℕ) → fixedOk dim ws at ≡ fixedOk dim own 0
   unfolding fixedOk
-  fixed-local dim = rw (type-local, size-local, size) (fixed-by dim (typeAt own 0) (length own) (pointsAt ws at) (pointsAt own 0) points-local)
+  fixed-local dim = rw (type-local, size-local, size) (fixed-by dim (typeAt own 0) (length own) _ _ _ _ (word-local 18) (word-local (sizingWord dim (typeAt own 0))))
 
   ---- of an element that is not shorter than its fixed part
 
   module _ (dim : ℕ) (fixed : fixedOk dim own 0 ≡ true) where
     -- it has as many words as its type's fixed part has at least
-    own-long : {m : ℕ} → m ≤ fixedPart dim (typeAt own 0) (pointsAt own 0) → m ≤ length own
+    own-long : {m : ℕ} → m ≤ fixedPart dim (typeAt own 0) (sizingAt dim own 0) → m ≤ length own
     own-long h = let b = fixed-least dim own 0 fixed in omega arith
 
     own-header : isHeader (typeAt own 0) ≡ true → 20 ≤ length own
-    own-header h = own-long (header-long dim (typeAt own 0) (pointsAt own 0) h)
+    own-header h = own-long (header-long dim (typeAt own 0) (sizingAt dim own 0) h)
 
     own-linked : isLinked (typeAt own 0) ≡ true → 18 ≤ length own
-    own-linked h = own-long (linked-long dim (typeAt own 0) (pointsAt own 0) h)
+    own-linked h = own-long (linked-long dim (typeAt own 0) (sizingAt dim own 0) h)
 
     own-cell : isCell (typeAt own 0) ≡ true → 21 ≤ length own
-    own-cell h = own-long (cell-long dim (typeAt own 0) (pointsAt own 0) h)
+    own-cell h = own-long (cell-long dim (typeAt own 0) (sizingAt dim own 0) h)
 
     pub extent-local : isHeader (typeAt own 0) ≡ true → extentAt ws at ≡ extentAt own 0
     extent-local h = let l = own-header h in ap (λ w. 19 + w) (stands-word s 18 (omega arith))
@@ -97,12 +104,19 @@ module _ (own ws : List ℕ) (at : ℕ) (s : Stands own at ws) (size : sizeAt ow
         let e = name-early t in
         ap₂ nameOk (stands-word s (nameWord t) (omega arith) ∙ sym (own-first own)) (ap (wordAt ws) (omega arith) ∙ stands-word s (nameWord t + 1) (omega arith) ∙ sym (own-second own))))
 
-    fixed-part-local : fixedPart dim (typeAt own 0) (pointsAt ws at) ≡ fixedPart dim (typeAt own 0) (pointsAt own 0)
-    fixed-part-local = go (isPointed (typeAt own 0)) refl
+    fixed-part-local : fixedPart dim (typeAt own 0) (wordAt ws (at + sizingWord dim (typeAt own 0))) ≡ fixedPart dim (typeAt own 0) (sizingAt dim own 0)
+    fixed-part-local = go (isSized (typeAt own 0)) refl
       where
-        go : (b : Bool) → isPointed (typeAt own 0) ≡ b → fixedPart dim (typeAt own 0) (pointsAt ws at) ≡ fixedPart dim (typeAt own 0) (pointsAt own 0)
-        go true e = ap (fixedPart dim (typeAt own 0)) (points-local (own-long (pointed-long dim (typeAt own 0) (pointsAt own 0) e)))
-        go false e = fixed-any dim (typeAt own 0) (pointsAt ws at) (pointsAt own 0) e
+        go : (b : Bool) → isSized (typeAt own 0) ≡ b → fixedPart dim (typeAt own 0) (wordAt ws (at + sizingWord dim (typeAt own 0))) ≡ fixedPart dim (typeAt own 0) (sizingAt dim own 0)
+        go true e = ap (fixedPart dim (typeAt own 0)) (word-local (sizingWord dim (typeAt own 0)) (own-long (sized-long dim (typeAt own 0) (sizingAt dim own 0) e)))
+        go false e = fixed-any dim (typeAt own 0) _ _ e
+
+    pub fields-local : textFieldsOk dim ws at ≡ textFieldsOk dim own 0
+    unfolding textFieldsOk
+    fields-local =
+        rw type-local (where-same (eqb (typeAt own 0) 17) (λ h.
+        let part = text-part-is dim own 0 (sym (eqb-true (typeAt own 0) 17 h)) in
+        text-same dim ws own at 0 (λ i _ l. word-local i (own-long (omega arith)))))
 
     filled-local : (a : ℕ) → a ≤ length own → linkagesFill ws (at + a) (at + length own) ≡ linkagesFill own (0 + a) (0 + length own)
     filled-local a h =
@@ -116,7 +130,7 @@ module _ (own ws : List ℕ) (at : ℕ) (s : Stands own at ws) (size : sizeAt ow
         let l = own-linked h in
         let p = attributePartAt own 0 in
         rw (type-local, size-local, size, fixed-part-local, stands-word s 15 (omega arith))
-        (ap (λ c. leb (fixedPart dim (typeAt own 0) (pointsAt own 0)) p && c)
+        (ap (λ c. leb (fixedPart dim (typeAt own 0) (sizingAt dim own 0)) p && c)
         (and-where-same (leb p (length own)) (λ e. filled-local p (leb-true p (length own) e))))
 
     pub linkages-local : linkagesOk dim ws at ≡ linkagesOk dim own 0

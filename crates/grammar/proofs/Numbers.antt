@@ -1,30 +1,29 @@
--- The number of a refused file is one of the table's first twelve: its first fault's is.
+-- The number of a refused file is one of the table's: its first fault's is.
 use Prim.Native.Nat.{ℕ, _≤_}
 use mathlib.Core.Path.{_≡_}
-use mathlib.Core.Logic.{_⊎_, inl, inr}
+use mathlib.Core.Logic.{inl, inr}
 use mathlib.Core.List.{List}
 use native.Mathlib.Omega.{arith}
 use lib.ListN.{length}
-use Rattle.words.specs.Words.{words}
 use Rattle.files.specs.Judge.{elementOf, topOf, judgeOf}
 use Rattle.files.specs.declared.Verdict.the-variants.{Fault}
 use Rattle.files.specs.declared.Judged.the-variants.{Refused}
 use Rattle.grammar.specs.FirstFault.{Refusal}
-use Rattle.grammar.proofs.FirstFault.{element-refusal, top-exactly, fault-place, refusal-place}
+use Rattle.grammar.proofs.FirstFault.{number-within, element-refusal, top-exactly, fault-place, refusal-place}
 
-one-of-twelve : {size n p : ℕ} → Refusal size n p → (1 ≤ n) × (n ≤ 12)
-one-of-twelve (inl x) = omega arith
-one-of-twelve (inr (inl x)) = omega arith
-one-of-twelve (inr (inr x)) = omega arith
+one-of-twenty : {size n p : ℕ} → Refusal size n p → (1 ≤ n) × (n ≤ 20)
+one-of-twenty (inl x) = omega arith
+one-of-twenty (inr (inl x)) = omega arith
+one-of-twenty (inr (inr x)) = omega (arith, number-within (x .0))
 
 -- an element with its extent, by the end of the words
 pub element-refused : (dim : ℕ) (ws : List ℕ) (depth under at bound : ℕ) → at ≤ bound → bound ≤ length ws →
-    (n p : ℕ) → elementOf dim depth under ws at bound ≡ Fault n p → (1 ≤ n) × (n ≤ 12)
-element-refused dim ws depth under at bound a b n p e = let r = element-refusal dim ws depth under at bound a b n p e in omega arith
+    (n p : ℕ) → elementOf dim depth under ws at bound ≡ Fault n p → (1 ≤ n) × (n ≤ 20)
+element-refused dim ws depth under at bound a b n p e = omega (arith, number-within (element-refusal dim ws depth under at bound a b n p e .0))
 
 -- all elements of a file, and the file
-pub top-refused : (dim : ℕ) (ws : List ℕ) (n p : ℕ) → topOf dim ws ≡ Fault n p → (1 ≤ n) × (n ≤ 12)
-top-refused dim ws n p e = one-of-twelve (inr (fault-place dim ws n p (top-exactly dim ws n p .0 e)))
+pub top-refused : (dim : ℕ) (ws : List ℕ) (n p : ℕ) → topOf dim ws ≡ Fault n p → (1 ≤ n) × (n ≤ 20)
+top-refused dim ws n p e = one-of-twenty (inr (fault-place dim ws n p (top-exactly dim ws n p .0 e)))
 
-pub refusal-number : (dim : ℕ) (s : List ℕ) (n p : ℕ) → judgeOf dim s ≡ Refused n p → (1 ≤ n) × (n ≤ 12)
-refusal-number dim s n p e = one-of-twelve (refusal-place dim s n p e)
+pub refusal-number : (dim : ℕ) (s : List ℕ) (n p : ℕ) → judgeOf dim s ≡ Refused n p → (1 ≤ n) × (n ≤ 20)
+refusal-number dim s n p e = one-of-twenty (refusal-place dim s n p e)

@@ -38,7 +38,7 @@ pub says-and : {a b : Bool} {A B : Type 0} → Says a A → Says b B → Says (a
 says-and {a = true} p q = record { said = λ e. (p .said refl, q .said e); says = λ h. q .says (h .1) }
 says-and {a = false} p q = record { said = never; says = λ h. never (p .says (h .0)) }
 
-says-or : {a b : Bool} {A B : Type 0} → Says a A → Says b B → Says (a || b) (A ⊎ B)
+pub says-or : {a b : Bool} {A B : Type 0} → Says a A → Says b B → Says (a || b) (A ⊎ B)
 says-or {a = true} p q = record { said = λ e. inl (p .said refl); says = λ h. refl }
 says-or {a = false} {b} {A} {B} p q = record { said = λ e. inr (q .said e); says = go }
   where

@@ -10,7 +10,7 @@ use Rattle.kinds.specs.Kinds.{isHeader, mayStand}
 use Rattle.headers.specs.Header.{typeAt, sizeAt, extentAt}
 use Rattle.headers.specs.Flags.{reservedOk, placeOk}
 use Rattle.elements.specs.Attributes.{linkagesOk}
-use Rattle.elements.specs.Rules.{fixedOk, storedNameOk, countOk}
+use Rattle.elements.specs.Rules.{fixedOk, textFieldsOk, storedNameOk, countOk}
 
 -- the extent of a header, and of any other element
 abbrev pub Extent : Bool → List ℕ → ℕ → ℕ → Type 0
@@ -24,6 +24,7 @@ pub record OwnTests (dim depth under : ℕ) (own : List ℕ) (inside n : ℕ) : 
   pub deep : depth ≤ 8
   pub kind : mayStand dim under (typeAt own 0) ≡ true
   pub fixed : fixedOk dim own 0 ≡ true
+  pub fields : textFieldsOk dim own 0 ≡ true
   pub small : length own ≤ 65535
   pub extent : Extent (isHeader (typeAt own 0)) own inside n
   pub linkages : linkagesOk dim own 0 ≡ true

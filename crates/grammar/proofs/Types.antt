@@ -1,11 +1,11 @@
 -- What more a type says: of its count, and how many words it has at least, so which words lie inside the element.
-use Prim.Native.Nat.{ℕ, _+_, _*_, _≤_}
+use Prim.Native.Nat.{ℕ, _≤_}
 use mathlib.Core.Path.{_≡_, refl, sym, _∙_}
 use mathlib.Core.List.{[], _∷_}
 use mathlib.Core.Bool.{Bool, true, false, false≢true}
 use native.Mathlib.Omega.{arith}
 use lib.Dec.{eqb}
-use Rattle.kinds.specs.Kinds.{isHeader, isCounted, isPointed, isCell, fixedPart}
+use Rattle.kinds.specs.Kinds.{isHeader, isCounted, isCell, fixedPart}
 use Rattle.kinds.proofs.Types.{each-named, both}
 
 -- a header that has a count is a header
@@ -19,13 +19,6 @@ plain-uncounted t h = go (isCounted t) refl
     go : (b : Bool) → isCounted t ≡ b → b ≡ false
     go true e = absurd (false≢true (sym h ∙ counted-header t e))
     go false e = refl
-
--- an element with N has at least 19 words, N among them
-pub pointed-long : (dim t n : ℕ) → isPointed t ≡ true → 19 ≤ fixedPart dim t n
-unfolding fixedPart
-pointed-long dim t n =
-    let points = both 19 (19 + 4 * n) (19 + 6 * n) (omega arith) (omega arith) (eqb dim 2) in
-    each-named (λ k. 19 ≤ fixedPart dim k n) (4 ∷ 6 ∷ 11 ∷ 21 ∷ []) t (points, (points, (points, (points, tt))))
 
 -- a cell has at least 21 words, its name among them
 pub cell-long : (dim t n : ℕ) → isCell t ≡ true → 21 ≤ fixedPart dim t n

@@ -53,6 +53,10 @@ mutual
 abbrev pub FirstFault : ℕ → List ℕ → ℕ → ℕ → Type 0
 FirstFault dim ws n p = ListFault dim ws 0 0 none 0 (length ws) n p
 
--- a refusal of a file of so many words, in plain numbers: 1 at 0, 2 at the end, or 3 to 12 at a word of the file
+-- the numbers of an element's faults: 3 to 12, and 20
+abbrev pub ElementNumber : ℕ → Type 0
+ElementNumber n = ((3 ≤ n) × (n ≤ 12)) ⊎ (n ≡ 20)
+
+-- a refusal of a file of so many words, in plain numbers: 1 at 0, 2 at the end, or an element's at a word of the file
 abbrev pub Refusal : ℕ → ℕ → ℕ → Type 0
-Refusal size n p = ((n ≡ 1) × (p ≡ 0)) ⊎ (((n ≡ 2) × (p ≡ size)) ⊎ ((3 ≤ n) × (n ≤ 12) × (p < size)))
+Refusal size n p = ((n ≡ 1) × (p ≡ 0)) ⊎ (((n ≡ 2) × (p ≡ size)) ⊎ (ElementNumber n × (p < size)))

@@ -1,24 +1,41 @@
 -- The rules for the own words of one element (RULES.md, "Element header" to "Names"): a rule is a statement about words, not
 -- a test.
-use Prim.Native.Nat.{ℕ, _+_, _/_, _%_, _≤_}
+use Prim.Native.Nat.{ℕ, _+_, _*_, _/_, _%_, _≤_, _<_}
 use mathlib.Core.Path.{_≡_}
 use mathlib.Core.List.{List, [], _∷_, _++_}
-use lib.ListN.{length}
-use Rattle.words.specs.Words.{wordAt}
+use lib.ListN.{length, getD}
+use Rattle.words.specs.Words.{bytes, wordAt}
 use Rattle.words.specs.OneOf.{OneOf}
 use Rattle.names.specs.Names.{packed}
 use Rattle.names.specs.declared.Packed.the-variants.{Words}
 use Rattle.kinds.specs.FirstWord.{reservedOf, cOf, typeOf}
 use Rattle.linkages.specs.Linkages.{Linkages}
-use Rattle.grammar.specs.Types.{headers, counted, pointed, linked, fixedParts, NotBelow}
+use Rattle.grammar.specs.Types.{headers, counted, pointed, linked, characters, fieldCount, fixedParts, NotBelow}
 
 -- the type of an element
 abbrev pub typeIn : List ℕ → ℕ
 typeIn own = typeOf (wordAt own 0)
 
--- m words are not below the element's fixed part; N is in word 18
+-- m words are not below the element's fixed part
 abbrev pub PastFixed : ℕ → List ℕ → ℕ → Type 0
-PastFixed dim own m = NotBelow dim (typeIn own) (fixedParts (wordAt own 18)) m
+PastFixed dim own m = NotBelow dim (typeIn own) (fixedParts own) m
+
+-- byte j of an element
+abbrev pub byteIn : List ℕ → ℕ → ℕ
+byteIn own j = getD (bytes own) j 0
+
+-- an enter-data field of a text of c characters, in three bytes from byte j on: the first of its characters, counted from
+-- 1, its length and its justification. It begins at a character and ends by the last
+pub record Field (own : List ℕ) (c j : ℕ) : Type 0 where
+  pub begins : (1 ≤ byteIn own j) × (byteIn own j ≤ c)
+  pub ends : byteIn own j + byteIn own (j + 1) ≤ c + 1
+  pub justified : OneOf (0 ∷ 1 ∷ 255 ∷ []) (byteIn own (j + 2))
+
+-- every field of a text whose counts are in the word k: the characters stand behind that word, the fields behind these
+abbrev pub Fields : List ℕ → ℕ → Type 0
+Fields own k =
+    let counts = wordAt own k in
+    (i : ℕ) → i < fieldCount counts → Field own (characters counts) (2 * (k + 1) + characters counts + 3 * i)
 
 -- what may stand under a header of the type `under`, 0 at the top: no type that is refused, 18 and 19 not in a 2D file,
 -- type 1 only at the top, under 7 only type 17, under 12, 14, 18 and 19 no header
@@ -54,6 +71,8 @@ pub record Own (dim depth under : ℕ) (own : List ℕ) (inside n : ℕ) : Type 
   -- the fixed part
   pub points : OneOf pointed (typeIn own) → (2 ≤ wordAt own 18) × (wordAt own 18 ≤ 101)
   pub fixed : PastFixed dim own (length own)
+  -- the fields of a text
+  pub fields : typeIn own ≡ 17 → (dim ≡ 2 → Fields own 29) × (¬ (dim ≡ 2) → Fields own 37)
   -- complex elements: the total counts the header's own words after word 18 and all words under it
   pub total : OneOf headers (typeIn own) → 19 + wordAt own 18 ≡ length own + inside
   pub extent : OneOf headers (typeIn own) → length own + inside ≤ 65535

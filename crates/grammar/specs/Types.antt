@@ -1,7 +1,8 @@
 -- The types as data (RULES.md, "Fixed parts"): its lists of types and its table of fixed parts.
-use Prim.Native.Nat.{ℕ, _+_, _*_, _≤_}
+use Prim.Native.Nat.{ℕ, _+_, _*_, _/_, _%_, _≤_}
 use mathlib.Core.Path.{_≡_}
 use mathlib.Core.List.{List, [], _∷_}
+use Rattle.words.specs.Words.{wordAt}
 use Rattle.words.specs.OneOf.{OneOf}
 
 -- the headers, which have a total; those of them that have a count
@@ -23,16 +24,33 @@ linked = 2 ∷ 3 ∷ 4 ∷ 6 ∷ 7 ∷ 11 ∷ 12 ∷ 14 ∷ 17 ∷ 18 ∷ 19 ∷
 pub data Row : Type 0 where
   row : List ℕ → ℕ → ℕ → Row
 
--- the table of fixed parts, by N
-abbrev pub fixedParts : ℕ → List Row
-fixedParts n =
+-- a text's counts: the number of characters in the low byte of a word, of fields in the high byte
+abbrev pub characters : ℕ → ℕ
+characters counts = counts % 256
+
+abbrev pub fieldCount : ℕ → ℕ
+fieldCount counts = counts / 256
+
+-- the words that some bytes fill: two bytes a word, and a word for an odd last byte
+abbrev pub filledBy : ℕ → ℕ
+filledBy n = n / 2 + n % 2
+
+-- the words that the characters, a byte each, and the fields, three bytes each, fill together
+abbrev pub textWords : ℕ → ℕ
+textWords counts = filledBy (characters counts + 3 * fieldCount counts)
+
+-- the table of fixed parts, of an element with these own words: N is in word 18, a text's counts are in word 29, in 3D in
+-- word 37
+abbrev pub fixedParts : List ℕ → List Row
+fixedParts own =
+    let n = wordAt own 18 in
     row (1 ∷ []) 35 35
     ∷ row (2 ∷ []) 46 62
     ∷ row (3 ∷ []) 26 30
     ∷ row (4 ∷ 6 ∷ 11 ∷ 21 ∷ []) (19 + 4 * n) (19 + 6 * n)
     ∷ row (7 ∷ []) 35 43
     ∷ row (12 ∷ 14 ∷ []) 20 20
-    ∷ row (17 ∷ []) 18 18
+    ∷ row (17 ∷ []) (30 + textWords (wordAt own 29)) (38 + textWords (wordAt own 37))
     ∷ row (18 ∷ 19 ∷ []) 21 21
     ∷ []
 

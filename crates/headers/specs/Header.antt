@@ -6,7 +6,7 @@ use mathlib.Core.Bool.{Bool, cond}
 use lib.Dec.{eqb}
 use Rattle.words.specs.Words.{wordAt}
 use Rattle.kinds.specs.FirstWord.{typeOf}
-use Rattle.kinds.specs.Kinds.{isHeader, nameWord}
+use Rattle.kinds.specs.Kinds.{isHeader, nameWord, sizingWord}
 
 -- the type of the element
 abbrev pub typeAt : List ℕ → ℕ → ℕ
@@ -19,6 +19,10 @@ sizeAt ws at = wordAt ws (at + 1) + 2
 -- N, of the types that have one
 abbrev pub pointsAt : List ℕ → ℕ → ℕ
 pointsAt ws at = wordAt ws (at + 18)
+
+-- the word that sizes the fixed part, of the types that have one: N, or a text's counts
+abbrev pub sizingAt : ℕ → List ℕ → ℕ → ℕ
+sizingAt dim ws at = wordAt ws (at + sizingWord dim (typeAt ws at))
 
 -- a header's total T, and the words of its extent: 19 and the total
 abbrev pub totalAt : List ℕ → ℕ → ℕ

@@ -62,8 +62,8 @@ pub fn push(
         return;
     }
     let six = trailer(kind, header, place, n / 2);
-    buffers::copy_in(journal, jused, payload);
-    buffers::copy_in(journal, jused + n, &six);
+    copies::copy_in(journal, jused, payload);
+    copies::copy_in(journal, jused + n, &six);
 }
 
 // A record read back from a journal: its places and its payload, with the used length before it. `header` is the

@@ -1,5 +1,5 @@
 -- Laws of the types: what an arm of a `match` says of a type, and how long the fixed part of a known type is at least.
-use Prim.Native.Nat.{ℕ, _+_, _*_, _≤_}
+use Prim.Native.Nat.{ℕ, _+_, _*_, _≤_, _<_}
 use mathlib.Core.Path.{_≡_, refl, sym, ap, subst⁻¹, _∙_}
 use mathlib.Core.Logic.{⊎-elim, inl, inr}
 use mathlib.Core.List.{List, [], _∷_}
@@ -8,7 +8,9 @@ use native.Mathlib.Omega.{arith}
 use borrow.Author.Tests.{ne-eqb, eqb-true}
 use types.Run.{OneOf}
 use lib.Dec.{eqb, ltb}
-use Rattle.kinds.specs.Kinds.{oneOf, isHeader, isCounted, isPointed, isLinked, isUnread, fixedPart, mayStand, nameWord}
+use Rattle.kinds.specs.Kinds.{oneOf, isHeader, isCounted, isPointed, isSized, sizingWord, isLinked, isUnread, fixedPart, mayStand, nameWord}
+use Rattle.texts.specs.Texts.{countsWord, textPart}
+use Rattle.texts.proofs.Laws.{counts-late, text-long, text-past}
 
 -- a property of each number of a list
 abbrev pub Each : (ℕ → Type 0) → List ℕ → Type 0
@@ -91,19 +93,51 @@ linked-long dim t n =
     let three = both 18 26 30 (omega arith) (omega arith) (eqb dim 2) in
     let points = both 18 (19 + 4 * n) (19 + 6 * n) (omega arith) (omega arith) (eqb dim 2) in
     let seven = both 18 35 43 (omega arith) (omega arith) (eqb dim 2) in
+    let text : 18 ≤ textPart dim n = omega (arith, text-long dim n) in
     each-named (λ (t : ℕ). 18 ≤ fixedPart dim t n) (2 ∷ 3 ∷ 4 ∷ 6 ∷ 7 ∷ 11 ∷ 12 ∷ 14 ∷ 17 ∷ 18 ∷ 19 ∷ 21 ∷ []) t
-    (two, (three, (points, (points, (seven, (points, (omega arith, (omega arith, (omega arith, (omega arith, (omega arith, (points, tt))))))))))))
+    (two, (three, (points, (points, (seven, (points, (omega arith, (omega arith, (text, (omega arith, (omega arith, (points, tt))))))))))))
 
--- N has no part in the fixed part of a type without points
-pub fixed-any : (dim t m n : ℕ) → isPointed t ≡ false → fixedPart dim t m ≡ fixedPart dim t n
-unfolding fixedPart
-fixed-any dim t m n e = rw e
-
----- the three kinds of types: headers, other known types, raw types
+---- the word that sizes a fixed part
 
 -- a type that a list does not name is none of its types
 apart : (ks : List ℕ) (t k : ℕ) → oneOf ks t ≡ false → oneOf ks k ≡ true → eqb t k ≡ false
 apart ks t k out named = ne-eqb t k (λ e. false≢true (sym (rw e at out) ∙ named))
+
+-- a type that no word sizes is no text and has no points
+not-sized : (t k : ℕ) → isSized t ≡ false → isSized k ≡ true → eqb t k ≡ false
+not-sized t k = apart (4 ∷ 6 ∷ 11 ∷ 17 ∷ 21 ∷ []) t k
+
+pub unsized-no-text : (t : ℕ) → isSized t ≡ false → eqb t 17 ≡ false
+unsized-no-text t e = not-sized t 17 e refl
+
+pub unsized-pointless : (t : ℕ) → isSized t ≡ false → isPointed t ≡ false
+unsized-pointless t e = simp (not-sized t 4 e refl, not-sized t 6 e refl, not-sized t 11 e refl, not-sized t 21 e refl)
+
+-- and no word has a part in its fixed part
+pub fixed-any : (dim t m n : ℕ) → isSized t ≡ false → fixedPart dim t m ≡ fixedPart dim t n
+unfolding fixedPart
+fixed-any dim t m n e = rw (unsized-pointless t e, unsized-no-text t e)
+
+-- a word that sizes a fixed part stands in it
+pub sized-long : (dim t n : ℕ) → isSized t ≡ true → sizingWord dim t < fixedPart dim t n
+unfolding fixedPart
+sized-long dim t n =
+    let points = both 19 (19 + 4 * n) (19 + 6 * n) (omega arith) (omega arith) (eqb dim 2) in
+    each-named (λ (t : ℕ). sizingWord dim t < fixedPart dim t n) (4 ∷ 6 ∷ 11 ∷ 17 ∷ 21 ∷ []) t
+    (points, (points, (points, (text-past dim n, (points, tt)))))
+
+-- it is word 18 or a later one; of the types with points it is word 18
+pub sizing-late : (dim t : ℕ) → 18 ≤ sizingWord dim t
+sizing-late dim t =
+    let l = counts-late dim in
+    both 18 (countsWord dim) 18 (omega arith) (omega arith) (eqb t 17)
+
+pub pointed-sized : (dim t : ℕ) → isPointed t ≡ true → (isSized t ≡ true) × (sizingWord dim t ≡ 18)
+pointed-sized dim t =
+    each-named (λ (t : ℕ). (isSized t ≡ true) × (sizingWord dim t ≡ 18)) (4 ∷ 6 ∷ 11 ∷ 21 ∷ []) t
+    ((refl, refl), ((refl, refl), ((refl, refl), ((refl, refl), tt))))
+
+---- the three kinds of types: headers, other known types, raw types
 
 pub not-header : (t k : ℕ) → isHeader t ≡ false → isHeader k ≡ true → eqb t k ≡ false
 not-header t k = apart (1 ∷ 2 ∷ 7 ∷ 12 ∷ 14 ∷ 18 ∷ 19 ∷ []) t k
@@ -164,9 +198,9 @@ pub pointed-part : (dim t n : ℕ) → isPointed t ≡ true → fixedPart dim t 
 unfolding fixedPart
 pointed-part dim t n = each-named (λ (t : ℕ). fixedPart dim t n ≡ cond (eqb dim 2) (19 + 4 * n) (19 + 6 * n)) (4 ∷ 6 ∷ 11 ∷ 21 ∷ []) t (refl, (refl, (refl, (refl, tt))))
 
--- a raw type has no points, and a fixed part of two words
-pub raw-pointless : (t : ℕ) → isLinked t ≡ false → isPointed t ≡ false
-raw-pointless t k = simp (not-linked t 4 k refl, not-linked t 6 k refl, not-linked t 11 k refl, not-linked t 21 k refl)
+-- no word sizes a raw type, and its fixed part is two words
+pub raw-unsized : (t : ℕ) → isLinked t ≡ false → isSized t ≡ false
+raw-unsized t k = simp (not-linked t 4 k refl, not-linked t 6 k refl, not-linked t 11 k refl, not-linked t 17 k refl, not-linked t 21 k refl)
 
 pub raw-part : (dim t n : ℕ) → isHeader t ≡ false → isLinked t ≡ false → fixedPart dim t n ≡ 2
 unfolding fixedPart
@@ -187,9 +221,9 @@ raw-part dim t n h k =
       not-linked t 21 k refl,
     )
 
--- a header has no points, and attributes unless it is of type 1
-pub header-pointless : (t : ℕ) → isHeader t ≡ true → isPointed t ≡ false
-header-pointless t = each-named (λ (t : ℕ). isPointed t ≡ false) (1 ∷ 2 ∷ 7 ∷ 12 ∷ 14 ∷ 18 ∷ 19 ∷ []) t (refl, (refl, (refl, (refl, (refl, (refl, (refl, tt)))))))
+-- no word sizes a header's fixed part, and it has attributes unless it is of type 1
+pub header-unsized : (t : ℕ) → isHeader t ≡ true → isSized t ≡ false
+header-unsized t = each-named (λ (t : ℕ). isSized t ≡ false) (1 ∷ 2 ∷ 7 ∷ 12 ∷ 14 ∷ 18 ∷ 19 ∷ []) t (refl, (refl, (refl, (refl, (refl, (refl, (refl, tt)))))))
 
 pub header-linked : (t : ℕ) → isHeader t ≡ true → eqb t 1 ≡ false → isLinked t ≡ true
 header-linked t =

@@ -3,6 +3,7 @@ use Prim.Native.Nat.{ℕ, _+_, _*_}
 use mathlib.Core.List.{List, [], _∷_}
 use mathlib.Core.Bool.{Bool, false, not, _&&_, _||_, cond}
 use lib.Dec.{eqb, leb}
+use Rattle.texts.specs.Texts.{countsWord, textPart}
 
 -- a type is one of a list
 abbrev pub oneOf : List ℕ → ℕ → Bool
@@ -24,6 +25,13 @@ isPointed = oneOf (4 ∷ 6 ∷ 11 ∷ 21 ∷ [])
 abbrev pub pointsWithin : ℕ → Bool
 pointsWithin n = leb 2 n && leb n 101
 
+-- the types whose fixed part is as long as a word of theirs says: N, or a text's counts; and which word that is
+abbrev pub isSized : ℕ → Bool
+isSized = oneOf (4 ∷ 6 ∷ 11 ∷ 17 ∷ 21 ∷ [])
+
+abbrev pub sizingWord : ℕ → ℕ → ℕ
+sizingWord dim t = cond (eqb t 17) (countsWord dim) 18
+
 -- the types that may have attributes: every known type but 1
 abbrev pub isLinked : ℕ → Bool
 isLinked = oneOf (2 ∷ 3 ∷ 4 ∷ 6 ∷ 7 ∷ 11 ∷ 12 ∷ 14 ∷ 17 ∷ 18 ∷ 19 ∷ 21 ∷ [])
@@ -39,7 +47,8 @@ isCell = oneOf (1 ∷ 2 ∷ [])
 abbrev pub nameWord : ℕ → ℕ
 nameWord t = cond (eqb t 1) 16 19
 
--- the fixed part in words; a point has as many longs as the file has dimensions. A raw element has at least 2
+-- the fixed part in words, where n is the word that sizes it; a point has as many longs as the file has dimensions. A raw
+-- element has at least 2
 unfoldable pub fixedPart : ℕ → ℕ → ℕ → ℕ
 fixedPart dim t n =
     cond (eqb t 1) 35
@@ -48,7 +57,7 @@ fixedPart dim t n =
     (cond (isPointed t) (cond (eqb dim 2) (19 + 4 * n) (19 + 6 * n))
     (cond (eqb t 7) (cond (eqb dim 2) 35 43)
     (cond (oneOf (12 ∷ 14 ∷ []) t) 20
-    (cond (eqb t 17) 18
+    (cond (eqb t 17) (textPart dim n)
     (cond (oneOf (18 ∷ 19 ∷ []) t) 21 2)))))))
 
 -- what may stand under a header of the type `under`, 0 at the top (no header has type 0): type 1 only at the top, only

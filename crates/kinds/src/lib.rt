@@ -84,7 +84,7 @@ fn header_part(dim: usize, t: usize) -> usize
     pick(t < 12, early, pick(t < 18, 20, 21))
 }
 
-// The fixed part of a type, in words, with N points where the type has points.
+// The fixed part of a type, in words, where n is the word that sizes it.
 pub fn fixed_part(dim: usize, t: usize, n: u16) -> usize
     ensures { λ r. ⌜ r ≡ fixedPart dim t n ⌝ }
 {
@@ -95,7 +95,7 @@ pub fn fixed_part(dim: usize, t: usize, n: u16) -> usize
     match t {
         3 => pick(dim == 2, 26, 30),
         4 | 6 | 11 | 21 => pick(dim == 2, 19 + 4 * n, 19 + 6 * n),
-        17 => 18,
+        17 => texts::text_part(dim, n),
         _ => 2,
     }
 }

@@ -48,7 +48,7 @@ fn text_length(answer: names::Answer) -> usize
 // The line of the element that starts at a place of a file, and the number of its bytes. Where nothing stands all words
 // are 0. The buffer needs 100 bytes: with fewer nothing is written.
 pub fn line(file: &[u8], at: usize, depth: usize, buf: &mut [u8]) -> usize
-    ensures { λ r. ⌜ WritesLine (now (buf .entry)) (lineOf (words (now (file .entry))) at depth) (now (buf .exit)) r ⌝ }
+    ensures { λ r. ⌜ WritesLine 100 (now (buf .entry)) (lineOf (words (now (file .entry))) at depth) (now (buf .exit)) r ⌝ }
 {
     let first = words::word(file, at);
     let kind = kinds::type_of(first);

@@ -1,8 +1,9 @@
--- Decimal digits: how many there are, that their bound does not matter where it is enough, and one more digit.
-use Prim.Native.Nat.{ℕ, zero, suc, _+_, _/_, _%_, _^_, _≤_, _<_}
+-- Decimal digits: how many there are, that their bound does not matter where it is enough, one more digit, and that they tell the
+-- number.
+use Prim.Native.Nat.{ℕ, zero, suc, _+_, _*_, _-_, _/_, _%_, _^_, _≤_, _<_}
 use mathlib.Core.Path.{_≡_, refl, sym, ap, _∙_}
 use mathlib.Core.Bool.{Bool, true, false}
-use mathlib.Core.List.{[], _∷_, _++_}
+use mathlib.Core.List.{List, [], _∷_, _++_}
 use native.Mathlib.Omega.{arith}
 use native.Mathlib.Nat.{pow-suc}
 use lib.ListN.{length, length-append}
@@ -60,3 +61,48 @@ decimal-more n h l = digits-more 19 n h ∙ ap (λ d. d ++ ((48 + n % 10) ∷ []
 -- so its tenth part has at most 19
 pub length-tenth : (n : ℕ) → 10 ≤ n → n < 2 ^ 64 → length (decimal (n / 10)) ≤ 19
 length-tenth n h l = omega (arith, length-decimal n .1, simp length-append at (ap length (decimal-more n h l)))
+
+---- the digits tell the number
+
+-- bytes that are decimal digits
+abbrev pub Digits : List ℕ → Type 0
+Digits [] = Unit {0}
+Digits (c ∷ l) = ((48 ≤ c) × (c ≤ 57)) × Digits l
+
+digits-then : (l : List ℕ) (c : ℕ) → Digits l → 48 ≤ c → c ≤ 57 → Digits (l ++ (c ∷ []))
+digits-then [] c d h i = ((h, i), tt)
+digits-then (b ∷ l) c d h i = (d .0, digits-then l c (d .1) h i)
+
+digits-are : (k n : ℕ) → Digits (digitsFrom k n)
+unfolding digitsFrom
+digits-are zero n = tt
+digits-are (suc k) n = go (ltb n 10) refl (digits-are k (n / 10))
+  where
+    go : (t : Bool) → ltb n 10 ≡ t → Digits (digitsFrom k (n / 10)) → Digits (digitsFrom (suc k) n)
+    go true e d = let l = ltb-true n 10 e in rw (digits-one k n l) ((omega arith, omega arith), tt)
+    go false e d = rw (digits-more k n (ltb-false n 10 e)) (digits-then (digitsFrom k (n / 10)) (48 + n % 10) d (omega arith) (omega arith))
+
+pub decimal-digits : (n : ℕ) → Digits (decimal n)
+unfolding decimal
+decimal-digits n = digits-are 20 n
+
+-- the number that digits stand for, behind those of another
+abbrev value : ℕ → List ℕ → ℕ
+value n [] = n
+value n (c ∷ l) = value (10 * n + (c - 48)) l
+
+value-then : (n : ℕ) (l : List ℕ) (c : ℕ) → value n (l ++ (c ∷ [])) ≡ 10 * value n l + (c - 48)
+value-then n [] c = refl
+value-then n (b ∷ l) c = value-then (10 * n + (b - 48)) l c
+
+value-back : (k n : ℕ) → n < 10 ^ suc k → value 0 (digitsFrom (suc k) n) ≡ n
+value-back zero n h = rw (digits-one zero n h) (omega arith)
+value-back (suc k) n h = go (ltb n 10) refl (value-back k (n / 10) (omega (arith, pow-suc 10 (suc k))))
+  where
+    go : (t : Bool) → ltb n 10 ≡ t → value 0 (digitsFrom (suc k) (n / 10)) ≡ n / 10 → value 0 (digitsFrom (suc (suc k)) n) ≡ n
+    go true e d = rw (digits-one (suc k) n (ltb-true n 10 e)) (omega arith)
+    go false e d = rw (digits-more (suc k) n (ltb-false n 10 e), value-then 0 (digitsFrom (suc k) (n / 10)) (48 + n % 10), d) (omega arith)
+
+pub same-decimal : (n m : ℕ) → n < 2 ^ 64 → m < 2 ^ 64 → decimal n ≡ decimal m → n ≡ m
+unfolding decimal
+same-decimal n m h l e = sym (value-back 19 n (omega arith)) ∙ ap (value 0) e ∙ value-back 19 m (omega arith)

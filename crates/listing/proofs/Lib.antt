@@ -1,2 +1,5 @@
 pub mod Decimal
 pub mod Laws
+pub mod Escapes
+pub mod OneToOne
+pub mod Told

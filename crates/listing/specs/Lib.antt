@@ -1,2 +1,4 @@
 pub mod Lines
+pub mod Texts
+pub mod Told
 pub mod Puts

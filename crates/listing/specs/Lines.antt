@@ -1,4 +1,4 @@
--- The lines of the program celllist (RULES.md, "Listing"), as bytes.
+-- The lines of the program celllist (RULES.md, "Listing"), as bytes, and what it is to write a line into a buffer.
 use Prim.Native.Nat.{ℕ, zero, suc, _+_, _/_, _%_, _≤_}
 use mathlib.Core.Path.{_≡_}
 use mathlib.Core.List.{List, [], _∷_, _++_}
@@ -25,15 +25,15 @@ abbrev pub state : Bool → List ℕ
 state true = 100 ∷ 101 ∷ 97 ∷ 100 ∷ []
 state false = 108 ∷ 105 ∷ 118 ∷ 101 ∷ []
 
--- a cell's name after a space; an empty one prints nothing, nor the space before it
-abbrev pub nameField : List ℕ → List ℕ
-nameField [] = []
-nameField (x ∷ xs) = 32 ∷ x ∷ xs
+-- a line's last field, after a space; an empty one prints nothing, nor the space before it
+abbrev pub lastField : List ℕ → List ℕ
+lastField [] = []
+lastField (x ∷ xs) = 32 ∷ x ∷ xs
 
 -- PLACE DEPTH TYPE WORDS STATE NAME, and a line feed; a name has at most six letters
 unfoldable pub elementLine : ℕ → ℕ → ℕ → ℕ → Bool → List ℕ → List ℕ
 elementLine place depth kind size deleted name =
-    field place ++ (field depth ++ (field kind ++ (field size ++ (state deleted ++ (nameField (take 6 name) ++ (10 ∷ []))))))
+    field place ++ (field depth ++ (field kind ++ (field size ++ (state deleted ++ (lastField (take 6 name) ++ (10 ∷ []))))))
 
 -- "PLACE DEPTH TYPE WORDS STATE NAME", and a line feed
 unfoldable pub headingLine : List ℕ
@@ -53,16 +53,16 @@ refusedLine number place = (82 ∷ 69 ∷ 70 ∷ 85 ∷ 83 ∷ 69 ∷ 68 ∷ 32 
 unfoldable pub endLine : ℕ → List ℕ
 endLine marker = (69 ∷ 78 ∷ 68 ∷ 32 ∷ []) ++ (decimal marker ++ (10 ∷ []))
 
--- a line over a buffer's front; nothing where it has fewer than 100 bytes
-unfoldable pub written : List ℕ → List ℕ → List ℕ
-written s line = cond (leb 100 (length s)) (over s 0 line) s
+-- a line over a buffer's front; nothing where the buffer is shorter than the room asked for
+unfoldable pub written : ℕ → List ℕ → List ℕ → List ℕ
+written room s line = cond (leb room (length s)) (over s 0 line) s
 
 -- the number of bytes so written
-unfoldable pub writtenLength : List ℕ → List ℕ → ℕ
-writtenLength s line = cond (leb 100 (length s)) (length line) 0
+unfoldable pub writtenLength : ℕ → List ℕ → List ℕ → ℕ
+writtenLength room s line = cond (leb room (length s)) (length line) 0
 
 -- a line is written into a buffer s: what it then is, and the answer, which is within it
-pub record WritesLine (s line t : List ℕ) (r : ℕ) : Type 0 where
-  pub bytes : t ≡ written s line
-  pub count : r ≡ writtenLength s line
+pub record WritesLine (room : ℕ) (s line t : List ℕ) (r : ℕ) : Type 0 where
+  pub bytes : t ≡ written room s line
+  pub count : r ≡ writtenLength room s line
   pub within : r ≤ length s

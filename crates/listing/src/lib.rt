@@ -1,8 +1,11 @@
-// The lines that celllist prints, each from its fields, written to the front of a lent buffer. Defined in specs/Lines.
-ghost use Prim.Native.Nat.{_+_, _≤_};
+// The lines that celllist and textlist print, each from its fields, written to the front of a lent buffer. Defined in
+// specs/Lines and specs/Texts.
+ghost use Prim.Native.Nat.{_+_, _*_, _<_, _≤_};
+ghost use mathlib.Core.Path.{_≡_};
 ghost use mathlib.Core.List.{[], _∷_};
 ghost use lib.ListN.{length, take};
-ghost use Rattle.listing.specs.Lines.{decimal, field, state, nameField, elementLine, headingLine, refusedLine, endLine, WritesLine};
+ghost use Rattle.listing.specs.Lines.{decimal, field, state, lastField, elementLine, headingLine, refusedLine, endLine, WritesLine};
+ghost use Rattle.listing.specs.Texts.{hexadecimal, prints, escape, escaped, textLine, textRoom, textHeading};
 ghost use Rattle.listing.specs.Puts.{Puts};
 
 // One byte.
@@ -73,7 +76,7 @@ fn put_state(buf: &mut [u8], at: usize, deleted: bool) -> usize
 // A name after a space, its first six letters where it has more; nothing where it is empty.
 fn put_name(buf: &mut [u8], at: usize, name: &[u8]) -> usize
     requires { ⌜ at + 7 ≤ length (now buf) ⌝ }
-    ensures { λ r. ⌜ Puts (now (buf .entry)) at (nameField (take 6 (now (name .entry)))) (now (buf .exit)) r ⌝ }
+    ensures { λ r. ⌜ Puts (now (buf .entry)) at (lastField (take 6 (now (name .entry)))) (now (buf .exit)) r ⌝ }
     ensures { λ r. ⌜ r ≤ at + 7 ⌝ }
 {
     if name.len() == 0 {
@@ -86,6 +89,69 @@ fn put_name(buf: &mut [u8], at: usize, name: &[u8]) -> usize
     put_bytes(buf, next, name)
 }
 
+// A hexadecimal digit.
+fn hex_digit(d: u8) -> u8
+    requires { ⌜ d < 16 ⌝ }
+    ensures { λ r. ⌜ r ≡ hexadecimal d ⌝ }
+{
+    if d < 10 { b'0' + d } else { b'a' - 10 + d }
+}
+
+// Whether a byte prints.
+fn is_printed(c: u8) -> bool
+    ensures { λ r. ⌜ r ≡ prints c ⌝ }
+{
+    if c < b' ' {
+        return false;
+    }
+    c <= b'~'
+}
+
+// A character of a text.
+fn put_character(buf: &mut [u8], at: usize, c: u8) -> usize
+    requires { ⌜ at + 4 ≤ length (now buf) ⌝ }
+    ensures { λ r. ⌜ Puts (now (buf .entry)) at (escape c) (now (buf .exit)) r ⌝ }
+    ensures { λ r. ⌜ r ≤ at + 4 ⌝ }
+{
+    if c == b'\\' {
+        return put_bytes(buf, at, b"\\\\");
+    }
+    if is_printed(c) {
+        return put_byte(buf, at, c);
+    }
+    let next = put_bytes(buf, at, b"\\x");
+    let next = put_byte(buf, next, hex_digit(c / 16));
+    put_byte(buf, next, hex_digit(c % 16))
+}
+
+// The characters of a text.
+fn put_characters(buf: &mut [u8], at: usize, characters: &[u8]) -> usize
+    requires { ⌜ at + 4 * length (now characters) ≤ length (now buf) ⌝ }
+    ensures { λ r. ⌜ Puts (now (buf .entry)) at (escaped (now (characters .entry))) (now (buf .exit)) r ⌝ }
+    ensures { λ r. ⌜ r ≤ at + 4 * length (now (characters .entry)) ⌝ }
+{
+    let mut next = at;
+    let mut k = 0;
+    while k < characters.len() {
+        next = put_character(buf, next, characters[k]);
+        k += 1;
+    }
+    next
+}
+
+// The characters of a text after a space; nothing where there are none.
+fn put_text(buf: &mut [u8], at: usize, characters: &[u8]) -> usize
+    requires { ⌜ at + 1 + 4 * length (now characters) ≤ length (now buf) ⌝ }
+    ensures { λ r. ⌜ Puts (now (buf .entry)) at (lastField (escaped (now (characters .entry)))) (now (buf .exit)) r ⌝ }
+    ensures { λ r. ⌜ r ≤ at + 1 + 4 * length (now (characters .entry)) ⌝ }
+{
+    if characters.len() == 0 {
+        return at;
+    }
+    let next = put_byte(buf, at, b' ');
+    put_characters(buf, next, characters)
+}
+
 // One element's line, and the number of its bytes. The buffer needs 100 bytes: with fewer nothing is written.
 pub fn element_line(
     buf: &mut [u8],
@@ -96,7 +162,7 @@ pub fn element_line(
     deleted: bool,
     name: &[u8],
 ) -> usize
-    ensures { λ r. ⌜ WritesLine (now (buf .entry)) (elementLine place depth kind size deleted (now (name .entry))) (now (buf .exit)) r ⌝ }
+    ensures { λ r. ⌜ WritesLine 100 (now (buf .entry)) (elementLine place depth kind size deleted (now (name .entry))) (now (buf .exit)) r ⌝ }
 {
     if buf.len() < 100 {
         return 0;
@@ -110,19 +176,59 @@ pub fn element_line(
     put_line_feed(buf, at)
 }
 
-// The heading, and the number of its bytes. The buffer needs 100 bytes: with fewer nothing is written.
-pub fn heading(buf: &mut [u8]) -> usize
-    ensures { λ r. ⌜ WritesLine (now (buf .entry)) headingLine (now (buf .exit)) r ⌝ }
+// One text's line, and the number of its bytes. The buffer needs 48 bytes and four for each character: with fewer nothing
+// is written.
+pub fn text_line(
+    buf: &mut [u8],
+    place: usize,
+    depth: usize,
+    deleted: bool,
+    characters: &[u8],
+) -> usize
+    ensures { λ r. ⌜ WritesLine (textRoom (length (now (characters .entry)))) (now (buf .entry)) (textLine place depth deleted (now (characters .entry))) (now (buf .exit)) r ⌝ }
+{
+    if buf.len() < 48 {
+        return 0;
+    }
+    if (buf.len() - 48) / 4 < characters.len() {
+        return 0;
+    }
+    let at = put_field(buf, 0, place);
+    let at = put_field(buf, at, depth);
+    let at = put_state(buf, at, deleted);
+    let at = put_text(buf, at, characters);
+    put_line_feed(buf, at)
+}
+
+// A line that has no fields, and the number of its bytes.
+fn fixed_line(buf: &mut [u8], line: &[u8]) -> usize
+    requires { ⌜ length (now line) ≤ 100 ⌝ }
+    ensures { λ r. ⌜ WritesLine 100 (now (buf .entry)) (now (line .entry)) (now (buf .exit)) r ⌝ }
 {
     if buf.len() < 100 {
         return 0;
     }
-    put_bytes(buf, 0, b"PLACE DEPTH TYPE WORDS STATE NAME\n")
+    put_bytes(buf, 0, line)
+}
+
+// The heading of the elements' lines, and the number of its bytes. The buffer needs 100 bytes: with fewer nothing is
+// written.
+pub fn heading(buf: &mut [u8]) -> usize
+    ensures { λ r. ⌜ WritesLine 100 (now (buf .entry)) headingLine (now (buf .exit)) r ⌝ }
+{
+    fixed_line(buf, b"PLACE DEPTH TYPE WORDS STATE NAME\n")
+}
+
+// The heading of the texts' lines, and the number of its bytes. The buffer needs 100 bytes: with fewer nothing is written.
+pub fn text_heading(buf: &mut [u8]) -> usize
+    ensures { λ r. ⌜ WritesLine 100 (now (buf .entry)) textHeading (now (buf .exit)) r ⌝ }
+{
+    fixed_line(buf, b"PLACE DEPTH STATE TEXT\n")
 }
 
 // The line of a refused file, and the number of its bytes. The buffer needs 100 bytes: with fewer nothing is written.
 pub fn refused_line(buf: &mut [u8], number: usize, place: usize) -> usize
-    ensures { λ r. ⌜ WritesLine (now (buf .entry)) (refusedLine number place) (now (buf .exit)) r ⌝ }
+    ensures { λ r. ⌜ WritesLine 100 (now (buf .entry)) (refusedLine number place) (now (buf .exit)) r ⌝ }
 {
     if buf.len() < 100 {
         return 0;
@@ -135,7 +241,7 @@ pub fn refused_line(buf: &mut [u8], number: usize, place: usize) -> usize
 
 // The last line, and the number of its bytes. The buffer needs 100 bytes: with fewer nothing is written.
 pub fn end_line(buf: &mut [u8], marker: usize) -> usize
-    ensures { λ r. ⌜ WritesLine (now (buf .entry)) (endLine marker) (now (buf .exit)) r ⌝ }
+    ensures { λ r. ⌜ WritesLine 100 (now (buf .entry)) (endLine marker) (now (buf .exit)) r ⌝ }
 {
     if buf.len() < 100 {
         return 0;

@@ -2,7 +2,8 @@
 -- one that is found at its place.
 use Prim.Native.Nat.{ℕ, zero, suc, _+_, _-_, _*_, _≤_, _<_}
 use mathlib.Core.Path.{_≡_, refl, sym, ap, _∙_, subst}
-use mathlib.Core.List.{List, [], _∷_, _++_}
+use mathlib.Core.Logic.{_⊎_, inl, inr}
+use mathlib.Core.List.{List, [], _∷_, _++_, List·Memᴰ, List·Memᴰ·not-nil, List·Memᴰ·cases-cons}
 use mathlib.Core.Option.{Option, none, some}
 use native.Mathlib.Omega.{arith}
 use native.Mathlib.Numerals.{add-one}
@@ -47,6 +48,33 @@ order-tree dim ws d under header at end (node own k r) w s e =
 pub order-few : (ws : List ℕ) (at end : ℕ) (xs : List Spot) → InOrder ws at xs end → at + 2 * length xs ≤ end
 order-few ws at end [] p = omega arith
 order-few ws at end (x ∷ xs) p = let h = order-few ws (at + sizeAt ws at) end xs (p .1) in omega arith
+
+-- each of them starts from there on, and behind the own words of those before it
+starts-from : (ws : List ℕ) (at end : ℕ) (xs : List Spot) → InOrder ws at xs end → (x : Spot) → List·Memᴰ x xs → at ≤ x .place
+starts-from ws at end [] p x m = absurd (List·Memᴰ·not-nil m)
+starts-from ws at end (z ∷ zs) p x m = go (starts-from ws (at + sizeAt ws at) end zs (p .1) x) (List·Memᴰ·cases-cons m)
+  where
+    go : (List·Memᴰ x zs → at + sizeAt ws at ≤ x .place) → (x ≡ z) ⊎ List·Memᴰ x zs → at ≤ x .place
+    go rest (inl e) = let a : x .place ≡ at = ap (λ u. u .place) e ∙ p .0 in omega arith
+    go rest (inr n) = let h = rest n in omega arith
+
+pub order-apart : (ws : List ℕ) (at end : ℕ) (xs : List Spot) → InOrder ws at xs end → (x y : Spot) → List·Memᴰ x xs → List·Memᴰ y xs → x .place < y .place →
+    x .place + sizeAt ws (x .place) ≤ y .place
+order-apart ws at end [] p x y m n h = absurd (List·Memᴰ·not-nil m)
+order-apart ws at end (z ∷ zs) p x y m n h = go (λ a b. order-apart ws (at + sizeAt ws at) end zs (p .1) x y a b h) (List·Memᴰ·cases-cons m) (List·Memᴰ·cases-cons n)
+  where
+    here : (u : Spot) → u ≡ z → u .place ≡ at
+    here u e = ap (λ v. v .place) e ∙ p .0
+
+    behind : (u : Spot) → List·Memᴰ u zs → at + sizeAt ws at ≤ u .place
+    behind u k = starts-from ws (at + sizeAt ws at) end zs (p .1) u k
+
+    go : (List·Memᴰ x zs → List·Memᴰ y zs → x .place + sizeAt ws (x .place) ≤ y .place) → (x ≡ z) ⊎ List·Memᴰ x zs → (y ≡ z) ⊎ List·Memᴰ y zs →
+        x .place + sizeAt ws (x .place) ≤ y .place
+    go rest (inl a) (inl b) = let i = here x a in let j = here y b in absurd (omega arith)
+    go rest (inl a) (inr b) = let j = behind y b in rw (here x a) j
+    go rest (inr a) (inl b) = let i = behind x a in let j = here y b in absurd (omega arith)
+    go rest (inr a) (inr b) = rest a b
 
 -- from element number k on
 pub order-from : (ws : List ℕ) (end : ℕ) (xs : List Spot) (k : ℕ) → k ≤ length xs → InOrder ws 0 xs end → InOrder ws (placeOf ws k) (drop k xs) end

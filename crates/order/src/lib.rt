@@ -1,5 +1,5 @@
 // The elements of an accepted file in file order, by places, and what the calls that go over them from some number on have in
-// common: how such a call begins, and when no element fits. Definitions: specs/Order, specs/Calls.
+// common: how such a call begins, when no element fits, and what is taken. Definitions: specs/Order, specs/Calls, specs/Fitting.
 ghost use mathlib.Core.Path.{_≡_};
 ghost use Rattle.order.specs.Calls.{begunOf, noneFits};
 
@@ -7,6 +7,18 @@ ghost use Rattle.order.specs.Calls.{begunOf, noneFits};
 pub enum Begun {
     Elements { elements: usize },
     Refused { answer: usize },
+}
+
+// An element does not fit, or so many numbers are used with it.
+pub enum Taken {
+    Full,
+    Used { used: usize },
+}
+
+// The number of the next element, and how many numbers are used.
+pub struct Part {
+    pub next: usize,
+    pub used: usize,
 }
 
 // The beginning of a call whose answer needs so many numbers of a slice with `room`: the file is judged.

@@ -14,7 +14,7 @@ use Rattle.kinds.specs.Kinds.{fixedPart}
 use Rattle.linkages.specs.Linkages.{linkagesFill}
 use Rattle.linkages.specs.Listed.{FilledBy}
 use Rattle.linkages.proofs.Listed.{fill-listed, linkage-is}
-use Rattle.headers.specs.Header.{typeAt, sizeAt, pointsAt, attributePartAt}
+use Rattle.headers.specs.Header.{typeAt, sizeAt, sizingAt, attributePartAt}
 use Rattle.headers.proofs.Checks.{both-true}
 use Rattle.elements.specs.Attributes.{hasAttributes, attributesOk, linkagesOk}
 use Rattle.elements.proofs.Laws.{Checked}
@@ -33,8 +33,8 @@ unfolding linkagesOk attributesOk
 part-filled {dim = dim} ws at c h =
     let part = attributePartAt ws at in
     let size = sizeAt ws at in
-    let ok : (leb (fixedPart dim (typeAt ws at) (pointsAt ws at)) part && (leb part size && linkagesFill ws (at + part) (at + size))) ≡ true = rw h at (c .linkages) in
-    let inside = both-true (leb part size) (linkagesFill ws (at + part) (at + size)) (both-true (leb (fixedPart dim (typeAt ws at) (pointsAt ws at)) part) _ ok .1) in
+    let ok : (leb (fixedPart dim (typeAt ws at) (sizingAt dim ws at)) part && (leb part size && linkagesFill ws (at + part) (at + size))) ≡ true = rw h at (c .linkages) in
+    let inside = both-true (leb part size) (linkagesFill ws (at + part) (at + size)) (both-true (leb (fixedPart dim (typeAt ws at) (sizingAt dim ws at)) part) _ ok .1) in
     let a = leb-true part size (inside .0) in
     let two = leb-true 2 (length ws - at) (c .two) in
     let fits = leb-true size (length ws - at) (c .size) in

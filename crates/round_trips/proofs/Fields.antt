@@ -2,7 +2,7 @@
 -- element's own, and each field is in its range.
 use Prim.Native.Nat.{ℕ, _+_, _-_, _*_, _/_, _%_, _≤_, _<_}
 use mathlib.Core.Path.{_≡_, refl, sym, ap, _∙_}
-use mathlib.Core.Bool.{Bool, true, false, _||_}
+use mathlib.Core.Bool.{Bool, true, false, _||_, false≢true}
 use mathlib.Core.List.{List, [], _∷_, _++_}
 use native.Mathlib.Omega.{arith}
 use lib.ListN.{length}
@@ -19,9 +19,8 @@ use Rattle.views.specs.declared.Range.the-variants as range
 use Rattle.views.specs.declared.Display.the-variants as display
 use Rattle.views.specs.Views.{rangeOf, displayOf, elementView}
 use Rattle.fields.specs.Words.{longs, firstWord, rangeLongs, symbology, displayWords, headerWords}
-use Rattle.fields.specs.Faults.{isWritten}
 use Rattle.fields.specs.declared.Fields.{Fields}
-use Rattle.fields.proofs.Bounds.{Bounds, by-kinds}
+use Rattle.fields.proofs.Bounds.{Bounds}
 use Rattle.round_trips.specs.Parts.{Shows}
 use Rattle.round_trips.proofs.Spans.{stands-cons, stands-at, LongsAt, longs-small, longs-stand}
 
@@ -45,13 +44,13 @@ pub range-there : (ws : List ℕ) (at : ℕ) → 14 ≤ sizeAt ws at →
 unfolding rangeOf
 range-there ws at h = rw (le-leb 14 (sizeAt ws at) h) refl
 
-pub display-there : (ws : List ℕ) (at : ℕ) → isWritten (typeAt ws at) ≡ true →
+pub display-there : (ws : List ℕ) (at : ℕ) → isLinked (typeAt ws at) ≡ true →
     displayOf ws at
     ≡ display.Words (wordAt ws (at + 14)) (wordAt ws (at + 15)) (wordAt ws (at + 16)) (wordAt ws (at + 17) % 8) (wordAt ws (at + 17) / 8 % 32) (wordAt ws (at + 17) / 256)
 unfolding displayOf
-display-there ws at k = rw (by-kinds (λ t. isLinked t ≡ true) (typeAt ws at) k refl refl refl refl) refl
+display-there ws at k = rw k refl
 
-pub shown : (ws : List ℕ) (at depth : ℕ) (above : Above) (f : Fields) → isWritten (typeAt ws at) ≡ true → 14 ≤ sizeAt ws at → Shows (elementView ws at depth above) f → Shown ws at f
+pub shown : (ws : List ℕ) (at depth : ℕ) (above : Above) (f : Fields) → isLinked (typeAt ws at) ≡ true → 14 ≤ sizeAt ws at → Shows (elementView ws at depth above) f → Shown ws at f
 unfolding elementView
 shown ws at depth above f k h v =
     let r = sym (v .range) ∙ range-there ws at h in
@@ -104,13 +103,14 @@ fields-sum w h z =
     joined w (w / 64) (w / 128) (w / 256) (w / 32768) (levelOf w) (cOf w) (typeOf w) (deletedOf w)
     (omega arith) (omega arith) (omega arith) (omega arith) (omega arith)
 
--- the reserved bit of a written kind is zero
-pub reserved-zero : (w : ℕ) → isWritten (typeOf w) ≡ true → reservedOk w ≡ true → reservedOf w ≡ 0
+-- the reserved bit of a type that may have attributes is zero
+pub reserved-zero : (w : ℕ) → isLinked (typeOf w) ≡ true → reservedOk w ≡ true → reservedOf w ≡ 0
 unfolding reservedOk
-reserved-zero w k e = by-kinds (λ t. (eqb t 9 || eqb (reservedOf w) 0) ≡ true → reservedOf w ≡ 0) (typeOf w) k zero zero zero zero e
+reserved-zero w k e = go (eqb (typeOf w) 9) refl e
   where
-    zero : eqb (reservedOf w) 0 ≡ true → reservedOf w ≡ 0
-    zero = eqb-true (reservedOf w) 0
+    go : (b : Bool) → eqb (typeOf w) 9 ≡ b → (b || eqb (reservedOf w) 0) ≡ true → reservedOf w ≡ 0
+    go true q h = absurd (false≢true (sym (ap isLinked (eqb-true (typeOf w) 9 q)) ∙ k))
+    go false q h = eqb-true (reservedOf w) 0 h
 
 module _ (ws : List ℕ) (b : Below 65536 ws) (at : ℕ) (f : Fields) (v : Shown ws at f) where
   first-is : reservedOf (wordAt ws at) ≡ 0 → wordAt ws at ≡ firstWord f

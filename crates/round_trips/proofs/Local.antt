@@ -1,47 +1,38 @@
--- What the reading calls give of the words that the writer makes, where they stand at a place of a file that has an
--- element there: the header fields, the points, the linkages and the tail that were handed in.
+-- What the reading calls give of the words that a writer makes, where they stand at a place of a file that has an element
+-- there: the header fields, the linkages and the tail that were handed in.
 use Prim.Native.Nat.{ℕ, _+_, _-_, _*_, _/_, _%_, _≤_, _<_}
-use mathlib.Core.Path.{_≡_, refl, sym, ap, _∙_, subst}
-use mathlib.Core.Bool.{Bool, true, false, cond, false≢true}
-use mathlib.Core.List.{List, _++_, map}
+use mathlib.Core.Path.{_≡_, refl, sym, ap, _∙_}
+use mathlib.Core.Bool.{Bool, true, false, cond}
+use mathlib.Core.List.{List}
 use native.Mathlib.Omega.{arith}
 use lib.ListN.{length, take, drop}
 use lib.Seq.{drop-at}
-use lib.IntN.{ℤ}
-use lib.Dec.{eqb}
-use borrow.Author.Tests.{le-leb, lt-ltb, le-ltb, eqb-true}
-use Rattle.words.specs.Words.{words, bytes, Below, wordAt, longAt, unsigned}
+use lib.Dec.{eqb, leb}
+use borrow.Author.Tests.{le-leb, leb-true}
+use Rattle.words.specs.Words.{words, bytes, Below, wordAt, longAt}
 use Rattle.words.proofs.Laws.{length-words, length-bytes, bytes-words, bytes-append}
 use Rattle.linkages.specs.Linkages.{linkageIn}
 use Rattle.linkages.proofs.Local.{walk-local}
 use Rattle.kinds.specs.FirstWord.{levelOf, cOf, typeOf, deletedOf, bit}
 use Rattle.headers.specs.Header.{typeAt, sizeAt, attributePartAt}
-use Rattle.kinds.specs.Kinds.{isHeader, isPointed, isLinked}
-use Rattle.grammar.proofs.Stands.{Stands, stands-word, stands-first, stands-left, stands-right}
+use Rattle.kinds.specs.Kinds.{isHeader, isLinked}
+use Rattle.grammar.proofs.Stands.{Stands, stands-word, stands-first, stands-right}
 use Rattle.places.specs.declared.Above.{Above}
 use Rattle.places.specs.declared.Spotted.the-variants as spotted
 use Rattle.views.specs.declared.Range.the-variants as range
 use Rattle.views.specs.declared.Display.the-variants as display
-use Rattle.points_linkages.specs.declared.Point.the-variants as point
 use Rattle.points_linkages.specs.declared.Attribute.the-variants as attribute
 use Rattle.views.specs.declared.View.the-variants.{Seen}
 use Rattle.places.specs.Places.{spottedAt}
 use Rattle.views.specs.Views.{rangeOf, displayOf, elementView, viewOf}
-use Rattle.points_linkages.specs.Points.{beforePoints, pointAt, pointOf, pointCount}
-use Rattle.points_linkages.specs.Coordinates as numbers
-use Rattle.points_linkages.proofs.Coordinates.{points-longs}
 use Rattle.points_linkages.specs.Linkages.{attributeBy, linkageOf}
-use Rattle.fields.specs.Words.{longs, firstWord, symbology, headerWords, countWords, pointsIn, sizeOf, elementWords}
-use Rattle.fields.specs.Faults.{pointsFit}
+use Rattle.fields.specs.Words.{firstWord, symbology, headerWords, elementOf}
+use Rattle.fields.specs.Faults.{tailOk}
 use Rattle.fields.specs.declared.Fields.{Fields}
-use Rattle.limits.proofs.Dimensions.{by-dims}
-use Rattle.fields.proofs.Bounds.{by-kinds, count-whole}
-use Rattle.fields.proofs.Element.{front, front-tail, length-header, length-front, length-element, size-least, size-at, kind-at, tail-early, tail-late}
-use Rattle.fields.proofs.Writable.{Writable}
-use Rattle.round_trips.specs.Parts.{Shows, GivesPoints, linkageMoved, tailPlace, tailLinkage}
-use Rattle.round_trips.specs.RoundTrip.{Longs}
-use Rattle.round_trips.proofs.Own.{plain-kind, first-read, symbology-read}
-use Rattle.round_trips.proofs.Numbers.{numbers-stand}
+use Rattle.fields.proofs.Bounds.{both}
+use Rattle.fields.proofs.Element.{front, front-tail, length-front, length-of, size-of, kind-of, tail-right}
+use Rattle.round_trips.specs.Parts.{Shows, linkageMoved, linkageBy}
+use Rattle.round_trips.proofs.Own.{Owned, first-read, symbology-read}
 use Rattle.round_trips.proofs.Walks.{in-from, moved-by}
 
 same-range : {a b c d e f a′ b′ c′ d′ e′ f′ : ℕ} → a ≡ a′ → b ≡ b′ → c ≡ c′ → d ≡ d′ → e ≡ e′ → f ≡ f′ → range.Longs a b c d e f ≡ range.Longs a′ b′ c′ d′ e′ f′
@@ -61,15 +52,15 @@ pub shown-above : (ws : List ℕ) (at depth : ℕ) (above : Above) → elementVi
 unfolding elementView
 shown-above ws at depth above = refl
 
-module _ {dim : ℕ} {f : Fields} {ps : List ℤ} {tail : List ℕ} {room : ℕ} (w : Writable dim f ps tail room)
-    {ws : List ℕ} {at : ℕ} (stands : Stands (elementWords dim f ps tail) at ws) where
-  long : 19 ≤ length (elementWords dim f ps tail)
-  long = let e = length-element dim f ps tail (w .call) in let l = size-least dim f ps tail (w .call) in omega arith
+module _ {dim : ℕ} {f : Fields} {size : ℕ} {body tail : List ℕ} (o : Owned dim f size body tail)
+    {ws : List ℕ} {at : ℕ} (stands : Stands (elementOf f size body tail) at ws) where
+  long : 19 ≤ length (elementOf f size body tail)
+  long = let e = length-of (o .formed) in let l = o .formed .long in let m = o .more in omega arith
 
-  word-there : (i : ℕ) → i < 19 → wordAt ws (at + i) ≡ wordAt (elementWords dim f ps tail) i
+  pub word-there : (i : ℕ) → i < 19 → wordAt ws (at + i) ≡ wordAt (elementOf f size body tail) i
   word-there i h = let l = long in stands-word stands i (omega arith)
 
-  long-there : (i : ℕ) → i < 18 → longAt ws (at + i) ≡ longAt (elementWords dim f ps tail) i
+  long-there : (i : ℕ) → i < 18 → longAt ws (at + i) ≡ longAt (elementOf f size body tail) i
   long-there i h =
       let e : at + i + 1 ≡ at + (i + 1) = omega arith in
       let high = word-there i (omega arith) in
@@ -77,34 +68,34 @@ module _ {dim : ℕ} {f : Fields} {ps : List ℤ} {tail : List ℕ} {room : ℕ}
       omega arith
 
   first-there : wordAt ws at ≡ firstWord f
-  unfolding elementWords headerWords
+  unfolding headerWords
   first-there = let l = long in stands-first stands (omega arith)
 
-  type-there : typeAt ws at ≡ f .kind
-  type-there = let l = long in ap typeOf (stands-first stands (omega arith)) ∙ kind-at dim f ps tail (w .call)
+  pub type-there : typeAt ws at ≡ f .kind
+  type-there = let l = long in ap typeOf (stands-first stands (omega arith)) ∙ kind-of (o .formed)
 
   pub plain-there : isHeader (typeAt ws at) ≡ false
-  plain-there = ap isHeader type-there ∙ plain-kind (f .kind) (w .call .kind)
+  plain-there = ap isHeader type-there ∙ o .plain
 
-  size-there : sizeAt ws at ≡ sizeOf dim f ps tail
-  size-there = ap (λ n. n + 2) (word-there 1 (omega arith)) ∙ size-at dim f ps tail (w .call)
+  size-there : sizeAt ws at ≡ size
+  size-there = ap (λ n. n + 2) (word-there 1 (omega arith)) ∙ size-of (o .formed)
 
   range-there : rangeOf ws at ≡ range.Longs (f .«low_x») (f .«low_y») (f .«low_z») (f .«high_x») (f .«high_y») (f .«high_z»)
-  unfolding rangeOf elementWords headerWords
+  unfolding rangeOf headerWords
   range-there =
-      let l = size-least dim f ps tail (w .call) in
-      rw (size-there, le-leb 14 (sizeOf dim f ps tail) (omega arith))
+      let l = o .formed .long in
+      rw (size-there, le-leb 14 size (omega arith))
       (same-range (long-there 2 (omega arith) ∙ long-whole (f .«low_x»)) (long-there 4 (omega arith) ∙ long-whole (f .«low_y»))
       (long-there 6 (omega arith) ∙ long-whole (f .«low_z»)) (long-there 8 (omega arith) ∙ long-whole (f .«high_x»))
       (long-there 10 (omega arith) ∙ long-whole (f .«high_y»)) (long-there 12 (omega arith) ∙ long-whole (f .«high_z»)))
 
   linked-there : isLinked (typeAt ws at) ≡ true
-  linked-there = ap isLinked type-there ∙ by-kinds (λ t. isLinked t ≡ true) (f .kind) (w .call .kind) refl refl refl refl
+  linked-there = ap isLinked type-there ∙ o .formed .linked
 
   display-there : displayOf ws at ≡ display.Words (f .group) (f .index) (f .properties) (f .style) (f .weight) (f .colour)
-  unfolding displayOf elementWords headerWords
+  unfolding displayOf headerWords
   display-there =
-      let r = symbology-read (w .call) in
+      let r = symbology-read (o .formed) in
       let v : wordAt ws (at + 17) ≡ symbology f = word-there 17 (omega arith) in
       rw linked-there
       (same-display (word-there 14 (omega arith)) (word-there 15 (omega arith)) (word-there 16 (omega arith))
@@ -113,7 +104,7 @@ module _ {dim : ℕ} {f : Fields} {ps : List ℤ} {tail : List ℕ} {room : ℕ}
   pub shown : (depth : ℕ) (above : Above) → Shows (elementView ws at depth above) f
   unfolding elementView
   shown depth above =
-      let r = first-read (w .call) in
+      let r = first-read (o .formed) in
       record {
         level = ap levelOf first-there ∙ r .level;
         c = ap (λ n. eqb (cOf n) 1) first-there ∙ ap (λ n. eqb n 1) (r .c) ∙ bit-is (f .c);
@@ -123,137 +114,83 @@ module _ {dim : ℕ} {f : Fields} {ps : List ℤ} {tail : List ℕ} {room : ℕ}
         display = display-there;
       }
 
-  pub shown-size : (depth : ℕ) (above : Above) → elementView ws at depth above .size ≡ sizeOf dim f ps tail
+  pub shown-size : (depth : ℕ) (above : Above) → elementView ws at depth above .size ≡ size
   unfolding elementView
   shown-size depth above = size-there
 
   ---- the tail
 
-  tail-stands : Stands (words tail) (at + tailPlace dim f ps) ws
+  tail-stands : Stands (words tail) (at + (18 + length body)) ws
   tail-stands =
-      rw (← length-front dim f ps tail (w .call))
-      (stands-right (front dim f ps tail) (words tail) (rw (front-tail dim f ps tail) at stands))
+      rw (← length-front (o .formed))
+      (stands-right (front f size body) (words tail) (rw (front-tail (o .formed)) at stands))
 
   -- the own words are the element's, and their bytes after the fixed part are the tail
-  own-there : take (sizeAt ws at) (drop at ws) ≡ elementWords dim f ps tail
-  own-there = ap (λ n. take n (drop at ws)) (size-there ∙ sym (length-element dim f ps tail (w .call))) ∙ stands .is
+  own-there : take (sizeAt ws at) (drop at ws) ≡ elementOf f size body tail
+  own-there = ap (λ n. take n (drop at ws)) (size-there ∙ sym (length-of (o .formed))) ∙ stands .is
 
-  pub tail-there : Below 256 tail → drop (2 * tailPlace dim f ps) (bytes (take (sizeAt ws at) (drop at ws))) ≡ tail
+  pub tail-there : Below 256 tail → drop (2 * (18 + length body)) (bytes (take (sizeAt ws at) (drop at ws))) ≡ tail
   tail-there b =
-      let before = front dim f ps tail in
-      let n = length-front dim f ps tail (w .call) in
+      let before = front f size body in
+      let n = length-front (o .formed) in
       let l = length-bytes before in
-      let even = w .call .even in
-      ap (λ x. drop (2 * tailPlace dim f ps) (bytes x)) (own-there ∙ front-tail dim f ps tail)
-      ∙ ap (drop (2 * tailPlace dim f ps)) (bytes-append before (words tail))
-      ∙ drop-at (bytes before) (bytes (words tail)) (2 * tailPlace dim f ps) (omega arith)
+      let even = o .even in
+      ap (λ x. drop (2 * (18 + length body)) (bytes x)) (own-there ∙ front-tail (o .formed))
+      ∙ ap (drop (2 * (18 + length body))) (bytes-append before (words tail))
+      ∙ drop-at (bytes before) (bytes (words tail)) (2 * (18 + length body)) (omega arith)
       ∙ bytes-words tail (length tail / 2) (omega arith) b
-
-  ---- the points
-
-  -- how many there are
-  count-there : pointCount ws at ≡ pointsIn dim ps
-  unfolding elementWords headerWords pointsFit
-  count-there =
-      rw (type-there, word-there 18 (omega arith))
-      (by-kinds (λ t. pointsFit dim t (length ps) ≡ true →
-      cond (eqb t 3) 2 (cond (isPointed t) (wordAt (countWords t (pointsIn dim ps) ++ (longs (map unsigned ps) ++ words tail)) 0) 0) ≡ pointsIn dim ps)
-      (f .kind) (w .call .kind)
-      (by-dims (λ m. eqb (length ps) (2 * m) ≡ true → 2 ≡ length ps / m) dim (w .call .dims) (λ e. omega (arith, eqb-true (length ps) 4 e)) (λ e. omega (arith, eqb-true (length ps) 6 e)))
-      (λ e. refl) (λ e. refl) (λ e. refl) (w .call .fit))
-
-  before-there : beforePoints ws at ≡ 18 + length (countWords (f .kind) (pointsIn dim ps))
-  before-there =
-      rw type-there
-      (by-kinds (λ t. cond (eqb t 3) 18 19 ≡ 18 + length (countWords t (pointsIn dim ps))) (f .kind) (w .call .kind) refl refl refl refl)
-
-  points-stand : Stands (longs (map unsigned ps)) (at + beforePoints ws at) ws
-  unfolding elementWords
-  points-stand =
-      let header = headerWords f (sizeOf dim f ps tail) in
-      let count = countWords (f .kind) (pointsIn dim ps) in
-      let points = longs (map unsigned ps) in
-      let l = length-header dim f ps tail (sizeOf dim f ps tail) in
-      let b = before-there in
-      let e : at + length header + length count ≡ at + beforePoints ws at = omega arith in
-      subst (λ q. Stands points q ws) e (stands-left points (words tail) (stands-right count (points ++ words tail) (stands-right header (count ++ (points ++ words tail)) stands)))
 
 ---- the attribute part
 
 -- with A set it is in the tail
-module _ {dim : ℕ} {f : Fields} {ps : List ℤ} {tail : List ℕ} {room : ℕ} (w : Writable dim f ps tail room) (a : eqb (f .properties / 2048 % 2) 1 ≡ true) where
-  has-part : f .properties / 2048 % 2 ≡ 0 → ⊥
-  has-part z = let e = eqb-true (f .properties / 2048 % 2) 1 a in omega arith
-
-  part-from : tailPlace dim f ps ≤ 16 + f .index
-  part-from =
-      let early : 16 + f .index < tailPlace dim f ps → ⊥ = λ h. false≢true (tail-early dim f ps tail (w .call) has-part h ∙ w .linkages) in
-      omega arith
-
-  part-by : 16 + f .index - tailPlace dim f ps ≤ length tail / 2
-  part-by =
-      let late : length tail / 2 < 16 + f .index - tailPlace dim f ps → ⊥ = λ h. false≢true (tail-late dim f ps tail (w .call) has-part part-from h ∙ w .linkages) in
-      omega arith
+module _ {dim : ℕ} {f : Fields} {size : ℕ} {body tail : List ℕ} (o : Owned dim f size body tail) (a : eqb (f .properties / 2048 % 2) 1 ≡ true) where
+  part-within : (18 + length body ≤ 16 + f .index) × (16 + f .index - (18 + length body) ≤ length tail / 2)
+  unfolding tailOk
+  part-within =
+      let ok = rw a at (tail-right (o .formed) ∙ o .linkages) in
+      let b = both (leb (2 + length body) (f .index)) _ ok in
+      let early = leb-true (2 + length body) (f .index) (b .0) in
+      let late = leb-true (f .index - (2 + length body)) (length tail / 2) (both (leb (f .index - (2 + length body)) (length tail / 2)) _ (b .1) .0) in
+      (omega arith, omega arith)
 
 ---- in a file whose list of elements has one at the place
 
-module _ {dim : ℕ} {f : Fields} {ps : List ℤ} {tail : List ℕ} {room : ℕ} (w : Writable dim f ps tail room)
-    (s : List ℕ) {at : ℕ} (stands : Stands (elementWords dim f ps tail) at (words s))
+module _ {dim : ℕ} {f : Fields} {size : ℕ} {body tail : List ℕ} (o : Owned dim f size body tail)
+    (s : List ℕ) {at : ℕ} (stands : Stands (elementOf f size body tail) at (words s))
     {end depth : ℕ} {above : Above} (found : spottedAt dim s at ≡ spotted.At end depth above) where
   pub seen : viewOf dim s at ≡ Seen (elementView (words s) at depth above)
   unfolding viewOf
   seen = rw found refl
 
-  point-there : (k : ℕ) → k < pointsIn dim ps → pointOf dim s at k ≡ pointAt dim (words s) (at + beforePoints (words s) at + 2 * dim * k)
-  unfolding pointOf
-  point-there k h = rw (found, count-there w stands, lt-ltb k (pointsIn dim ps) h) refl
-
-  no-point : pointOf dim s at (pointsIn dim ps) ≡ point.Refused 13 0
-  unfolding pointOf
-  no-point = rw (found, count-there w stands, le-ltb (pointsIn dim ps) (pointsIn dim ps) (omega arith)) refl
-
-  pub points-given : Longs ps → GivesPoints dim s at ps
-  points-given l =
-      let c = w .call in
-      let start = at + beforePoints (words s) at in
-      let first : start + 2 * dim * 0 ≡ start = by-dims (λ m. start + 2 * m * 0 ≡ start) dim (c .dims) (omega arith) (omega arith) in
-      record {
-        all =
-            points-longs dim (c .dims) s at start (pointsIn dim ps) point-there (pointsIn dim ps) 0 (omega arith)
-            ∙ ap (numbers.longs (dim * pointsIn dim ps) (words s)) first
-            ∙ ap (λ n. numbers.longs n (words s) start) (sym (count-whole dim (f .kind) (length ps) (c .dims) (c .kind) (c .fit)))
-            ∙ numbers-stand ps (words s) start l (points-stand w stands);
-        no-more = no-point;
-      }
-
   -- the linkages of the attribute part are those of the tail
   walked : eqb (f .properties / 2048 % 2) 1 ≡ true → (k : ℕ) →
       attributeBy (linkageIn (words s) (at + attributePartAt (words s) at) (at + sizeAt (words s) at) k)
-      ≡ linkageMoved (at + tailPlace dim f ps) (linkageIn (words tail) (16 + f .index - tailPlace dim f ps) (length tail / 2) k)
-  unfolding elementWords headerWords sizeOf
+      ≡ linkageMoved (at + (18 + length body)) (linkageIn (words tail) (16 + f .index - (18 + length body)) (length tail / 2) k)
+  unfolding headerWords
   walked a k =
-      let from = at + tailPlace dim f ps in
-      let start = 16 + f .index - tailPlace dim f ps in
-      let h = part-from w a in
-      let l = part-by w a in
-      let index : wordAt (words s) (at + 15) ≡ f .index = word-there w stands 15 (omega arith) in
-      let size = size-there w stands in
+      let from = at + (18 + length body) in
+      let start = 16 + f .index - (18 + length body) in
+      let h = part-within o a .0 in
+      let l = part-within o a .1 in
+      let index : wordAt (words s) (at + 15) ≡ f .index = word-there o stands 15 (omega arith) in
+      let size = size-there o stands in
+      let whole = o .formed .long in
       let n = length-words tail in
       let b : at + attributePartAt (words s) at ≡ from + start = omega arith in
       let e : at + sizeAt (words s) at ≡ from + start + (length tail / 2 - start) = omega arith in
       let same : (i : ℕ) → i < length tail / 2 - start → wordAt (words tail) (start + i) ≡ wordAt (words s) (from + start + i) =
       λ i lt. let q : from + start + i ≡ from + (start + i) = omega arith in
-      sym (ap (wordAt (words s)) q ∙ stands-word (tail-stands w stands) (start + i) (omega arith)) in
+      sym (ap (wordAt (words s)) q ∙ stands-word (tail-stands o stands) (start + i) (omega arith)) in
       ap attributeBy (ap (λ p. linkageIn (words s) p (at + sizeAt (words s) at) k) b ∙ ap (λ p. linkageIn (words s) (from + start) p k) e
       ∙ sym (walk-local (words tail) (words s) start (length tail / 2) (from + start) k l same))
       ∙ moved-by from start (linkageIn (words tail) start (length tail / 2) k) (in-from (words tail) start (length tail / 2) k)
 
-  pub linkages-given : (k : ℕ) → linkageOf dim s at k ≡ tailLinkage dim f ps tail at k
-  unfolding linkageOf tailLinkage elementWords headerWords
-  linkages-given k = rw (found, linked-there w stands, word-there w stands 16 (omega arith)) (go (eqb (f .properties / 2048 % 2) 1) refl)
+  pub linkages-given : (k : ℕ) → linkageOf dim s at k ≡ linkageBy f (18 + length body) tail at k
+  unfolding linkageOf linkageBy headerWords
+  linkages-given k = rw (found, linked-there o stands, word-there o stands 16 (omega arith)) (go (eqb (f .properties / 2048 % 2) 1) refl)
     where
       go : (b : Bool) → eqb (f .properties / 2048 % 2) 1 ≡ b →
           cond b (attributeBy (linkageIn (words s) (at + attributePartAt (words s) at) (at + sizeAt (words s) at) k)) (attribute.Refused 13 0)
-          ≡ cond b (linkageMoved (at + tailPlace dim f ps) (linkageIn (words tail) (16 + f .index - tailPlace dim f ps) (length tail / 2) k)) (attribute.Refused 13 0)
+          ≡ cond b (linkageMoved (at + (18 + length body)) (linkageIn (words tail) (16 + f .index - (18 + length body)) (length tail / 2) k)) (attribute.Refused 13 0)
       go false e = refl
       go true e = walked e k

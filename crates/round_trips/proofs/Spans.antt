@@ -8,7 +8,7 @@ use lib.ListN.{length, take}
 use lib.Seq.{drop-cons}
 use Rattle.words.specs.Words.{Below, wordAt, longAt}
 use Rattle.kinds.proofs.Types.{Each}
-use Rattle.grammar.proofs.Stands.{Stands, stands-nil}
+use Rattle.grammar.proofs.Stands.{Stands, stands-nil, stands-word, stands-first, stands-right}
 use Rattle.fields.specs.Words.{longs}
 
 pub stands-cons : (w : ℕ) (l ws : List ℕ) (at : ℕ) → at < length ws → wordAt ws at ≡ w → Stands l (at + 1) ws → Stands (w ∷ l) at ws
@@ -30,6 +30,14 @@ LongsAt ws q (v ∷ vs) = (v ≡ longAt ws q) × LongsAt ws (q + 2) vs
 pub longs-at-append : (ws : List ℕ) (q p : ℕ) (us vs : List ℕ) → p ≡ q + 2 * length us → LongsAt ws q us → LongsAt ws p vs → LongsAt ws q (us ++ vs)
 longs-at-append ws q p [] vs e a b = let z : p ≡ q = omega arith in subst (λ n. LongsAt ws n vs) z b
 longs-at-append ws q p (u ∷ us) vs e a b = (a .0, longs-at-append ws (q + 2) p us vs (omega arith) (a .1) b)
+
+-- longs whose words stand at a place are read there
+pub longs-read : (vs ws : List ℕ) (q : ℕ) → Stands (longs vs) q ws → LongsAt ws q vs
+longs-read [] ws q s = tt
+longs-read (v ∷ vs) ws q s =
+    let high = stands-first s (omega arith) in
+    let low = stands-word s 1 (omega arith) in
+    (omega arith, longs-read vs ws (q + 2) (stands-right (v / 65536 ∷ v % 65536 ∷ []) (longs vs) s))
 
 module _ (ws : List ℕ) (b : Below 65536 ws) where
   -- a long is below 4294967296, and its two words are those that it was read of

@@ -21,7 +21,7 @@ none-some : {x : Spot} → _≡_ {A = Option Spot} none (some x) → ⊥
 none-some e = let z : _≡_ {A = ℕ} 0 1 = cc in omega arith
 
 -- what is looked up is in the list, and what is in the list is found
-spot-starts : (xs : List Spot) (p : ℕ) (x : Spot) → spotIn xs p ≡ some x → Starts xs p
+pub spot-starts : (xs : List Spot) (p : ℕ) (x : Spot) → spotIn xs p ≡ some x → Starts xs p
 spot-starts [] p x e = absurd (none-some e)
 spot-starts (y ∷ xs) p x e = go (eqb (y .place) p) refl e (spot-starts xs p x)
   where

@@ -5,9 +5,11 @@ use mathlib.Core.Path.{_≡_, refl, ap, _∙_}
 use mathlib.Core.Bool.{Bool, true, false, cond, _&&_, and-eq-true-iff}
 use mathlib.Core.List.{List}
 use native.Mathlib.Omega.{arith}
-use lib.ListN.{length, getD, List·getD-eq-default}
+use lib.ListN.{length, getD}
 use lib.Dec.{ltb}
 use borrow.Author.Tests.{ltb-true, lt-ltb, le-ltb, eq-eqb, ne-eqb}
+use Rattle.words.specs.Words.{words}
+use Rattle.words.proofs.Laws.{word-out}
 use Rattle.headers.specs.Header.{typeAt, sizeAt, extentAt}
 use Rattle.kinds.specs.Kinds.{isHeader}
 use Rattle.walking.specs.declared.Walk.{Walk}
@@ -27,6 +29,15 @@ module _ (ws : List ℕ) (at depth : ℕ) where
   pub opens-shallow : opens ws at depth ≡ true → depth < 8
   unfolding opens
   opens-shallow e = ltb-true depth 8 (and-eq-true-iff (ltb depth 8) (isHeader (typeAt ws at) && ltb (sizeAt ws at) (extentAt ws at)) .0 e .0)
+
+-- nothing opens one where no word stands
+pub opens-out : (s : List ℕ) (at depth : ℕ) → length s ≤ at → false ≡ opens (words s) at depth
+unfolding opens
+opens-out s at depth h = rw (word-out s at (omega arith)) (go (ltb depth 8))
+  where
+    go : (a : Bool) → false ≡ (a && false)
+    go true = refl
+    go false = refl
 
 ---- the step
 
@@ -58,10 +69,6 @@ closed-out d ends next e = rw (eq-eqb (getD ends (suc d) 0) next e) refl
 pub closed-less : (d : ℕ) (ends : List ℕ) (next : ℕ) → 0 < d → getD ends d 0 ≡ next → closedTo d ends next ≡ closedTo (d - 1) ends next
 closed-less zero ends next l e = absurd (omega arith)
 closed-less (suc d) ends next l e = let z : d ≡ suc d - 1 = omega arith in closed-out d ends next e ∙ ap (λ k. closedTo k ends next) z
-
--- nothing is kept of a depth above 8
-pub closed-over : (d : ℕ) (ends : List ℕ) (next : ℕ) → length ends ≤ d → 0 < next → closedTo d ends next ≡ d
-closed-over d ends next l h = closed-here d ends next (λ e. omega (arith, List·getD-eq-default ends 0 l))
 
 -- two lists of ends say the same of the depths up to d
 abbrev pub Same : ℕ → List ℕ → List ℕ → Type 0

@@ -1,7 +1,7 @@
 // The walk over an accepted file in file order: the next element with its depth. Definitions: specs/Walk.
 ghost use mathlib.Core.Path.{_≡_};
 ghost use Prim.Native.Nat.{_<_};
-ghost use lib.ListN.{length};
+ghost use lib.ListN.{length, getD};
 ghost use Rattle.words.specs.Words.{words};
 ghost use Rattle.headers.specs.Header.{extentAt};
 ghost use Rattle.walking.specs.Walk.{closedTo, opens, nextOf, walkStart};
@@ -21,17 +21,23 @@ fn extent_at(s: &[u8], at: usize) -> usize
     19 + words::word(s, at + 18)
 }
 
+// The end that is kept of the list at a depth, 0 where none is.
+pub fn end_in(ends: [usize; 9], depth: usize) -> usize
+    ensures { λ r. ⌜ r ≡ getD ends depth 0 ⌝ }
+{
+    if 8 < depth {
+        return 0;
+    }
+    ends[depth]
+}
+
 // The depth of what follows at `next` an element of a depth: less by each list that ends there.
-fn closed_to(depth: usize, ends: [usize; 9], next: usize) -> usize
-    requires { ⌜ 0 < next ⌝ }
+pub fn closed_to(depth: usize, ends: [usize; 9], next: usize) -> usize
     ensures { λ r. ⌜ r ≡ closedTo depth ends next ⌝ }
 {
     let mut d = depth;
     while 0 < d {
-        if 8 < d {
-            return d;
-        }
-        if ends[d] != next {
+        if end_in(ends, d) != next {
             return d;
         }
         d -= 1;
@@ -40,10 +46,12 @@ fn closed_to(depth: usize, ends: [usize; 9], next: usize) -> usize
 }
 
 // Whether the element at a place opens a list: a header with components, above the deepest depth.
-fn opens_list(s: &[u8], at: usize, depth: usize) -> bool
-    requires { ⌜ at < length (now s) ⌝ }
+pub fn opens_list(s: &[u8], at: usize, depth: usize) -> bool
     ensures { λ r. ⌜ r ≡ opens (words (now (s .entry))) at depth ⌝ }
 {
+    if s.len() <= at {
+        return false;
+    }
     if 8 <= depth {
         return false;
     }

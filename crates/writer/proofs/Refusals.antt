@@ -1,4 +1,4 @@
--- The writer is refused with one of its own numbers, at 0, and leaves its buffer as it was.
+-- A writer is refused with the number of its first fault, which is one of its own numbers, at 0, and leaves its buffer as it was.
 use Prim.Native.Nat.{ℕ}
 use mathlib.Core.Path.{_≡_, refl, sym, _∙_, subst}
 use mathlib.Core.Bool.{Bool, true, false, cond}
@@ -10,12 +10,12 @@ use lib.IntN.{ℤ}
 use borrow.Author.Tests.{eqb-false, ne-eqb}
 use Rattle.kinds.specs.Kinds.{oneOf}
 use Rattle.headers.proofs.Checks.{first-in}
-use Rattle.fields.specs.Words.{sizeOf}
+use Rattle.fields.specs.Words.{sizeOf, elementWords}
 use Rattle.fields.specs.Faults.{writeChecks, writeFault}
 use Rattle.fields.specs.declared.Fields.{Fields}
 use Rattle.writer.specs.declared.Written.{Written}
 use Rattle.writer.specs.declared.Written.the-variants.{Made, Refused}
-use Rattle.writer.specs.Writing.{writtenBy, Writes}
+use Rattle.writer.specs.Writing.{writtenBy, WritesBy, Writes}
 
 -- the numbers of the writer, in their order
 abbrev numbers : List ℕ
@@ -33,9 +33,15 @@ by-fault k size n p q = go (eqb k 0) refl q
     go true e q = let z : _≡_ {A = ℕ} 0 1 = cc in absurd (omega arith)
     go false e q = (cc, eqb-false k 0 e, cc)
 
+-- a writer that is refused: its fault is the number that it answers, at 0, and the buffer is as it was
+pub refused-by : (k size : ℕ) (ws out : List ℕ) (r : Written) (last : List ℕ) (n p : ℕ) → WritesBy k size ws out r last → r ≡ Refused n p →
+    (k ≡ n) × (k ≡ 0 → ⊥) × (p ≡ 0) × (last ≡ out)
+refused-by k size ws out r last n p w q =
+    let x = by-fault k size n p (sym (w .answer) ∙ q) in
+    (x .0, x .1, x .2, rw (ne-eqb k 0 (x .1)) at (w .bytes))
+
 pub write-refused : (dim : ℕ) (f : Fields) (points : List ℤ) (tail out : List ℕ) (r : Written) (last : List ℕ) (n p : ℕ) →
     Writes dim f points tail out r last → r ≡ Refused n p → (oneOf (1 ∷ 7 ∷ 8 ∷ 11 ∷ 15 ∷ []) n ≡ true) × (p ≡ 0) × (last ≡ out)
 write-refused dim f points tail out r last n p w q =
-    let k = writeFault dim f points tail (length out) in
-    let x = by-fault k (sizeOf dim f points tail) n p (sym (w .answer) ∙ q) in
-    (subst (λ m. oneOf numbers m ≡ true) (x .0) (fault-number dim f points tail (length out) (x .1)), x .2, rw (ne-eqb k 0 (x .1)) at (w .bytes))
+    let x = refused-by (writeFault dim f points tail (length out)) (sizeOf dim f points tail) (elementWords dim f points tail) out r last n p w q in
+    (subst (λ m. oneOf numbers m ≡ true) (x .0) (fault-number dim f points tail (length out) (x .1)), x .2, x .3)

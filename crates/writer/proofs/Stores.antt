@@ -8,9 +8,11 @@ use native.Mathlib.Numerals.{add-one}
 use lib.ListN.{length, getD, take, set, length-map, List·getD-map}
 use lib.IntN.{ℤ, pos}
 use lib.Seq.{sets-eq, length-take-le, take-suc}
-use Rattle.words.specs.Words.{bytes, over, unsigned, putWord, putLong}
-use Rattle.words.proofs.Laws.{put-in, length-put, length-put-long, length-bytes, bytes-append}
+use Rattle.words.specs.Words.{words, bytes, over, Below, unsigned, putWord, putLong}
+use Rattle.words.proofs.Laws.{put-in, length-put, length-put-long, length-bytes, bytes-append, bytes-words}
 use Rattle.words.proofs.Over.{over-nil, length-over, over-over}
+use Rattle.copies.specs.Copies.{copied}
+use Rattle.copies.proofs.Copies.{copied-fits}
 use Rattle.fields.specs.Words.{longs}
 use Rattle.fields.proofs.Element.{length-longs}
 use Rattle.writer.specs.Writing.{laid}
@@ -34,6 +36,13 @@ pub laid-join : (d : List ℕ) (at next : ℕ) (ws vs : List ℕ) → next ≡ a
 laid-join d at next ws vs n h =
     let e = length-bytes ws in
     over-over d (2 * at) (bytes ws) (2 * next) (bytes vs) (omega arith) (omega arith) ∙ ap (over d (2 * at)) (sym (bytes-append ws vs))
+
+-- bytes from the start of a word on, even in number, are their words laid
+pub laid-bytes : (d : List ℕ) (at : ℕ) (s : List ℕ) → Below 256 s → length s % 2 ≡ 0 → over d (2 * at) s ≡ laid d at (words s)
+laid-bytes d at s b e = ap (over d (2 * at)) (sym (bytes-words s (length s / 2) (omega arith) b))
+
+pub laid-copied : (d : List ℕ) (at : ℕ) (s : List ℕ) → Below 256 s → length s % 2 ≡ 0 → 2 * at + length s ≤ length d → copied d (2 * at) s ≡ laid d at (words s)
+laid-copied d at s b e h = copied-fits d (2 * at) s h ∙ laid-bytes d at s b e
 
 -- a store lays a word
 pub laid-word : (d : List ℕ) (i w : ℕ) → i < length d / 2 → putWord d i w ≡ laid d i (w ∷ [])
@@ -80,18 +89,9 @@ longs-laid d at (v ∷ vs) h =
     ∙ ap (λ x. laid x (at + 2) (longs vs)) (laid-long d at v (omega arith))
     ∙ laid-join d at (at + 2) (longs (v ∷ [])) (longs vs) refl (omega arith)
 
----- one more word, or long, in a loop
+---- one more long in a loop
 
 module _ (d out : List ℕ) (at k : ℕ) (vs : List ℕ) (h : k < length vs) where
-  pub next-word : at + length vs ≤ length d / 2 → out ≡ laid d at (take k vs) → putWord out (at + k) (getD vs k 0) ≡ laid d at (take (k + 1) vs)
-  next-word r e =
-      let l = length-take-le k vs (omega arith) in
-      let m = length-laid d at (take k vs) (omega arith) in
-      let o = ap length e in
-      laid-word out (at + k) (getD vs k 0) (omega arith) ∙ ap (λ x. laid x (at + k) (getD vs k 0 ∷ [])) e
-      ∙ laid-join d at (at + k) (take k vs) (getD vs k 0 ∷ []) (omega arith) (omega arith)
-      ∙ ap (laid d at) (sym (ap (λ n. take n vs) (add-one k) ∙ take-suc vs k 0 h))
-
   pub next-long : at + 2 * length vs ≤ length d / 2 → out ≡ laid d at (longs (take k vs)) → putLong out (at + 2 * k) (getD vs k 0) ≡ laid d at (longs (take (k + 1) vs))
   next-long r e =
       let l = length-take-le k vs (omega arith) in

@@ -5,11 +5,11 @@ ghost use mathlib.Core.Bool.{true, cond};
 ghost use mathlib.Core.List.{map};
 ghost use Prim.Native.Nat.{_+_, _*_, _/_, _<_, _≤_};
 ghost use lib.ListN.{length};
-ghost use Rattle.words.specs.Words.{words, unsigned};
+ghost use Rattle.words.specs.Words.{unsigned};
 ghost use Rattle.kinds.specs.Kinds.{isPointed};
 ghost use Rattle.fields.specs.Words.{longs, firstWord, rangeLongs, displayWords, headerWords, countWords, sizeOf, elementWords};
-ghost use Rattle.fields.specs.Faults.{isWritten, fieldsOk, writeFault};
-ghost use Rattle.writer.specs.Writing.{laid, Writes};
+ghost use Rattle.fields.specs.Faults.{fieldsOk, writeFault};
+ghost use Rattle.writer.specs.Writing.{laid, Writes, headerFits, headerLaid};
 
 // What the writer answers: how many words it wrote, or a number and a place.
 pub enum Written {
@@ -54,15 +54,43 @@ fn put_display(out: &mut [u8], fields: fields::Fields)
 }
 
 // Words 0 to 17.
-fn put_header(out: &mut [u8], fields: fields::Fields, size: usize)
+fn put_header_words(out: &mut [u8], fields: fields::Fields, size: usize)
     requires { ⌜ (36 ≤ length (now out)) × ((2 ≤ size) × (size ≤ 65535)) ⌝ }
-    requires { ⌜ (isWritten (fields .kind) ≡ true) × (fieldsOk fields ≡ true) ⌝ }
+    requires { ⌜ (fields .kind < 128) × (fieldsOk fields ≡ true) ⌝ }
     ensures { λ _. ⌜ now (out .exit) ≡ laid (now (out .entry)) 0 (headerWords fields size) ⌝ }
 {
     words::put_word(out, 0, first_word(fields) as u16);
     words::put_word(out, 1, (size - 2) as u16);
     put_range(out, fields);
     put_display(out, fields);
+}
+
+// Whether a buffer of `room` bytes can take words 0 to 17.
+fn header_fits(fields: fields::Fields, size: usize, room: usize) -> bool
+    ensures { λ r. ⌜ r ≡ headerFits fields size room ⌝ }
+{
+    if room < 36 {
+        return false;
+    }
+    if size < 2 {
+        return false;
+    }
+    if 65535 < size {
+        return false;
+    }
+    if 127 < fields.kind {
+        return false;
+    }
+    fields::fields_ok(fields)
+}
+
+// Words 0 to 17 of an element of a size, from the buffer's start on, where it can take them.
+pub fn put_header(out: &mut [u8], fields: fields::Fields, size: usize)
+    ensures { λ _. ⌜ now (out .exit) ≡ headerLaid fields size (now (out .entry)) ⌝ }
+{
+    if header_fits(fields, size, out.len()) {
+        put_header_words(out, fields, size);
+    }
 }
 
 // The place of the points: behind word 18 of the types with N, else behind the header.
@@ -94,19 +122,6 @@ fn put_points(out: &mut [u8], at: usize, points: &[i32])
     }
 }
 
-// The words of the tail, from a place on.
-fn put_tail(out: &mut [u8], at: usize, tail: &[u8])
-    requires { ⌜ at + length (now tail) / 2 ≤ length (now out) / 2 ⌝ }
-    ensures { λ _. ⌜ now (out .exit) ≡ laid (now (out .entry)) at (words (now (tail .entry))) ⌝ }
-{
-    let n = tail.len() / 2;
-    let mut k = 0;
-    while k < n {
-        words::put_word(out, at + k, words::word(tail, k) as u16);
-        k += 1;
-    }
-}
-
 // All words, from the buffer's start on. Their number.
 fn put_element(
     dim: usize,
@@ -122,10 +137,10 @@ fn put_element(
     let start = points_place(fields.kind);
     let end = start + 2 * points.len();
     let size = end + tail.len() / 2;
-    put_header(out, fields, size);
+    put_header_words(out, fields, size);
     put_count(out, fields.kind, points.len() / dim);
     put_points(out, start, points);
-    put_tail(out, end, tail);
+    copies::copy_in(out, 2 * end, tail);
     size
 }
 

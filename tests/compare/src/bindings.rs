@@ -1,9 +1,12 @@
 //! The bindings' own structs, errors and sessions against the second reader.
 
-use crate::runs::Runs;
-use dgn::{Dimension, LinkageKind, Point, Session, Type, View};
+use crate::runs::{text_numbers, Runs};
+use dgn::{
+    Bounds, Dimension, DisplayHeader, Fields, LinkageKind, Point, Session, TextAt, TextFields, Turn, Type, View,
+};
 use reader::generate::places::scan;
 use reader::generate::sessions::fresh_state;
+use reader::generate::text_writes::good_text;
 use reader::generate::{aimed, texts, valid, Random, ORDER};
 use reader::{Call, Refusal, State};
 
@@ -50,6 +53,35 @@ fn coordinates(point: Point, dim: u64) -> Vec<i32> {
     [point.x, point.y, point.z][..dim as usize].to_vec()
 }
 
+/// The text at a place, or why there is none.
+fn text(file: &[u8], dim: u64, place: u64) {
+    let (d, at) = (dimension(dim), place as usize);
+    let ours = dgn::text(file, d, at).map_err(plain);
+    let theirs = reader::read_text(file, dim, place);
+    assert_eq!(ours.clone().map(|t| text_numbers_of(&t)), theirs.clone().map(|t| text_numbers(&t, place, dim)));
+    let part = dgn::characters(file, d, at).map_err(plain);
+    let bytes = reader::text_characters(file, dim, place);
+    assert_eq!(part, bytes.map(|(start, length)| &file[start as usize..(start + length) as usize]));
+    if let Ok(text) = ours {
+        assert_eq!(part, Ok(&file[text.characters]));
+    }
+}
+
+/// The numbers of dgn.h that a text of the bindings stands for.
+fn text_numbers_of(text: &dgn::Text) -> [i64; 15] {
+    let turn = match text.turn {
+        Turn::Flat(rotation) => [rotation, 0, 0, 0],
+        Turn::Solid(longs) => longs,
+    };
+    let [a, b, c, d] = turn.map(i64::from);
+    let Point { x, y, z } = text.origin;
+    let [x, y, z] = [x, y, z].map(i64::from);
+    let first = [text.font.into(), text.justification.into(), text.length.into(), text.height.into()];
+    let odd = text.odd.map_or(-1, i64::from);
+    let last = [text.characters.len() as i64, text.fields.into(), odd, text.characters.start as i64];
+    [first[0], first[1], first[2], first[3], a, b, c, d, x, y, z, last[0], last[1], last[2], last[3]]
+}
+
 /// Every reading call on a file.
 pub fn file(runs: &mut Runs, file: &[u8], dim: u64) {
     let d = dimension(dim);
@@ -64,6 +96,7 @@ pub fn file(runs: &mut Runs, file: &[u8], dim: u64) {
         assert_eq!(ours, theirs.map_err(|r| (r.number, r.place, r.count)));
     }
     if let Err(refusal) = judged {
+        assert_eq!(dgn::all_texts(file, d).map(|_| ()).map_err(plain), Err(refusal.clone()));
         assert_eq!(dgn::all_views(file, d).map(|_| ()).map_err(plain), Err(refusal.clone()));
         assert_eq!(dgn::all_points(file, d).map(|_| ()).map_err(plain), Err(refusal.clone()));
         assert_eq!(Session::open(file.to_vec(), file.len(), vec![], d).map(|_| ()).map_err(plain), Err(refusal));
@@ -73,6 +106,7 @@ pub fn file(runs: &mut Runs, file: &[u8], dim: u64) {
     let views: Vec<View> = dgn::all_views(file, d).expect("an accepted file");
     assert_eq!(views.len(), starts.len());
     let mut drawn = dgn::all_points(file, d).expect("an accepted file").into_iter();
+    let mut texts = dgn::all_texts(file, d).expect("an accepted file").into_iter();
     for (view, start) in views.iter().zip(&starts) {
         let place = start.place as usize;
         same(view, &reader::view(file, dim, start.place).expect("an element"), start.place);
@@ -91,6 +125,16 @@ pub fn file(runs: &mut Runs, file: &[u8], dim: u64) {
                 (user, l.place, l.size, l.id)
             });
             assert_eq!(ours.map_err(plain), theirs);
+            let ours = dgn::field(file, d, place, k);
+            let ours = ours.map(|f| (u64::from(f.first), u64::from(f.length), i64::from(f.justification)));
+            let theirs = reader::text_field(file, dim, start.place, k as u64);
+            assert_eq!(ours.map_err(plain), theirs.map(|f| (f.first, f.length, f.justification)));
+        }
+        text(file, dim, start.place);
+        if view.kind == Type::Text {
+            let text = dgn::text(file, d, place).expect("a text");
+            let found = TextAt { place, deleted: view.deleted, depth: view.depth, text };
+            assert_eq!(texts.next(), Some(found));
         }
         let points: Vec<_> = (0..).map_while(|k| reader::point(file, dim, start.place, k).ok()).collect();
         if !points.is_empty() {
@@ -100,10 +144,11 @@ pub fn file(runs: &mut Runs, file: &[u8], dim: u64) {
         }
     }
     assert_eq!(drawn.next(), None);
+    assert_eq!(texts.next(), None);
 }
 
-/// All views and all points of an accepted file are those that its numbers say.
-pub fn all(file: &[u8], dim: u64, views: &[i64], points: &[i64]) {
+/// All views, points and texts of an accepted file are those that its numbers say.
+pub fn all(file: &[u8], dim: u64, views: &[i64], points: &[i64], texts: &[i64]) {
     let given = dgn::all_views(file, dimension(dim)).expect("an accepted file");
     assert!(given.into_iter().eq(views.chunks(32).map(|view| View::of(view.try_into().expect("32 numbers")))));
     let mut given = Vec::new();
@@ -112,6 +157,62 @@ pub fn all(file: &[u8], dim: u64, views: &[i64], points: &[i64]) {
         given.extend(drawn.points.into_iter().flat_map(|point| coordinates(point, dim)).map(i64::from));
     }
     assert!(given == points);
+    let mut given = Vec::new();
+    for found in dgn::all_texts(file, dimension(dim)).expect("an accepted file") {
+        given.extend([found.place as i64, i64::from(found.deleted), found.depth as i64]);
+        given.extend(text_numbers_of(&found.text));
+    }
+    assert!(given == texts);
+}
+
+/// A call of the writer of texts that the bindings' structs can hold: the same answer and bytes.
+fn written(random: &mut Random, runs: &mut Runs) {
+    let w = good_text(random);
+    let f = &w.text.header;
+    let [low, high] = [0, 3].map(|k| [f.range[k] as i64, f.range[k + 1] as i64, f.range[k + 2] as i64]);
+    let fields = Fields {
+        kind: Type::Text,
+        level: f.level as u8,
+        component: f.c == 1,
+        deleted: f.deleted == 1,
+        bounds: Bounds { low, high },
+        display: DisplayHeader {
+            graphic_group: f.graphic_group as u16,
+            attribute_index: f.attribute_index as u16,
+            properties: f.properties as u16,
+            style: f.style as u8,
+            weight: f.weight as u8,
+            colour: f.colour as u8,
+        },
+    };
+    let longs: Vec<u32> = w.text.rotation.iter().map(|&long| long as u32).collect();
+    let axis = |k: usize| w.text.origin.get(k).map_or(0, |&axis| axis as i32);
+    let text = TextFields {
+        font: w.text.font as u8,
+        justification: w.text.justification as u8,
+        length: w.text.length_multiplier as u32,
+        height: w.text.height_multiplier as u32,
+        turn: longs[..].try_into().map_or(Turn::Flat(longs[0]), Turn::Solid),
+        origin: Point { x: axis(0), y: axis(1), z: axis(2) },
+        odd: Some(w.text.spare as u8),
+    };
+    let mut enter_data: Vec<dgn::Field> = w
+        .fields
+        .chunks(3)
+        .map(|three| dgn::Field { first: three[0], length: three[1], justification: three[2] as i8 })
+        .collect();
+    let mut triples = w.fields.clone();
+    if random.one_in(4) {
+        // a field behind the characters
+        enter_data.push(dgn::Field { first: 255, length: 2, justification: -1 });
+        triples.extend([255, 2, 255]);
+    }
+    let (mut ours, mut theirs) = (vec![w.fill; w.room], vec![w.fill; w.room]);
+    let answer = dgn::write_text(&fields, &text, &w.characters, &enter_data, &w.tail, dimension(w.dim), &mut ours);
+    let expected = reader::write_text(&w.text, &w.characters, &triples, &w.tail, w.dim, &mut theirs);
+    assert_eq!(answer.map(|words| words as u64).map_err(plain), expected, "{w:?}");
+    assert_eq!(ours, theirs, "{w:?}");
+    runs.calls += 1;
 }
 
 /// One call of a session.
@@ -163,6 +264,7 @@ pub fn generated(random: &mut Random, runs: &mut Runs, times: u64) {
             let depth = random.below(9);
             file(runs, &aimed(random, dim, number, depth).file, dim);
         }
+        written(random, runs);
         let text = texts::any_text(random);
         let name = dgn::pack(&text).map_err(plain);
         assert_eq!(name.clone().map(|n| (n.first, n.second)), reader::pack(&text));

@@ -5,6 +5,7 @@ use crate::library;
 use crate::runs::Runs;
 use crate::sessions;
 use reader::generate::places::scan;
+use reader::generate::text_writes::{long_text, TextWrite};
 use reader::generate::writes::{long_line, Write};
 use reader::generate::{changes, large, valid, Random, Valid};
 
@@ -50,6 +51,10 @@ pub fn lengths(random: &mut Random, runs: &mut Runs) {
                 // as the tail, and as the room, of a written element
                 runs.write(&Write { tail: bytes.clone(), room: length, fill: 7, ..long_line(26) });
                 runs.write(&Write { room: length, fill: 7, ..long_line(26) });
+                // and of a written text; as its characters, and as its fields
+                runs.write_text(&TextWrite { tail: bytes.clone(), room: length, fill: 7, ..long_text(30, 2) });
+                runs.write_text(&TextWrite { characters: bytes.clone(), room: 4096, fill: 7, ..long_text(38, 3) });
+                runs.write_text(&TextWrite { fields: bytes.clone(), room: 4096, fill: 7, ..long_text(30, 2) });
                 runs.unpack(65535, 0);
                 runs.unpack(63999, 63999);
             }
@@ -98,12 +103,14 @@ pub fn small_stack() {
             break v;
         }
     };
-    let files: [Valid; 6] = [
+    let files: [Valid; 8] = [
         large::most_elements(),
         large::longest_file(),
         large::longest_file_of_cells(),
         large::largest_extent_nested(),
         large::most_linkages(),
+        large::most_text(&mut random, 3),
+        large::most_texts(&mut random, 2),
         deep,
     ];
     for v in files {
@@ -118,6 +125,7 @@ pub fn small_stack() {
             runs.find(&v.file, v.dim, b"NONE");
             runs.part(&v.file, v.dim, v.elements.saturating_sub(2), 400);
             runs.write(&long_line(65_535));
+            runs.write_text(&long_text(65_535, 3));
             runs.unpack(63_999, 63_999);
             sessions::large_session(&mut runs, &v.file, v.dim);
         };

@@ -8,11 +8,11 @@ pub struct Edited {
     /// Calls made, by which call it is: mark, rename, insert, remove, undo.
     made: [[u64; 5]; 2],
     /// Calls refused, by which call and by number, but for the file's own and a piece's own refusals.
-    refused: [[[u64; 20]; 5]; 2],
+    refused: [[[u64; 21]; 5]; 2],
     /// The file's own refusals by number.
-    own: [[u64; 20]; 2],
+    own: [[u64; 21]; 2],
     /// The piece's own by number.
-    piece: [[u64; 20]; 2],
+    piece: [[u64; 21]; 2],
     /// Undos made and refused with 19, by the last record's kind; 0 for all others.
     undone: [u64; 5],
     bad: [u64; 5],
@@ -34,6 +34,11 @@ fn which(call: &Call) -> usize {
 const NUMBERS: [&[usize]; 5] =
     [&[1, 13, 14, 16], &[1, 13, 18, 12, 16], &[1, 13, 15, 16], &[1, 13, 16], &[1, 17, 19, 15]];
 
+/// A number that judging can answer but 1.
+pub fn judging(number: usize) -> bool {
+    (2..=12).contains(&number) || number == 20
+}
+
 impl Edited {
     /// An answer; `good` says whether the used file was accepted, `kind` is that of the journal's last record.
     pub fn note(&mut self, dim: u64, call: &Call, answer: &Result<(), Refusal>, good: bool, kind: usize) {
@@ -46,9 +51,9 @@ impl Edited {
             }
             Err(r) => {
                 let n = r.number as usize;
-                if !good && (2..=12).contains(&n) {
+                if !good && judging(n) {
                     self.own[d][n] += 1;
-                } else if c == 2 && (3..=12).contains(&n) {
+                } else if c == 2 && n != 2 && judging(n) {
                     self.piece[d][n] += 1;
                 } else {
                     assert!(NUMBERS[c].contains(&n), "{n} is no answer of {call:?}");
@@ -69,7 +74,7 @@ impl Edited {
                     assert!(self.refused[d][c][n] > 0, "call {c} refused by {n}, {}D", d + 2);
                 }
             }
-            for n in 2..=12 {
+            for n in (2..=20).filter(|&n| judging(n)) {
                 assert!(self.own[d][n] > 0, "file's own {n}, {}D", d + 2);
                 assert!(self.piece[d][n] > 0 || n == 2, "piece's own {n}, {}D", d + 2);
             }
@@ -92,7 +97,7 @@ impl Edited {
                 .sum()
         };
         let made: u64 = self.made.iter().flatten().sum();
-        let each: Vec<String> = (1..20).map(|n| format!("{n}: {}", sum(n))).collect();
+        let each: Vec<String> = (1..=20).map(|n| format!("{n}: {}", sum(n))).collect();
         format!("made {made}; refused by {}", each.join(", "))
     }
 }

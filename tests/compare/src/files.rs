@@ -21,7 +21,8 @@ fn refused(random: &mut Random, runs: &mut Runs, a: &Aimed) {
     assert_eq!(judged, Err(a.refusal.clone()));
 }
 
-/// One file: valid, with aimed or double faults, with a word changed, or of bytes that are hardly a file.
+/// One file: valid, with aimed or double faults, with a word or a part of a text changed, or of bytes that are hardly a
+/// file.
 pub fn generated(random: &mut Random, runs: &mut Runs) {
     let dim = files::dimension(random);
     match random.below(10) {
@@ -42,7 +43,11 @@ pub fn generated(random: &mut Random, runs: &mut Runs) {
         }
         7..=8 => {
             let mut v = valid(random, dim).file;
-            changes::change_word(random, &mut v);
+            if random.one_in(3) {
+                changes::change_text(random, &mut v, dim);
+            } else {
+                changes::change_word(random, &mut v);
+            }
             let other = if random.one_in(8) { random.below(6) } else { dim };
             let _ = runs.all(random, &v, other);
         }
@@ -58,7 +63,7 @@ pub fn numbers(random: &mut Random, runs: &mut Runs, times: u64) {
     for dim in [2, 3] {
         for depth in 0..=9 {
             for _ in 0..times {
-                for number in 1..=12 {
+                for number in (1..=12).chain([20]) {
                     let a = aimed(random, dim, number, depth);
                     refused(random, runs, &a);
                     let stands = match number {
@@ -115,6 +120,13 @@ pub fn limits(random: &mut Random, runs: &mut Runs) {
         check(random, runs, v, &[0, 99, 100, 101, 102]);
         let v = large::long_names(random, dim);
         check(random, runs, v, &[0]);
+        let v = large::most_text(random, dim);
+        check(random, runs, v, &[0]);
+        let v = large::most_texts(random, dim);
+        check(random, runs, v, &[0]);
+        for (size, bad) in [(65_535, true), (65_536, true), (65_536, false), (65_537, false)] {
+            let _ = runs.all(random, &large::text_too_large(size, dim, bad), dim);
+        }
     }
     check(random, runs, large::most_elements(), &[0]);
     check(random, runs, large::longest_file(), &[0]);

@@ -5,7 +5,7 @@
 
 use crate::guard::{Guard, Side};
 use dgn::raw;
-use reader::{Call, FindRefusal, Found, Judged, Linkage, LinkageKind, Refusal, State};
+use reader::{Call, Field, FindRefusal, Found, Judged, Linkage, LinkageKind, Refusal, State};
 use std::cell::Cell;
 use std::hint::black_box;
 use std::slice::{from_raw_parts, from_raw_parts_mut};
@@ -28,6 +28,8 @@ struct Lending {
     text: Guard,
     fields: Guard,
     points: Guard,
+    text_numbers: Guard,
+    triples: Guard,
     tail: Guard,
     buffer: Guard,
     journal: Guard,
@@ -44,6 +46,8 @@ thread_local! {
         text: Guard::new(LONGEST),
         fields: Guard::new(4096),
         points: Guard::new(4 * MOST_COORDINATES),
+        text_numbers: Guard::new(4096),
+        triples: Guard::new(LONGEST),
         tail: Guard::new(LONGEST),
         buffer: Guard::new(LONGEST),
         journal: Guard::new(LONGEST),
@@ -131,7 +135,7 @@ fn returned(r: usize) -> Result<(), Refused> {
         return Ok(());
     }
     let (number, detail) = (r % 256, r / 256);
-    assert!((1..=19).contains(&number), "{r} is no refusal");
+    assert!((1..=20).contains(&number), "{r} is no refusal");
     Err(Refused { number: number as u32, detail: detail as u64 })
 }
 
@@ -190,6 +194,22 @@ pub fn view(file: &[u8], dim: u64, place: u64) -> Result<[i64; 32], Refusal> {
     Ok(of_file(file, |f, o| raw::view(f, dim as usize, place as usize, o))?)
 }
 
+/// The 15 numbers of a text.
+pub fn text(file: &[u8], dim: u64, place: u64) -> Result<[i64; 15], Refusal> {
+    Ok(of_file(file, |f, o| raw::text(f, dim as usize, place as usize, o))?)
+}
+
+/// Where a text's characters begin, in bytes of the file, and how many they are.
+pub fn characters(file: &[u8], dim: u64, place: u64) -> Result<(u64, u64), Refusal> {
+    let o = of_file::<_, 2>(file, |f, o| raw::characters(f, dim as usize, place as usize, o))?;
+    Ok((o[0] as u64, o[1] as u64))
+}
+
+pub fn field(file: &[u8], dim: u64, place: u64, k: u64) -> Result<Field, Refusal> {
+    let o = of_file::<_, 3>(file, |f, o| raw::field(f, dim as usize, place as usize, k as usize, o))?;
+    Ok(Field { first: o[0] as u64, length: o[1] as u64, justification: o[2] })
+}
+
 /// The three numbers of a point.
 pub fn point(file: &[u8], dim: u64, place: u64, k: u64) -> Result<[i64; 3], Refusal> {
     Ok(of_file(file, |f, o| raw::point(f, dim as usize, place as usize, k as usize, o))?)
@@ -235,6 +255,16 @@ pub fn points(file: &[u8], dim: u64, k: u64, room: usize) -> Result<(u64, Vec<i6
     Ok((out[0] as u64, numbers))
 }
 
+/// The next element number, and the numbers of the texts from element number k on, in a slice of so many numbers.
+pub fn texts(file: &[u8], dim: u64, k: u64, room: usize) -> Result<(u64, Vec<i64>), Refusal> {
+    let (out, numbers) = filled::<2>(
+        room,
+        |out| 18 * out[1],
+        |l, n| lent(l, &l.file, file, |f| answer(l, |o| raw::texts(f, dim as usize, k as usize, n, o))),
+    )?;
+    Ok((out[0] as u64, numbers))
+}
+
 /// Kind, header's place, place, payload words, and the used length before the record.
 pub fn record(journal: &[u8], jused: u64) -> Result<[u64; 5], Refusal> {
     let out: [usize; 5] =
@@ -264,6 +294,50 @@ pub fn write(fields: &[usize], points: &[i32], tail: &[u8], dim: u64, buffer: &m
         })
     })?;
     Ok(out[0] as u64)
+}
+
+/// What is handed to the writer of a text.
+pub struct TextCall<'a> {
+    /// The 16 fields of the header.
+    pub fields: &'a [usize],
+    /// The 12 numbers of the text.
+    pub numbers: &'a [i64],
+    pub characters: &'a [u8],
+    /// Three bytes for each enter-data field.
+    pub triples: &'a [u8],
+    pub tail: &'a [u8],
+    pub dim: u64,
+}
+
+impl TextCall<'_> {
+    /// Lends all of it and the buffer. `ask` lends the answer slice.
+    fn lend<R>(
+        &self,
+        l: &Lending,
+        buffer: &mut [u8],
+        ask: impl FnOnce(&Lending, &mut dyn FnMut(&mut [usize]) -> usize) -> Result<R, Refused>,
+    ) -> Result<R, Refused> {
+        let dim = self.dim as usize;
+        lent_to_write(l, &l.buffer, buffer, |b| {
+            lent(l, &l.fields, self.fields, |f| {
+                lent(l, &l.text_numbers, self.numbers, |n| {
+                    lent(l, &l.text, self.characters, |c| {
+                        lent(l, &l.triples, self.triples, |x| {
+                            lent(l, &l.tail, self.tail, |t| {
+                                ask(l, &mut |o| raw::write_text(f, n, c, x, t, dim, b, o))
+                            })
+                        })
+                    })
+                })
+            })
+        })
+    }
+
+    /// Writes into a copy of the buffer, which is copied back.
+    pub fn write(&self, buffer: &mut [u8]) -> Result<u64, Refusal> {
+        let out: [usize; 1] = LENDING.with(|l| self.lend(l, buffer, |l, ask| answer(l, ask)))?;
+        Ok(out[0] as u64)
+    }
 }
 
 /// The buffers of a session as they are lent, and its numbers.
@@ -357,6 +431,11 @@ pub fn mark_by(state: &mut State, place: u64, deleted: usize) -> Result<[usize; 
 pub fn short_answers(file: &[u8]) {
     // a call that would be made, but for its answer: a 2D line without a tail
     let fields = [3usize, 0, 0, 0, 0, 0, 0, 0, 0, 0, 0, 0, 0, 0, 0, 0];
+    // and a 2D text without characters
+    let mut of_a_text = fields;
+    of_a_text[0] = 17;
+    let text = TextCall { fields: &of_a_text, numbers: &[0; 12], characters: &[], triples: &[], tail: &[], dim: 2 };
+    assert_eq!(text.write(&mut [7; 60]), Ok(30));
     LENDING.with(|l| {
         lent(l, &l.file, file, |f| {
             let refused = [
@@ -372,6 +451,12 @@ pub fn short_answers(file: &[u8]) {
                 short::<_, 0>(l, |o| raw::point(f, 2, 0, 0, o)),
                 short::<_, 3>(l, |o| raw::linkage(f, 2, 0, 0, o)),
                 short::<_, 0>(l, |o| raw::linkage(f, 2, 0, 0, o)),
+                short::<_, 14>(l, |o| raw::text(f, 2, 0, o)),
+                short::<_, 0>(l, |o| raw::text(f, 2, 0, o)),
+                short::<_, 1>(l, |o| raw::characters(f, 2, 0, o)),
+                short::<_, 0>(l, |o| raw::characters(f, 2, 0, o)),
+                short::<_, 2>(l, |o| raw::field(f, 2, 0, 0, o)),
+                short::<_, 0>(l, |o| raw::field(f, 2, 0, 0, o)),
                 short::<_, 1>(l, |o| raw::pack(&[], o)),
                 short::<_, 0>(l, |o| raw::pack(&[], o)),
                 short::<_, 6>(l, |o| raw::unpack(0, 0, o)),
@@ -382,6 +467,9 @@ pub fn short_answers(file: &[u8]) {
                 lent_to_write(l, &l.numbers, &mut [7; 64], |n| short::<_, 0>(l, |o| raw::views(f, 2, 0, n, o))),
                 lent_to_write(l, &l.numbers, &mut [7; 64], |n| short::<_, 1>(l, |o| raw::points(f, 2, 0, n, o))),
                 lent_to_write(l, &l.numbers, &mut [7; 64], |n| short::<_, 0>(l, |o| raw::points(f, 2, 0, n, o))),
+                lent_to_write(l, &l.numbers, &mut [7; 64], |n| short::<_, 1>(l, |o| raw::texts(f, 2, 0, n, o))),
+                lent_to_write(l, &l.numbers, &mut [7; 64], |n| short::<_, 0>(l, |o| raw::texts(f, 2, 0, n, o))),
+                text.lend(l, &mut [7; 60], |l, ask| short::<_, 0>(l, ask)),
             ];
             assert!(refused.iter().all(Result::is_err));
         });

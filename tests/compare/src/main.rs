@@ -14,6 +14,7 @@ mod real;
 mod runs;
 mod seen;
 mod sessions;
+mod text_writes;
 mod whole;
 mod writes;
 
@@ -27,7 +28,9 @@ type Step = (&'static str, fn(&mut Random, &mut Runs, u64));
 const STEPS: &[Step] = &[
     ("real files, by their table", |_, runs, _| real::run(runs)),
     ("real files with each word changed and cut at each word", |random, runs, _| real::changed(random, runs)),
-    ("listings of celllist", |random, _, _| program::run(random, 100)),
+    ("real files with texts, each text by its table", |_, runs, _| real::texts(runs)),
+    ("the same, damaged and cut", |random, runs, _| real::damaged_texts(random, runs)),
+    ("listings of celllist and textlist", |random, _, _| program::run(random, 100)),
     ("answer slices that are too short stay", |_, _, _| library::short_answers(&[255, 255])),
     ("a stack of 256 KiB is enough", |_, _, _| damage::small_stack()),
     ("lengths from none to above the limit, between pages that may not be touched", |random, runs, _| {
@@ -38,10 +41,12 @@ const STEPS: &[Step] = &[
     ("names", |random, runs, _| files::names(random, runs, 20_000)),
     ("limits of the writer", |random, runs, _| writes::limits(random, runs)),
     ("written elements", |random, runs, wanted| writes::calls(random, runs, wanted / 4)),
+    ("limits of the writer of texts", |random, runs, _| text_writes::limits(random, runs)),
+    ("written texts", |random, runs, wanted| text_writes::calls(random, runs, wanted / 8)),
     ("each number at each depth, and two faults in one element", |random, runs, _| files::numbers(random, runs, 50)),
     ("cuts, and every place", |random, runs, _| files::cuts(random, runs, 200)),
-    ("every part of small files, views and points", |random, runs, _| whole::small(random, runs, 100)),
-    ("the largest files in parts, views and points", |random, runs, _| whole::largest(random, runs)),
+    ("every part of small files, views, points and texts", |random, runs, _| whole::small(random, runs, 100)),
+    ("the largest files in parts, views, points and texts", |random, runs, _| whole::largest(random, runs)),
     ("the bindings' structs", |random, runs, _| bindings::generated(random, runs, 500)),
     ("generated files", |random, runs, wanted| {
         let before = runs.files;

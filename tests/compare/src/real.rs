@@ -1,36 +1,48 @@
-//! The real files of tests/real, each with the answer of its table, by both; and the same files changed and cut.
+//! The real files of tests/real, each with the answer of its table, by both; and the same files changed and cut. Those of
+//! tests/real/texts have a table of their texts too.
 
 use crate::bindings;
+use crate::library;
+use crate::program;
 use crate::runs::Runs;
 use crate::sessions;
 use crate::whole;
 use reader::generate::{changes, Random};
 
-/// Each line of the table: file, dimension, and the answer as `accepted E D M` or `refused N P`.
-fn table() -> Vec<(String, u64, String, Vec<u8>)> {
-    let folder = concat!(env!("CARGO_MANIFEST_DIR"), "/../real/");
-    let table = std::fs::read_to_string(format!("{folder}TABLE.tsv")).expect("tests/real/TABLE.tsv");
-    let lines: Vec<_> = table
-        .lines()
-        .skip(1)
-        .map(|line| {
-            let fields: Vec<&str> = line.split('\t').collect();
-            let file = std::fs::read(format!("{folder}{}", fields[0])).expect(fields[0]);
-            (fields[0].to_string(), fields[1].parse().unwrap(), fields[2].to_string(), file)
-        })
-        .collect();
-    assert!(!lines.is_empty());
+const FOLDER: &str = concat!(env!("CARGO_MANIFEST_DIR"), "/../real");
+
+/// The lines of a table behind its heading, each as its fields.
+fn lines_of(path: &str) -> Vec<Vec<String>> {
+    let table = std::fs::read_to_string(format!("{FOLDER}/{path}")).expect(path);
+    let lines: Vec<_> = table.lines().skip(1).map(|line| line.split('\t').map(str::to_string).collect()).collect();
+    assert!(!lines.is_empty(), "{path}");
     lines
+}
+
+/// Each line of a folder's table: file, dimension, and the answer as `accepted E D M` or `refused N P`.
+fn table(folder: &str) -> Vec<(String, u64, String, Vec<u8>)> {
+    let lines = lines_of(&format!("{folder}TABLE.tsv")).into_iter();
+    let files = lines.map(|line| {
+        let [name, dim, answer, ..] = &line[..] else { panic!("{line:?}") };
+        let file = std::fs::read(format!("{FOLDER}/{folder}{name}")).expect(name);
+        (name.clone(), dim.parse().expect("2 or 3"), answer.clone(), file)
+    });
+    files.collect()
+}
+
+/// The answer of both to a file is that of its table.
+fn answered(runs: &mut Runs, name: &str, dim: u64, answer: &str, file: &[u8]) {
+    let ours = match runs.judge(file, dim) {
+        Ok(j) => format!("accepted {} {} {}", j.elements, j.deepest, j.marker),
+        Err(r) => format!("refused {} {}", r.number, r.place),
+    };
+    assert_eq!(ours, answer, "{name}");
 }
 
 /// The answers of the table, and every call at every place.
 pub fn run(runs: &mut Runs) {
-    for (name, dim, answer, file) in table() {
-        let ours = match runs.judge(&file, dim) {
-            Ok(j) => format!("accepted {} {} {}", j.elements, j.deepest, j.marker),
-            Err(r) => format!("refused {} {}", r.number, r.place),
-        };
-        assert_eq!(ours, answer, "{name}");
+    for (name, dim, answer, file) in table("") {
+        answered(runs, &name, dim, &answer, &file);
         runs.everywhere(&file, dim);
         whole::every_part(runs, &file, dim);
         bindings::file(runs, &file, dim);
@@ -45,9 +57,104 @@ pub fn run(runs: &mut Runs) {
     }
 }
 
+/// A field of the table of texts, `-` where there is none.
+fn number(field: &str) -> i64 {
+    if field == "-" {
+        0
+    } else {
+        field.parse().expect(field)
+    }
+}
+
+/// The text at a place as one line of the table has it.
+fn text_of(file: &[u8], dim: u64, line: &[String]) {
+    let [_, place, _, depth, deleted, _, font, just, length, height, turn, x, y, z, characters, fields, hex, each, odd, ..] = line else {
+        panic!("{line:?}");
+    };
+    let place = number(place) as u64;
+    let mut wanted: Vec<i64> = [font, just, length, height].iter().map(|field| number(field)).collect();
+    let mut turn: Vec<i64> = turn.split(',').map(number).collect();
+    turn.resize(4, 0);
+    wanted.extend(turn);
+    wanted.extend([x, y, z, characters, fields].iter().map(|field| number(field)));
+    wanted.push(if odd == "-" { -1 } else { i64::from_str_radix(odd, 16).expect(odd) });
+    let text = library::text(file, dim, place).expect("a text");
+    assert_eq!(text[..14], wanted[..], "{line:?}");
+    let (start, count) = library::characters(file, dim, place).expect("a text");
+    assert_eq!((start as i64, count as i64), (text[14], text[11]));
+    let part = &file[start as usize..(start + count) as usize];
+    let digits: String = part.iter().map(|byte| format!("{byte:02x}")).collect();
+    assert_eq!(digits, if hex == "-" { "" } else { hex }, "{line:?}");
+    let each = each.split(';').filter(|field| *field != "-");
+    let fields: Vec<String> = (0..)
+        .map_while(|k| library::field(file, dim, place, k).ok())
+        .map(|field| format!("{}:{}:{}", field.first, field.length, field.justification))
+        .collect();
+    assert!(each.eq(fields.iter().map(String::as_str)), "{line:?}");
+    let view = library::view(file, dim, place).expect("a text");
+    assert_eq!([view[2], view[3], view[5]], [17, number(deleted), number(depth)], "{line:?}");
+}
+
+/// The files with texts: the answers of their table, every text as the table of texts has it and no others, every call at
+/// every place where one begins and beside it, and their listings.
+pub fn texts(runs: &mut Runs) {
+    let lines = lines_of("texts/TEXTS.tsv");
+    let mut checked = 0;
+    for (name, dim, answer, file) in table("texts/") {
+        answered(runs, &name, dim, &answer, &file);
+        let own: Vec<_> = lines.iter().filter(|line| line[0] == name).collect();
+        assert!(!own.is_empty(), "{name}");
+        let given = library::texts(&file, dim, 0, 18 * own.len());
+        if let Ok((_, numbers)) = &given {
+            let places = numbers.chunks(18).map(|text| text[0]);
+            assert!(places.eq(own.iter().map(|line| number(&line[1]))), "{name}");
+            own.iter().for_each(|line| text_of(&file, dim, line));
+            checked += own.len();
+        }
+        assert_eq!(given.is_ok(), answer.starts_with("accepted"), "{name}");
+        for line in own {
+            let place = number(&line[1]) as u64;
+            for p in [place.saturating_sub(1), place, place + 1] {
+                (0..4).for_each(|k| runs.at(&file, dim, p, k));
+            }
+        }
+        for k in [0, 1, 5, u64::MAX] {
+            for room in [0, 17, 18, 35, 36, 40, 1000, 100_000] {
+                runs.part(&file, dim, k, room);
+            }
+        }
+        bindings::file(runs, &file, dim);
+        program::check(&file);
+    }
+    assert!(checked > 600, "{checked}");
+}
+
+/// The files with texts damaged: every word from the first text on changed, to a value that is drawn, every such cut, and
+/// counts and fields changed; every call on each.
+pub fn damaged_texts(random: &mut Random, runs: &mut Runs) {
+    let lines = lines_of("texts/TEXTS.tsv");
+    for (name, dim, _, file) in table("texts/") {
+        let first = lines.iter().find(|line| line[0] == name).map(|line| number(&line[1])).expect("a text");
+        let mut copy = file.clone();
+        for i in first as usize..file.len() / 2 {
+            let old = [copy[2 * i], copy[2 * i + 1]];
+            let new = random.pick(&changes_of(u16::from_le_bytes(old)));
+            copy[2 * i..2 * i + 2].copy_from_slice(&new.to_le_bytes());
+            let _ = runs.all(random, &copy, dim);
+            copy[2 * i..2 * i + 2].copy_from_slice(&old);
+            let _ = runs.all(random, &file[..2 * i], dim);
+        }
+        for _ in 0..200 {
+            changes::change_text(random, &mut copy, dim);
+            let _ = runs.all(random, &copy, dim);
+            copy.copy_from_slice(&file);
+        }
+    }
+}
+
 /// Every edit at every place of those that are accepted, each undone.
 pub fn sessions(random: &mut Random, runs: &mut Runs) {
-    for (_, dim, answer, file) in table() {
+    for (_, dim, answer, file) in table("").into_iter().chain(table("texts/")) {
         if answer.starts_with("accepted") {
             let marker: usize = answer.rsplit(' ').next().and_then(|m| m.parse().ok()).expect("the marker's place");
             sessions::everywhere(random, runs, sessions::ample(&file[..2 * marker + 2], dim));
@@ -55,14 +162,19 @@ pub fn sessions(random: &mut Random, runs: &mut Runs) {
     }
 }
 
+/// The values that a word is changed to.
+fn changes_of(word: u16) -> [u16; 8] {
+    [word ^ 1, word ^ 0x40, word ^ 0x80, word ^ 0x0100, word ^ 0x8000, word.wrapping_add(1), 0, 65535]
+}
+
 /// Every word changed, one at a time, to several values, and every cut; every call on each.
 pub fn changed(random: &mut Random, runs: &mut Runs) {
-    for (_, dim, _, file) in table() {
+    for (_, dim, _, file) in table("") {
         let mut copy = file.clone();
         for i in 0..file.len() / 2 {
             let old = [copy[2 * i], copy[2 * i + 1]];
             let word = u16::from_le_bytes(old);
-            for new in [word ^ 1, word ^ 0x40, word ^ 0x80, word ^ 0x0100, word ^ 0x8000, word.wrapping_add(1), 0, 65535] {
+            for new in changes_of(word) {
                 copy[2 * i..2 * i + 2].copy_from_slice(&new.to_le_bytes());
                 let _ = runs.all(random, &copy, dim);
             }

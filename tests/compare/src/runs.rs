@@ -3,12 +3,13 @@
 
 use crate::edited::Edited;
 use crate::guard::Side;
-use crate::library;
+use crate::library::{self, TextCall};
 use crate::seen::Seen;
 use crate::whole;
+use reader::generate::text_writes::TextWrite;
 use reader::generate::writes::Write;
 use reader::generate::{place, places, texts, Random};
-use reader::{Judged, Refusal, View};
+use reader::{Judged, Refusal, Text, View};
 
 /// What was run so far.
 #[derive(Default)]
@@ -52,6 +53,52 @@ pub fn point_numbers(point: &[i32]) -> [i64; 3] {
     for (slot, &value) in numbers.iter_mut().zip(point) {
         *slot = i64::from(value);
     }
+    numbers
+}
+
+/// The text at a place as 15 numbers.
+pub fn text_numbers(text: &Text, p: u64, dim: u64) -> [i64; 15] {
+    let mut turn = [0; 4];
+    for (slot, &long) in turn.iter_mut().zip(&text.rotation) {
+        *slot = i64::from(long);
+    }
+    let [x, y, z] = point_numbers(&text.origin);
+    let odd = (text.characters + 3 * text.fields) % 2 == 1;
+    [
+        text.font.into(),
+        text.justification.into(),
+        text.length_multiplier.into(),
+        text.height_multiplier.into(),
+        turn[0],
+        turn[1],
+        turn[2],
+        turn[3],
+        x,
+        y,
+        z,
+        text.characters as i64,
+        text.fields as i64,
+        if odd { text.spare.into() } else { -1 },
+        (2 * p + if dim == 2 { 60 } else { 76 }) as i64,
+    ]
+}
+
+/// The twelve numbers that the writer of a text takes: 0 for what a dimension does not have, and for an odd byte where there
+/// is none.
+pub fn written_numbers(text: &reader::TextFields) -> [i64; 12] {
+    let mut numbers = [0; 12];
+    let first = [text.font, text.justification, text.length_multiplier, text.height_multiplier];
+    for (slot, &value) in numbers.iter_mut().zip(&first) {
+        *slot = value as i64;
+    }
+    for (slot, &long) in numbers[4..8].iter_mut().zip(&text.rotation) {
+        *slot = long as i64;
+    }
+    for (slot, &axis) in numbers[8..11].iter_mut().zip(&text.origin) {
+        *slot = axis;
+    }
+    // -1 may stand where there is no odd byte
+    numbers[11] = i64::try_from(text.spare).unwrap_or(i64::MAX);
     numbers
 }
 
@@ -105,11 +152,21 @@ impl Runs {
             reader::view(file, dim, p).map(|v| view_numbers(&v, p)),
             "view at {p}, {dim}D, {file:02x?}"
         );
-        self.calls += 2;
+        assert_eq!(
+            library::text(file, dim, p),
+            reader::read_text(file, dim, p).map(|t| text_numbers(&t, p, dim)),
+            "text at {p}, {dim}D, {file:02x?}"
+        );
+        assert_eq!(
+            library::characters(file, dim, p),
+            reader::text_characters(file, dim, p),
+            "characters at {p}, {dim}D, {file:02x?}"
+        );
+        self.calls += 4;
         self.numbered(file, dim, p, k);
     }
 
-    /// A point and a linkage by number.
+    /// A point, a linkage and a field by number.
     pub fn numbered(&mut self, file: &[u8], dim: u64, p: u64, k: u64) {
         assert_eq!(
             library::point(file, dim, p, k),
@@ -121,7 +178,12 @@ impl Runs {
             reader::linkage(file, dim, p, k),
             "linkage {k} at {p}, {dim}D, {file:02x?}"
         );
-        self.calls += 2;
+        assert_eq!(
+            library::field(file, dim, p, k),
+            reader::text_field(file, dim, p, k),
+            "field {k} at {p}, {dim}D, {file:02x?}"
+        );
+        self.calls += 3;
     }
 
     /// Every call: at a place that is mostly an element's start, and with a text that is mostly a name.
@@ -162,6 +224,24 @@ impl Runs {
         let mut theirs = ours.clone();
         let answer = library::write(&field_numbers(&w.fields), &w.points, &w.tail, w.dim, &mut ours);
         let expected = reader::write(&w.fields, &w.points, &w.tail, w.dim, &mut theirs);
+        assert_eq!(answer, expected, "{w:?}");
+        assert_eq!(ours, theirs, "{w:?}");
+        self.calls += 1;
+        answer.ok().map(|words| {
+            ours.truncate(2 * words as usize);
+            ours
+        })
+    }
+
+    /// One call of the writer of texts, in the same way.
+    pub fn write_text(&mut self, w: &TextWrite) -> Option<Vec<u8>> {
+        let mut ours = vec![w.fill; w.room];
+        let mut theirs = ours.clone();
+        let (fields, numbers) = (field_numbers(&w.text.header), written_numbers(&w.text));
+        let TextWrite { characters, fields: triples, tail, dim, .. } = w;
+        let call = TextCall { fields: &fields, numbers: &numbers, characters, triples, tail, dim: *dim };
+        let answer = call.write(&mut ours);
+        let expected = reader::write_text(&w.text, characters, triples, tail, *dim, &mut theirs);
         assert_eq!(answer, expected, "{w:?}");
         assert_eq!(ours, theirs, "{w:?}");
         self.calls += 1;

@@ -7,7 +7,7 @@ use crate::refusal::{self, Refusal};
 use crate::words::word;
 
 /// The most bytes that the program reads.
-const MOST: usize = 65_536;
+pub(crate) const MOST: usize = 65_536;
 
 /// The whole output for a 2D file on standard input.
 pub fn celllist(input: &[u8]) -> Vec<u8> {
@@ -19,11 +19,13 @@ pub fn celllist(input: &[u8]) -> Vec<u8> {
     }
     let mut out = b"PLACE DEPTH TYPE WORDS STATE NAME\n".to_vec();
     let judged = judge_seeing(input, 2, |seen| {
-        let first = word(input, seen.place);
-        let state = if first >> 15 == 1 { "dead" } else { "live" };
         let line = format!(
             "{} {} {} {} {}",
-            seen.place, seen.depth, seen.kind, seen.size, state
+            seen.place,
+            seen.depth,
+            seen.kind,
+            seen.size,
+            state(input, seen.place)
         );
         out.extend_from_slice(line.as_bytes());
         if let Some(offset) = layout::name_word(seen.kind) {
@@ -47,6 +49,16 @@ pub fn celllist(input: &[u8]) -> Vec<u8> {
     }
 }
 
-fn refused(refusal: &Refusal) -> Vec<u8> {
+/// The state of the element at a place.
+pub(crate) fn state(file: &[u8], place: u64) -> &'static str {
+    if word(file, place) >> 15 == 1 {
+        "dead"
+    } else {
+        "live"
+    }
+}
+
+/// What is printed of a refused file.
+pub(crate) fn refused(refusal: &Refusal) -> Vec<u8> {
     format!("REFUSED {} {}\n", refusal.number, refusal.place).into_bytes()
 }

@@ -7,6 +7,7 @@ use crate::layout;
 use crate::linkage;
 use crate::names;
 use crate::refusal::{self, at, plain, Refusal};
+use crate::text;
 use crate::words::{count, word};
 
 /// What an accepted file holds.
@@ -147,6 +148,9 @@ impl<F: FnMut(&Seen)> Judging<'_, F> {
         if self.short(place, kind, size) {
             return at(refusal::SHORT, place);
         }
+        if kind == 17 && text::a_field_is_wrong(self.bytes, self.dim, place) {
+            return at(refusal::FIELD, place);
+        }
         let end = match self.extent_end(place, kind, size, bound) {
             Some(end) => end,
             None => return at(refusal::TOTAL, place),
@@ -198,14 +202,14 @@ impl<F: FnMut(&Seen)> Judging<'_, F> {
 
     /// The size is below the fixed part, or N is out of range.
     fn short(&self, place: u64, kind: u64, size: u64) -> bool {
-        if !layout::has_points_counted(kind) {
-            return size < layout::fixed_part(kind, self.dim, 0);
-        }
-        if size < 19 {
-            return true;
-        }
-        let n = word(self.bytes, place + 18);
-        !layout::good_n(n) || size < layout::fixed_part(kind, self.dim, n)
+        let sizing = match layout::sizing_word(kind, self.dim) {
+            None => 0,
+            // That word may be another element's.
+            Some(offset) if size <= offset => return true,
+            Some(offset) => word(self.bytes, place + offset),
+        };
+        let wrong_n = layout::has_points_counted(kind) && !layout::good_n(sizing);
+        wrong_n || size < layout::fixed_part(kind, self.dim, sizing)
     }
 
     /// Where the extent ends; none where the size or the total is wrong.

@@ -64,7 +64,33 @@ pub fn point_word(kind: u64) -> Option<u64> {
     }
 }
 
-/// The words of the fixed part; 2 for a raw type. `n` is word 18.
+/// The offset of the two counts of a text: characters in the low byte, fields
+/// in the high one. The characters follow, then the fields, three bytes each.
+pub fn counts_word(dim: u64) -> u64 {
+    if dim == 3 {
+        37
+    } else {
+        29
+    }
+}
+
+/// The counts in such a word: characters and fields.
+pub fn counts(word: u64) -> (u64, u64) {
+    (word & 255, word >> 8 & 255)
+}
+
+/// The offset of the word that sizes the fixed part, in types that have one:
+/// N, or the counts of a text.
+pub fn sizing_word(kind: u64, dim: u64) -> Option<u64> {
+    match kind {
+        4 | 6 | 11 | 21 => Some(18),
+        17 => Some(counts_word(dim)),
+        _ => None,
+    }
+}
+
+/// The words of the fixed part; 2 for a raw type. `n` is the word that sizes
+/// it.
 pub fn fixed_part(kind: u64, dim: u64, n: u64) -> u64 {
     let solid = dim == 3;
     match kind {
@@ -92,7 +118,11 @@ pub fn fixed_part(kind: u64, dim: u64, n: u64) -> u64 {
             }
         }
         12 | 14 => 20,
-        17 => 18,
+        17 => {
+            // The bytes of characters and fields, rounded up once.
+            let (characters, fields) = counts(n);
+            counts_word(dim) + 1 + (characters + 3 * fields).div_ceil(2)
+        }
         18 | 19 => 21,
         _ => 2,
     }

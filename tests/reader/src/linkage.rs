@@ -86,7 +86,8 @@ fn part(bytes: &[u8], dim: u64, place: u64, kind: u64, size: u64) -> Option<Opti
     if !layout::has_display(kind) || !has_a(word(bytes, place + 16)) {
         return None;
     }
-    let fixed = layout::fixed_part(kind, dim, word(bytes, place + 18));
+    let sizing = layout::sizing_word(kind, dim).map_or(0, |offset| word(bytes, place + offset));
+    let fixed = layout::fixed_part(kind, dim, sizing);
     let index = word(bytes, place + 15);
     Some(part_begin(index, fixed, size).map(|begin| place + begin))
 }

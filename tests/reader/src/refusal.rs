@@ -35,6 +35,7 @@ pub const JOURNAL: u32 = 16;
 pub const NOTHING: u32 = 17;
 pub const NOT_A_CELL: u32 = 18;
 pub const BAD_JOURNAL: u32 = 19;
+pub const FIELD: u32 = 20;
 
 /// A refusal at a place.
 pub(crate) fn at<T>(number: u32, place: u64) -> Result<T, Refusal> {

@@ -23,11 +23,11 @@ pub struct Fields {
 }
 
 impl Fields {
-    fn in_range(&self) -> bool {
+    /// Whether each field but the type is in its range.
+    pub(crate) fn in_range(&self) -> bool {
         let word = u64::from(u16::MAX);
         let long = u64::from(u32::MAX);
-        matches!(self.kind, 3 | 4 | 6 | 11)
-            && self.level <= 63
+        self.level <= 63
             && self.c <= 1
             && self.deleted <= 1
             && self.range.iter().all(|&value| value <= long)
@@ -37,6 +37,35 @@ impl Fields {
             && self.style <= 7
             && self.weight <= 31
             && self.colour <= 255
+    }
+
+    /// Whether the attribute part is in order in an element of that fixed
+    /// part and tail. With A clear there is none.
+    pub(crate) fn links_fit(&self, fixed: u64, tail: &[u8]) -> bool {
+        if !linkage::has_a(self.properties) {
+            return true;
+        }
+        let words = count(tail);
+        match linkage::part_begin(self.attribute_index, fixed, fixed + words) {
+            Some(begin) => linkage::filled(tail, begin - fixed, words),
+            None => false,
+        }
+    }
+
+    /// Writes words 0 to 17 of an element of that size.
+    pub(crate) fn put(&self, out: &mut [u8], size: u64) {
+        let first = self.level | self.c << 7 | self.kind << 8 | self.deleted << 15;
+        put(out, 0, first);
+        put(out, 1, size - 2);
+        let mut next = 2;
+        for value in self.range {
+            put_long(out, &mut next, value);
+        }
+        put(out, 14, self.graphic_group);
+        put(out, 15, self.attribute_index);
+        put(out, 16, self.properties);
+        let symbology = self.style | self.weight << 3 | self.colour << 8;
+        put(out, 17, symbology);
     }
 }
 
@@ -48,7 +77,8 @@ pub fn write(
     dim: u64,
     out: &mut [u8],
 ) -> Result<u64, Refusal> {
-    if !layout::good_dimension(dim) || !fields.in_range() || tail.len() % 2 != 0 {
+    let written = matches!(fields.kind, 3 | 4 | 6 | 11);
+    if !layout::good_dimension(dim) || !written || !fields.in_range() || tail.len() % 2 != 0 {
         return plain(refusal::CALL);
     }
     let numbers = points.len() as u64;
@@ -64,38 +94,15 @@ pub fn write(
     if size > layout::LARGEST {
         return plain(refusal::TOTAL);
     }
-    if linkage::has_a(fields.properties) {
-        let good = match linkage::part_begin(fields.attribute_index, fixed, size) {
-            Some(begin) => linkage::filled(tail, begin - fixed, count(tail)),
-            None => false,
-        };
-        if !good {
-            return plain(refusal::LINKAGE);
-        }
+    if !fields.links_fit(fixed, tail) {
+        return plain(refusal::LINKAGE);
     }
     if (out.len() as u64) < size * 2 {
         return plain(refusal::ROOM);
     }
 
-    put(
-        out,
-        0,
-        fields.level | fields.c << 7 | fields.kind << 8 | fields.deleted << 15,
-    );
-    put(out, 1, size - 2);
-    let mut next = 2;
-    for value in fields.range {
-        put_long(out, &mut next, value);
-    }
-    put(out, 14, fields.graphic_group);
-    put(out, 15, fields.attribute_index);
-    put(out, 16, fields.properties);
-    put(
-        out,
-        17,
-        fields.style | fields.weight << 3 | fields.colour << 8,
-    );
-    next = 18;
+    fields.put(out, size);
+    let mut next = 18;
     if fields.kind != 3 {
         put(out, next, n);
         next += 1;
@@ -109,7 +116,7 @@ pub fn write(
 }
 
 /// Writes a long, high word first, and steps past it.
-fn put_long(out: &mut [u8], next: &mut u64, value: u64) {
+pub(crate) fn put_long(out: &mut [u8], next: &mut u64, value: u64) {
     put(out, *next, value >> 16);
     put(out, *next + 1, value);
     *next += 2;

@@ -140,8 +140,8 @@ fn totals_in_the_book() {
     );
     let mut wanted = words_of(&start);
     wanted.splice(92..92, text(true));
-    wanted[18] += 18;
-    wanted[46 + 18] += 18;
+    wanted[18] += 30;
+    wanted[46 + 18] += 30;
     wanted[46 + 19] += 1;
     assert_eq!(book.words(), Some(wanted));
     book.feed(&Call::Remove { place: 66 }, false);

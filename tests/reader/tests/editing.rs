@@ -122,8 +122,8 @@ fn places_not_there() {
         400,
         0,
     );
-    // 0 cell, 46 cell, 92 line, 118 text, 136 line, 162 marker.
-    for place in [1, 45, 47, 161, 162, 163, 1 << 32, u64::MAX] {
+    // 0 cell, 46 cell, 92 line, 118 text, 148 line, 174 marker.
+    for place in [1, 45, 47, 173, 174, 175, 1 << 32, u64::MAX] {
         refuse(
             &state,
             &Call::Mark {
@@ -151,17 +151,17 @@ fn places_not_there() {
     };
     let good = [
         (None, 0),
-        (None, 136),
-        (None, 162),
+        (None, 148),
+        (None, 174),
         (Some(0), 46),
         (Some(0), 118),
-        (Some(0), 136),
+        (Some(0), 148),
         (Some(46), 92),
         (Some(46), 118),
     ];
-    let headers = [0, 1, 46, 92, 118, 136, 162, 1 << 32, u64::MAX];
+    let headers = [0, 1, 46, 92, 118, 148, 174, 1 << 32, u64::MAX];
     for header in headers.into_iter().map(Some).chain([None]) {
-        for place in (0..170).chain([1 << 32, u64::MAX]) {
+        for place in (0..180).chain([1 << 32, u64::MAX]) {
             // The empty piece is cut, which comes after 13.
             let number = if good.contains(&(header, place)) {
                 3
@@ -335,28 +335,28 @@ fn renaming() {
 fn removing() {
     let chain = header(12, true, 20, &[line(true), text(true)]);
     let start = [cell(false, &[chain, text(true)]), line(false)];
-    let mut state = session(&file(&start), 8, 12 + 36);
-    // 0 cell, 46 chain, 66 line, 92 text, 110 text, 128 line, 154 marker.
+    let mut state = session(&file(&start), 8, 12 + 60);
+    // 0 cell, 46 chain, 66 line, 92 text, 122 text, 152 line, 178 marker.
     let mut wanted = used_words(&state);
     let old = state.used as usize;
-    wanted.drain(92..110);
-    wanted[18] -= 18;
-    wanted[46 + 18] -= 18;
+    wanted.drain(92..122);
+    wanted[18] -= 30;
+    wanted[46 + 18] -= 30;
     wanted[46 + 19] = 1;
     assert_eq!(state.run(&Call::Remove { place: 92 }), Ok(()));
     assert_eq!(used_words(&state), wanted);
-    assert_eq!((state.used as usize, state.jused), (old - 36, 48));
-    assert!(state.file[old - 36..old].iter().all(|&byte| byte == 0));
+    assert_eq!((state.used as usize, state.jused), (old - 60, 72));
+    assert!(state.file[old - 60..old].iter().all(|&byte| byte == 0));
     assert!(state.file[old..].iter().all(|&byte| byte == 0xAA));
-    assert_eq!(words_of(&state.journal[..36]), text(true));
-    assert_eq!(trailer(&state), [4, 0, 46, 0, 92, 18]);
+    assert_eq!(words_of(&state.journal[..60]), text(true));
+    assert_eq!(trailer(&state), [4, 0, 46, 0, 92, 30]);
     assert!(judge(state.used_file(), 2).is_ok());
     // A whole top-level extent.
-    let mut state = session(&file(&start), 0, 12 + 256);
+    let mut state = session(&file(&start), 0, 12 + 304);
     assert_eq!(state.run(&Call::Remove { place: 0 }), Ok(()));
     assert_eq!(used_words(&state), [line(false), vec![MARKER]].concat());
-    assert_eq!(trailer(&state), [4, 0xFFFF, 0xFFFF, 0, 0, 128]);
-    let short = session(&file(&start), 0, 12 + 254);
+    assert_eq!(trailer(&state), [4, 0xFFFF, 0xFFFF, 0, 0, 152]);
+    let short = session(&file(&start), 0, 12 + 302);
     refuse(&short, &Call::Remove { place: 0 }, 16, 0);
 }
 

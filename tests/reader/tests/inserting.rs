@@ -15,14 +15,14 @@ fn inserting() {
         cell(false, &[cell(true, &[shape])]),
         line(false),
     ];
-    let mut state = session(&file(&start), 36, 12);
+    let mut state = session(&file(&start), 60, 12);
     // 0 line, 26 cell, 72 cell, 118 shape, 138 line, 164 line, 190 marker.
     let piece = text(true);
     let mut wanted = used_words(&state);
     wanted.splice(164..164, piece.clone());
-    wanted[26 + 18] += 18;
-    wanted[72 + 18] += 18;
-    wanted[118 + 18] += 18;
+    wanted[26 + 18] += 30;
+    wanted[72 + 18] += 30;
+    wanted[118 + 18] += 30;
     wanted[118 + 19] += 1;
     let call = Call::Insert {
         header: Some(118),
@@ -31,14 +31,14 @@ fn inserting() {
     };
     assert_eq!(state.run(&call), Ok(()));
     assert_eq!(used_words(&state), wanted);
-    assert_eq!((state.used, state.jused), (191 * 2 + 36, 12));
+    assert_eq!((state.used, state.jused), (191 * 2 + 60, 12));
     assert_eq!(trailer(&state), [3, 0, 118, 0, 164, 0]);
     assert!(judge(state.used_file(), 2).is_ok());
     // The same place under the outer header: its own totals only.
-    let mut state = session(&file(&start), 36, 12);
+    let mut state = session(&file(&start), 60, 12);
     let mut wanted = used_words(&state);
     wanted.splice(164..164, piece.clone());
-    wanted[26 + 18] += 18;
+    wanted[26 + 18] += 30;
     let call = Call::Insert {
         header: Some(26),
         place: 164,
@@ -47,7 +47,7 @@ fn inserting() {
     assert_eq!(state.run(&call), Ok(()));
     assert_eq!(used_words(&state), wanted);
     // At the top, at the list's end.
-    let mut state = session(&file(&start), 36, 12);
+    let mut state = session(&file(&start), 60, 12);
     let call = Call::Insert {
         header: None,
         place: 190,
@@ -55,7 +55,7 @@ fn inserting() {
     };
     assert_eq!(state.run(&call), Ok(()));
     assert_eq!(trailer(&state), [3, 0xFFFF, 0xFFFF, 0, 190, 0]);
-    assert_eq!(used_words(&state)[208], MARKER);
+    assert_eq!(used_words(&state)[220], MARKER);
     assert!(judge(state.used_file(), 2).is_ok());
 }
 

@@ -106,7 +106,7 @@ fn what_stands_where() {
                 .elements,
             1
         );
-        assert_eq!(under(kind, 21, element(17, true, 18), 3), Ok(2));
+        assert_eq!(under(kind, 21, solid_text(true), 3), Ok(2));
         assert_eq!(
             under(kind, 21, header(12, true, 20, &[]), 3),
             refused(6, 21)
@@ -146,7 +146,7 @@ fn fixed_parts() {
         (7, 35, 43),
         (12, 20, 20),
         (14, 20, 20),
-        (17, 18, 18),
+        (17, 30, 38),
         (18, 0, 21),
     ];
     for (kind, flat, solid) in table {
@@ -158,7 +158,7 @@ fn fixed_parts() {
                 let mut words = element(kind, false, size);
                 if [4, 6, 11, 21].contains(&kind) {
                     words[18] = 2;
-                } else if size > 18 {
+                } else if size > 18 && kind != 17 {
                     words[18] = (size - 19) as u16;
                 }
                 file(&[words])
@@ -287,9 +287,14 @@ fn counts() {
         (18, 21, 3),
         (19, 21, 3),
     ] {
-        let mut dead = text(true);
+        let live = if dim == 3 {
+            solid_text(true)
+        } else {
+            text(true)
+        };
+        let mut dead = live.clone();
         dead[0] |= 1 << 15;
-        let good = header(kind, false, own, &[text(true), dead]);
+        let good = header(kind, false, own, &[live, dead]);
         assert_eq!(judge(&file(&[good.clone()]), dim).unwrap().elements, 3);
         for count in [0, 1, 3, 65535] {
             let mut words = good.clone();

@@ -37,6 +37,38 @@ fn one_to_one() {
     }
 }
 
+// Each of the 65,536 words as either word of a name: its letters by dividing,
+// each at its code. "Code 29 and words above 63999 are refused."
+#[test]
+fn every_word() {
+    const CODES: &[u8; 40] = b" ABCDEFGHIJKLMNOPQRSTUVWXYZ$.-0123456789";
+    let letters = |word: u16| {
+        let codes = [word / 1600, word / 40 % 40, word % 40];
+        let good = word <= 63_999 && !codes.contains(&29);
+        good.then(|| codes.map(|code| CODES[usize::from(code)]))
+    };
+    let mut good = 0;
+    for word in 0..=u16::MAX {
+        good += u32::from(letters(word).is_some());
+        // 417 as the other word, nothing, the word itself, and no name.
+        for other in [55_677, 0, word, 29] {
+            for (first, second) in [(word, other), (other, word)] {
+                let wanted = match (letters(first), letters(second)) {
+                    (Some(left), Some(right)) => {
+                        let six = [left, right].concat();
+                        let end = six.iter().rposition(|&letter| letter != b' ');
+                        Ok(six[..end.map_or(0, |last| last + 1)].to_vec())
+                    }
+                    _ => refused(12, 0),
+                };
+                assert_eq!(unpack(first, second), wanted, "{first} {second}");
+            }
+        }
+    }
+    // 39 letters at each of three places.
+    assert_eq!(good, 39 * 39 * 39);
+}
+
 // "space 0, A-Z 1-26, $ 27, . 28, 0-9 30-39; a word is a·1600 + b·40 + c".
 #[test]
 fn letters() {

@@ -11,6 +11,8 @@ use reader::*;
 fn read_all(random: &mut Random, file: &[u8], dim: u64) {
     let judged = judge(file, dim);
     let _ = celllist(file);
+    let _ = textlist(file, dim);
+    assert_eq!(texts_from(file, dim, 0).err(), judged.clone().err());
     let text = generate::texts::any_text(random);
     let found = find(file, dim, &text);
     let k = random.pick(&[0, 1, 2, 3, 1 << 32, u64::MAX]);
@@ -22,6 +24,21 @@ fn read_all(random: &mut Random, file: &[u8], dim: u64) {
             extent(file, dim, place).err(),
             linkage(file, dim, place, k).err(),
         ];
+        let texts = [
+            read_text(file, dim, place).err(),
+            text_characters(file, dim, place).err(),
+            text_field(file, dim, place, k).err(),
+        ];
+        for answer in texts {
+            match (&judged, answer) {
+                (Ok(_), Some(other)) if other.number == 6 => {
+                    assert_eq!(other.place, place);
+                    assert_ne!(view(file, dim, place).unwrap().kind, 17);
+                }
+                (Ok(_), answer) => assert!(answer.is_none() || answer == Some(refusal(13, 0))),
+                (Err(own), answer) => assert_eq!(answer.as_ref(), Some(own)),
+            }
+        }
         for answer in answers {
             match &judged {
                 Ok(_) => assert!(answer.is_none() || answer == Some(refusal(13, 0))),
@@ -112,7 +129,7 @@ fn editing_any_state() {
             }
         }
     }
-    let all: Vec<u32> = (1..=19).collect();
+    let all: Vec<u32> = (1..=20).collect();
     assert_eq!(seen.into_iter().collect::<Vec<_>>(), all);
 }
 

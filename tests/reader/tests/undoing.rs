@@ -23,7 +23,7 @@ fn refuse(state: &State, number: u32) {
     assert_eq!(&after, state);
 }
 
-/// 0 cell, 46 chain, 66 line, 92 text, 110 line at the top, 136 marker.
+/// 0 cell, 46 chain, 66 line, 92 text, 122 line at the top, 148 marker.
 fn start() -> Vec<u8> {
     let chain = header(12, true, 20, &[line(true), text(true)]);
     file(&[cell(false, &[chain]), line(false)])
@@ -51,17 +51,17 @@ fn each_edit_undone() {
         },
         Call::Insert {
             header: Some(46),
-            place: 110,
+            place: 122,
             piece: bytes_of(&text(true)),
         },
         Call::Insert {
             header: Some(0),
-            place: 110,
+            place: 122,
             piece: bytes_of(&text(true)),
         },
         Call::Insert {
             header: None,
-            place: 110,
+            place: 122,
             piece: bytes_of(&text(false)),
         },
         Call::Remove { place: 92 },
@@ -81,8 +81,8 @@ fn each_edit_undone() {
         if let Call::Insert { .. } = edit {
             // The words freed at the end are zero.
             let used = state.used as usize;
-            assert!(state.file[used..used + 36].iter().all(|&byte| byte == 0));
-            assert_eq!(state.file[used + 36..], before.file[used + 36..]);
+            assert!(state.file[used..used + 60].iter().all(|&byte| byte == 0));
+            assert_eq!(state.file[used + 60..], before.file[used + 60..]);
         }
         refuse(&state, 17);
     }
@@ -143,7 +143,7 @@ fn reversals_not_allowed() {
     };
     // A flag: the bit is turned over, whichever way it stands.
     good(&record(1, TOP, 66, &[]));
-    for place in [1, 136, 137, 1 << 31, TOP] {
+    for place in [1, 148, 149, 1 << 31, TOP] {
         bad(&record(1, TOP, place, &[]));
         bad(&record(2, TOP, place, &[1600, 0]));
         bad(&record(3, TOP, place, &[]));
@@ -155,17 +155,17 @@ fn reversals_not_allowed() {
     bad(&record(2, TOP, 0, &[0, 29]));
     // A removed extent: 13, the piece's own, words left over, 8.
     let piece = text(true);
-    good(&record(4, 46, 110, &piece));
-    good(&record(4, 0, 110, &piece));
-    bad(&record(4, TOP, 110, &piece));
-    good(&record(4, TOP, 110, &text(false)));
+    good(&record(4, 46, 122, &piece));
+    good(&record(4, 0, 122, &piece));
+    bad(&record(4, TOP, 122, &piece));
+    good(&record(4, TOP, 122, &text(false)));
     bad(&record(4, 66, 92, &piece));
     bad(&record(4, 46, 67, &piece));
     bad(&record(4, 47, 66, &piece));
-    bad(&record(4, TOP - 1, 110, &piece));
-    bad(&record(4, TOP, 110, &[]));
-    bad(&record(4, TOP, 110, &element(24, false, 2)));
-    bad(&record(4, TOP, 110, &[text(false), vec![0]].concat()));
+    bad(&record(4, TOP - 1, 122, &piece));
+    bad(&record(4, TOP, 122, &[]));
+    bad(&record(4, TOP, 122, &element(24, false, 2)));
+    bad(&record(4, TOP, 122, &[text(false), vec![0]].concat()));
 }
 
 // "8 at the outermost enclosing header that would grow too large" as a cause
@@ -182,9 +182,9 @@ fn reversal_too_large() {
 // header place."
 #[test]
 fn placed_elsewhere() {
-    let elements = [(0, TOP), (46, 0), (66, 46), (92, 46), (110, TOP)];
+    let elements = [(0, TOP), (46, 0), (66, 46), (92, 46), (122, TOP)];
     for (place, above) in elements {
-        for header in [TOP, TOP - 1, 0, 1, 46, 66, 110, 1 << 31] {
+        for header in [TOP, TOP - 1, 0, 1, 46, 66, 122, 1 << 31] {
             let mut state = with_journal(&start(), 0, &record(3, header, place, &[]));
             if header == above {
                 let used = state.used;
@@ -200,11 +200,11 @@ fn placed_elsewhere() {
 // "It refuses in this order: 1, the file's own, 1 as above, 17, 19, 15."
 #[test]
 fn order_of_undo() {
-    let words = record(4, 46, 110, &text(true));
-    refuse(&with_journal(&start(), 34, &words), 15);
-    assert_eq!(with_journal(&start(), 36, &words).run(&Call::Undo), Ok(()));
-    let worse = record(4, 46, 111, &text(true));
-    refuse(&with_journal(&start(), 34, &worse), 19);
+    let words = record(4, 46, 122, &text(true));
+    refuse(&with_journal(&start(), 58, &words), 15);
+    assert_eq!(with_journal(&start(), 60, &words).run(&Call::Undo), Ok(()));
+    let worse = record(4, 46, 123, &text(true));
+    refuse(&with_journal(&start(), 58, &worse), 19);
     let mut state = with_journal(&start(), 0, &worse);
     state.dim = 4;
     refuse(&state, 1);

@@ -109,7 +109,7 @@ fn fields_by_type() {
     let node = view(&file, 2, 62).unwrap();
     assert_eq!(
         (node.total, node.count, node.name),
-        (Some(34), Some(1), None)
+        (Some(46), Some(1), None)
     );
     assert!(node.display.is_some());
     assert_eq!(view(&file, 2, 97).unwrap().header, Some(62));
@@ -136,7 +136,7 @@ fn points_of_elements() {
     assert_eq!(point(&file3, 3, 0, 1), Ok(vec![65538, i32::MIN, i32::MAX]));
     assert_eq!(point(&file3, 3, 0, 2), refused(13, 0));
     let others = file(&[text(false), element(5, false, 40), cell(false, &[])]);
-    for place in [0, 18, 58] {
+    for place in [0, 30, 70] {
         assert_eq!(point(&others, 2, place, 0), refused(13, 0));
     }
 }
@@ -150,10 +150,10 @@ fn extents() {
         cell(false, &[cell(true, &[line(true)]), text(true)]),
     ]);
     assert_eq!(extent(&file, 2, 0), Ok((0, 26)));
-    assert_eq!(extent(&file, 2, 26), Ok((26, 26 + 46 + 46 + 26 + 18)));
+    assert_eq!(extent(&file, 2, 26), Ok((26, 26 + 46 + 46 + 26 + 30)));
     assert_eq!(extent(&file, 2, 72), Ok((72, 72 + 46 + 26)));
     assert_eq!(extent(&file, 2, 118), Ok((118, 144)));
-    assert_eq!(extent(&file, 2, 144), Ok((144, 162)));
+    assert_eq!(extent(&file, 2, 144), Ok((144, 174)));
 }
 
 // "The walk gives linkage k, counted from 0: its kind, place, size and id."
@@ -162,16 +162,16 @@ fn linkages() {
     let tail = [
         9, 0x1003, 501, 1, 2, 0, 5, 6, 7, 32768, 8, 9, 10, 0xF001, 65535,
     ];
-    let mut words = element(17, true, 18 + tail.len());
-    words[15] = 3;
+    let mut words = element(17, true, 30 + tail.len());
+    words[15] = 15;
     words[16] = 1 << 11;
-    words[18..].copy_from_slice(&tail);
+    words[30..].copy_from_slice(&tail);
     let file = file(&[cell(false, &[words]), line(false)]);
     let wanted = [
-        (LinkageKind::User, 46 + 19, 4, 501),
-        (LinkageKind::Other, 46 + 23, 4, 0),
-        (LinkageKind::Other, 46 + 27, 4, 0),
-        (LinkageKind::User, 46 + 31, 2, 65535),
+        (LinkageKind::User, 46 + 31, 4, 501),
+        (LinkageKind::Other, 46 + 35, 4, 0),
+        (LinkageKind::Other, 46 + 39, 4, 0),
+        (LinkageKind::User, 46 + 43, 2, 65535),
     ];
     for (k, (kind, place, size, id)) in wanted.into_iter().enumerate() {
         assert_eq!(
@@ -189,7 +189,7 @@ fn linkages() {
     }
     // With A clear there are none.
     assert_eq!(linkage(&file, 2, 0, 0), refused(13, 0));
-    assert_eq!(linkage(&file, 2, 79, 0), refused(13, 0));
+    assert_eq!(linkage(&file, 2, 91, 0), refused(13, 0));
     let many = generate::large::most_linkages();
     assert_eq!(
         linkage(&many.file, 2, 0, 16_376).unwrap().place,

@@ -194,24 +194,6 @@ fn bytes_after_the_element() {
     }
 }
 
-/// The fields of an element as viewed.
-fn fields_of(view: &View) -> Fields {
-    let display = view.display.clone().unwrap();
-    Fields {
-        kind: view.kind,
-        level: view.level,
-        c: u64::from(view.c),
-        deleted: u64::from(view.deleted),
-        range: view.range.unwrap().map(u64::from),
-        graphic_group: display.graphic_group,
-        attribute_index: display.attribute_index,
-        properties: display.properties,
-        style: display.style,
-        weight: display.weight,
-        colour: display.colour,
-    }
-}
-
 // "The writer makes types 3, 4, 6 and 11 from all header fields, points in a
 // lent slice, and the tail": what is written is judged, viewed and read back.
 #[test]

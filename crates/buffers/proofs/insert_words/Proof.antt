@@ -4,7 +4,8 @@ use native.Mathlib.Omega.{arith}
 use borrow.Author.Needs.{needs}
 use Rattle.words.proofs.Laws.{lent-below}
 use Rattle.buffers.proofs.Stored.{insert-moves}
-use Rattle.buffers.proofs.Fits.{copied-fits, inserted-fits, inserted-not}
+use Rattle.copies.proofs.Copies.{copied-fits}
+use Rattle.buffers.proofs.Fits.{inserted-fits, inserted-not}
 use Rattle.buffers.proofs.insert_words.Statement.{statement}
 use Rattle.buffers.proofs.insert_words.Tie as tie
 

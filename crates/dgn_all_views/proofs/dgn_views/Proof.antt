@@ -37,12 +37,12 @@ returns c =
     views-full _ _ _ _ _ _ (goes (at-many .before .before)) _ (at-many .many .ensures)
     (sym (c .if1 .taken) ∙ (c .before .none-fits .ensures))
 
-put-views-requires : tie.Need-put-views-requires
-put-views-requires c κs =
+put-part-requires : tie.Need-put-part-requires
+put-part-requires c κs =
     let at-many = c .before .before .before in
     let at-elements = at-many .before .before in
     views-fit _ _ _ (start at-elements .args .views .now) (start at-elements .args .out .now) _ (goes at-elements) _
-    (at-many .many .ensures) (omega arith) (omega arith)
+    (at-many .many .ensures)
 
 slice-write-out : tie.Need-slice-write-out
 slice-write-out c =
@@ -67,7 +67,7 @@ returns-3 c =
     views-done _ _ _ _ _ _ (goes at-elements) _ (at-many .many .ensures)
     (sym (at-if1 .if1 .left) ∙ (at-if1 .before .none-fits .ensures))
     (lent-below (start at-elements .args .file .now) (at-slice .shared-slice-known .given)) _
-    (c .before .put-views .ensures)
+    (c .before .put-part .ensures)
 
 pub dgn-views-spec : {M : Type 1} → statement M
 dgn-views-spec =
@@ -79,7 +79,7 @@ dgn-views-spec =
     many-requires
     none-fits-requires
     returns
-    put-views-requires
+    put-part-requires
     slice-write-out
     returns-2
     same-length

@@ -1,7 +1,9 @@
 -- The loop's invariant: what was put so far stands before what the rest of the room takes.
-use Prim.Native.Nat.{_-_, _≤_}
-use mathlib.Core.Path.{_≡_, _∙_}
+use Prim.Native.Nat.{ℕ, _-_, _≤_}
+use mathlib.Core.Path.{_≡_, ap, _∙_}
+use mathlib.Core.List.{List}
 use native.Mathlib.Omega.{arith}
+use lib.IntN.{ℤ}
 use lib.ListN.{length}
 use borrow.Author.Needs.{needs}
 use Rattle.words.specs.Words.{words}
@@ -9,19 +11,24 @@ use Rattle.words.proofs.Laws.{lent-below}
 use Rattle.headers.proofs.Laws.{size-small}
 use Rattle.order.specs.Order.{placeOf}
 use Rattle.order.proofs.Order.{place-small, place-next}
-use Rattle.dgn_points.specs.Points.{partOf, pointsFrom}
-use Rattle.dgn_points.proofs.Fits.{Going, going-start, going-done, now-length, turn-full, turn-more}
+use Rattle.order.specs.Fitting.{partOf}
+use Rattle.order.proofs.Fitting.{Going, going-start, going-done, now-length, turn-full, turn-more}
+use Rattle.dgn_points.specs.Points.{pointNumbers, pointsFrom}
 use Rattle.dgn_points.proofs.put_points.Statement.{statement}
 use Rattle.dgn_points.proofs.put_points.Tie as tie
 
+-- the numbers of element number i
+abbrev numbersOf : ℕ → List ℕ → ℕ → List ℤ
+numbersOf dim file i = pointNumbers dim (words file) (placeOf (words file) i)
+
 abbrev Inv-loop : tie.InvT-loop
-Inv-loop file dim elements k numbers₀ at₀ i₀ used₀ numbers at i used = (i ≤ elements) × (at ≡ placeOf (words file) i) × Going (partOf (length numbers₀) k (pointsFrom (elements - k) dim (words file) k)) numbers₀ dim (words file) elements i used numbers
+Inv-loop file dim elements k numbers₀ at₀ i₀ used₀ numbers at i used = (i ≤ elements) × (at ≡ placeOf (words file) i) × Going (partOf (length numbers₀) k (pointsFrom (elements - k) dim (words file) k)) numbers₀ (numbersOf dim file) elements i used numbers
 
 abbrev μ-loop : tie.MeasureT-loop
 μ-loop file dim elements k numbers₀ at₀ i₀ used₀ numbers at i used = elements - i
 
 returns : tie.Need-returns Inv-loop μ-loop
-returns c = going-done (going-start (c .before .before .args .numbers .now) (c .before .before .args .dim) (words (c .before .before .args .file .now)) (c .before .before .args .elements) (c .before .before .args .k)) (c .if1 .taken)
+returns c = going-done (going-start (c .before .before .args .numbers .now) (numbersOf (c .before .before .args .dim) (c .before .before .args .file .now)) (c .before .before .args .elements) (c .before .before .args .k)) (c .if1 .taken)
 
 place-of-requires : tie.Need-place-of-requires Inv-loop μ-loop
 place-of-requires c κs = omega (arith, (c .if1 .left), (c .before .before .pre))
@@ -29,7 +36,7 @@ place-of-requires c κs = omega (arith, (c .if1 .left), (c .before .before .pre)
 loop-holds : tie.Need-loop-holds Inv-loop μ-loop
 loop-holds c =
     let start = c .before .before .before in
-    (omega (arith, (c .before .if1 .left)), (c .place-of .ensures), going-start (start .args .numbers .now) (start .args .dim) (words (start .args .file .now)) (start .args .elements) (start .args .k))
+    (omega (arith, (c .before .if1 .left)), (c .place-of .ensures), going-start (start .args .numbers .now) (numbersOf (start .args .dim) (start .args .file .now)) (start .args .elements) (start .args .k))
 
 put-element-requires : tie.Need-put-element-requires Inv-loop μ-loop
 put-element-requires c κs =
@@ -54,7 +61,8 @@ returns-2 c =
     let at-put-element = c .before .before .before in
     let at-loop-test = at-put-element .before .before in
     let at-loop = at-loop-test .before in
-    turn-full (at-loop .loop .inv .2) (at-loop .loop .at) (at-loop .loop .inv .1) (at-loop-test .loop-test .taken) _ _
+    let start = at-loop .before .before .before .before in
+    turn-full (at-loop .loop .inv .2) _ (ap (pointNumbers (start .args .dim) (words (start .args .file .now))) (at-loop .loop .inv .1)) (at-loop-test .loop-test .taken) _ _
     (c .enum-told .given .1) (at-put-element .put-element .ensures)
 
 enum-known-more : tie.Need-enum-known-more Inv-loop μ-loop
@@ -94,7 +102,7 @@ loop-again c =
     let at-loop = at-loop-test .before in
     let start = at-loop .before .before .before .before in
     let p = place-next (words (start .args .file .now)) (at-loop .loop .i) _ _ (at-loop .loop .inv .1) (c .size-at .ensures) in
-    (omega arith, p, turn-more (at-loop .loop .inv .2) (at-loop .loop .at) (at-loop .loop .inv .1) (at-loop-test .loop-test .taken) _ _ _ (c .before .before .more .given .1) (at-put-element .put-element .ensures))
+    (omega arith, p, turn-more (at-loop .loop .inv .2) _ (ap (pointNumbers (start .args .dim) (words (start .args .file .now))) (at-loop .loop .inv .1)) (at-loop-test .loop-test .taken) _ _ _ (c .before .before .more .given .1) (at-put-element .put-element .ensures))
 
 same-length-2 : tie.Need-same-length-2 Inv-loop μ-loop
 same-length-2 c = now-length (c .before .loop .inv .2)

@@ -12,7 +12,7 @@ use Rattle.elements.specs.Rules.{fixedOk, extentOk, contentChecks}
 use Rattle.headers.specs.Checks.{Check, check}
 use Rattle.kinds.proofs.Types.{header-long}
 use Rattle.headers.proofs.Checks.{refused, accepted, First, pass, stop, tail, first}
-use Rattle.elements.proofs.Laws.{header-short, header-fixed, header-part, extent-header}
+use Rattle.elements.proofs.Laws.{header-short, header-fixed, header-part, header-fields, extent-header}
 use Rattle.elements.proofs.header_fault.Statement.{statement}
 use Rattle.elements.proofs.header_fault.Tie as tie
 
@@ -59,14 +59,17 @@ linked c =
 to-1 : (c : tie.Else1) {n : ℕ} → First (drop 1 (of (from-1 c))) n → First (of (from-1 c)) n
 to-1 c p = pass (accepted (c .before .may-stand .ensures) (c .if1 .left)) p
 
-to-2 : (c : tie.Else3) {n : ℕ} → First (drop 2 (of (from-3 c))) n → First (of (from-3 c)) n
-to-2 c p = to-1 (c .before .before .before) (pass (sized c) p)
+to-3 : (c : tie.Else3) {n : ℕ} → First (drop 3 (of (from-3 c))) n → First (of (from-3 c)) n
+to-3 c p =
+    let a = from-3 c in
+    let fields = header-fields (a .args .dim) (words (a .args .s .now)) (a .args .at) (a .args .t) (a .args .size) (a .pre .0 .0) (a .pre .0 .1) (a .pre .1 .0) in
+    to-1 (c .before .before .before) (pass (sized c) (pass fields p))
 
-to-3 : (c : tie.Else4) {n : ℕ} → First (drop 3 (of (from-4 c))) n → First (of (from-4 c)) n
-to-3 c p = to-2 (c .before .before) (pass (accepted (extended (c .before)) (c .if4 .left)) p)
+to-4 : (c : tie.Else4) {n : ℕ} → First (drop 4 (of (from-4 c))) n → First (of (from-4 c)) n
+to-4 c p = to-3 (c .before .before) (pass (accepted (extended (c .before)) (c .if4 .left)) p)
 
-to-4 : (c : tie.Else5) {n : ℕ} → First (drop 4 (of (from-5 c))) n → First (of (from-5 c)) n
-to-4 c p = to-3 (c .before .before) (pass (accepted (linked (c .before)) (c .if5 .left)) p)
+to-5 : (c : tie.Else5) {n : ℕ} → First (drop 5 (of (from-5 c))) n → First (of (from-5 c)) n
+to-5 c p = to-4 (c .before .before) (pass (accepted (linked (c .before)) (c .if5 .left)) p)
 
 may-stand-requires : tie.Need-may-stand-requires
 may-stand-requires c κs = tt
@@ -92,13 +95,13 @@ extent-ok-requires : tie.Need-extent-ok-requires
 extent-ok-requires c κs = let n = c .before .before .if2 .left in let b = from-3 c .pre .1 .1 in omega arith
 
 returns-4 : tie.Need-returns-4
-returns-4 c = first (of (from-3 (c .before .before))) (to-2 (c .before .before) (stop (refused (extended (c .before)) (c .if4 .taken))))
+returns-4 c = first (of (from-3 (c .before .before))) (to-3 (c .before .before) (stop (refused (extended (c .before)) (c .if4 .taken))))
 
 linkages-ok-requires : tie.Need-linkages-ok-requires
 linkages-ok-requires c κs = let a = from-4 c in let n = c .before .before .before .before .if2 .left in (a .pre .0, (a .pre .1 .0, (omega arith, a .pre .1 .1)))
 
 returns-5 : tie.Need-returns-5
-returns-5 c = first (of (from-4 (c .before .before))) (to-3 (c .before .before) (stop (refused (linked (c .before)) (c .if5 .taken))))
+returns-5 c = first (of (from-4 (c .before .before))) (to-4 (c .before .before) (stop (refused (linked (c .before)) (c .if5 .taken))))
 
 stored-name-ok-requires : tie.Need-stored-name-ok-requires
 stored-name-ok-requires c κs =
@@ -109,10 +112,10 @@ stored-name-ok-requires c κs =
     (a .pre .0 .0, omega arith)
 
 returns-6 : tie.Need-returns-6
-returns-6 c = first (of (from-5 (c .before .before))) (to-4 (c .before .before) (stop (refused (c .before .stored-name-ok .ensures) (c .if6 .taken))))
+returns-6 c = first (of (from-5 (c .before .before))) (to-5 (c .before .before) (stop (refused (c .before .stored-name-ok .ensures) (c .if6 .taken))))
 
 returns-7 : tie.Need-returns-7
-returns-7 c = first (of (from-5 (c .before .before))) (to-4 (c .before .before) (pass (accepted (c .before .stored-name-ok .ensures) (c .if6 .left)) (tail [] refl)))
+returns-7 c = first (of (from-5 (c .before .before))) (to-5 (c .before .before) (pass (accepted (c .before .stored-name-ok .ensures) (c .if6 .left)) (tail [] refl)))
 
 pub header-fault-spec : {M : Type 1} → statement M
 header-fault-spec =

@@ -4,7 +4,7 @@ use native.Mathlib.Omega.{arith}
 use borrow.Author.Needs.{needs}
 use Rattle.words.proofs.Laws.{lent-below}
 use Rattle.edits.specs.Records.{placeOf}
-use Rattle.buffers.proofs.Fits.{copied-fits}
+use Rattle.copies.proofs.Copies.{copied-fits}
 use Rattle.journals.proofs.Pushed.{push-copies, pushed-fits, pushed-not}
 use Rattle.journals.proofs.push.Statement.{statement}
 use Rattle.journals.proofs.push.Tie as tie

@@ -1,10 +1,10 @@
--- A header has no points; each arm is a case of the definition, and the last has none of the numbers.
+-- No word sizes a header; each arm is a case of the definition, and the last has none of the numbers.
 use mathlib.Core.List.{[], _∷_}
 use mathlib.Core.Path.{_≡_, refl, sym, _∙_}
 use native.Mathlib.Omega.{arith}
 use borrow.Author.Tests.{ne-eqb}
 use Rattle.kinds.specs.Kinds.{fixedPart}
-use Rattle.kinds.proofs.Types.{in-arm, none-of, not-header, fixed-any, header-pointless}
+use Rattle.kinds.proofs.Types.{in-arm, none-of, not-header, fixed-any, header-unsized}
 use Rattle.kinds.proofs.fixed_part.Statement.{statement}
 use Rattle.kinds.proofs.fixed_part.Tie as tie
 
@@ -15,7 +15,7 @@ header-part-requires : tie.Need-header-part-requires
 header-part-requires c κs = sym (c .before .is-header .ensures) ∙ c .if1 .taken
 
 returns : tie.Need-returns
-returns c = let a = c .before .before .before .args in c .header-part .ensures ∙ fixed-any (a .dim) (a .t) 0 (a .n) (header-pointless (a .t) (sym (c .before .before .is-header .ensures) ∙ c .before .if1 .taken))
+returns c = let a = c .before .before .before .args in c .header-part .ensures ∙ fixed-any (a .dim) (a .t) 0 (a .n) (header-unsized (a .t) (sym (c .before .before .is-header .ensures) ∙ c .before .if1 .taken))
 
 pick-requires : tie.Need-pick-requires
 pick-requires c κs = tt
@@ -35,6 +35,9 @@ add-pick-2 c = omega arith
 pick-requires-2 : tie.Need-pick-requires-2
 pick-requires-2 c κs = tt
 
+text-part-requires : tie.Need-text-part-requires
+text-part-requires c κs = tt
+
 returns-2 : tie.Need-returns-2
 unfolding fixedPart
 returns-2 c = rw (c .before .match .keys1) (c .pick .ensures)
@@ -45,7 +48,7 @@ returns-3 c = let e = (c .pick2 .ensures) in in-arm (λ t. (c .pick2 .result) �
 
 returns-4 : tie.Need-returns-4
 unfolding fixedPart
-returns-4 c = rw (c .match .keys3)
+returns-4 c = rw (c .before .match .keys3) (c .text-part .ensures)
 
 returns-5 : tie.Need-returns-5
 unfolding fixedPart
@@ -78,6 +81,7 @@ fixed-part-spec =
     mul-pick-2
     add-pick-2
     pick-requires-2
+    text-part-requires
     returns-2
     returns-3
     returns-4

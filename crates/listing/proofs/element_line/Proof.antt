@@ -7,7 +7,7 @@ use Rattle.listing.proofs.element_line.Statement.{statement}
 use Rattle.listing.proofs.element_line.Tie as tie
 
 returns : tie.Need-returns
-returns c = no-line _ _ (c .if1 .taken)
+returns c = no-line _ _ _ (c .if1 .taken)
 
 put-field-requires : tie.Need-put-field-requires
 put-field-requires c κs = search needs
@@ -43,7 +43,7 @@ returns-2 c =
     let kind = size .before .before .before .before in
     let depth = kind .before .before .before .before in
     let place = depth .before .before .before .before in
-    line-written _ _ _ _
+    line-written _ _ _ _ _
     (puts-then (place .put-field .ensures .0)
     (puts-then (depth .put-field2 .ensures .0)
     (puts-then (kind .put-field3 .ensures .0)

@@ -7,7 +7,7 @@ use Rattle.listing.proofs.end_line.Statement.{statement}
 use Rattle.listing.proofs.end_line.Tie as tie
 
 returns : tie.Need-returns
-returns c = no-line _ _ (c .if1 .taken)
+returns c = no-line _ _ _ (c .if1 .taken)
 
 slice-aggregate-put-bytes : tie.Need-slice-aggregate-put-bytes
 slice-aggregate-put-bytes c = search needs
@@ -30,7 +30,7 @@ returns-2 c =
     let feed = c .before .before in
     let marker = feed .before .before .before .before in
     let word = marker .before .before .before .before in
-    line-written _ _ _ _
+    line-written _ _ _ _ _
     (puts-then (word .put-bytes .ensures)
     (puts-then (marker .put-number .ensures .0) (feed .put-line-feed .ensures)))
     (omega arith)

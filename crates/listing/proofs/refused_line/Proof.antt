@@ -7,7 +7,7 @@ use Rattle.listing.proofs.refused_line.Statement.{statement}
 use Rattle.listing.proofs.refused_line.Tie as tie
 
 returns : tie.Need-returns
-returns c = no-line _ _ (c .if1 .taken)
+returns c = no-line _ _ _ (c .if1 .taken)
 
 slice-aggregate-put-bytes : tie.Need-slice-aggregate-put-bytes
 slice-aggregate-put-bytes c = search needs
@@ -34,7 +34,7 @@ returns-2 c =
     let place = feed .before .before .before .before in
     let number = place .before .before .before .before in
     let word = number .before .before .before .before in
-    line-written _ _ _ _
+    line-written _ _ _ _ _
     (puts-then (word .put-bytes .ensures)
     (puts-then (number .put-field .ensures .0)
     (puts-then (place .put-number .ensures .0) (feed .put-line-feed .ensures))))

@@ -10,7 +10,7 @@ write-fault-requires : tie.Need-write-fault-requires
 write-fault-requires c κs = search needs
 
 returns : tie.Need-returns
-returns c = writes-refused _ _ _ _ _ _ ((c .before .write-fault .ensures)) ((c .if1 .taken))
+returns c = writes-refused _ _ _ _ _ ((c .before .write-fault .ensures)) ((c .if1 .taken))
 
 put-element-requires : tie.Need-put-element-requires
 put-element-requires c κs = search needs
@@ -22,7 +22,7 @@ returns-2 : tie.Need-returns-2
 returns-2 c =
     let at-if1 = c .before .before .before .before in
     let at-write-fault = at-if1 .before in
-    writes-made _ _ _ _ _ _ _ (sym (at-write-fault .write-fault .ensures) ∙ (at-if1 .if1 .left))
+    writes-made _ _ _ _ _ _ (sym (at-write-fault .write-fault .ensures) ∙ (at-if1 .if1 .left))
     (c .before .before .put-element .ensures .0) (c .before .before .put-element .ensures .1)
 
 pub write-spec : {M : Type 1} → statement M

@@ -1,6 +1,8 @@
 //! Changes to a given file, and bytes that are hardly a file.
 
+use super::places::scan;
 use super::random::Random;
+use super::text::counts_word;
 use crate::words::bytes_of;
 
 /// Words that often decide something.
@@ -49,6 +51,34 @@ fn change_word_at(random: &mut Random, file: &mut [u8], place: usize) {
         _ => random.pick(&TELLING),
     };
     file[at..at + 2].copy_from_slice(&new.to_le_bytes());
+}
+
+/// Changes a count of one of a file's texts, or a byte of its fields; nothing
+/// in a file without texts.
+pub fn change_text(random: &mut Random, file: &mut [u8], dim: u64) {
+    let (mut starts, _) = scan(file);
+    starts.retain(|start| start.kind == 17);
+    if starts.is_empty() {
+        return;
+    }
+    let at = 2 * (random.pick(&starts).place as usize + counts_word(dim));
+    let Some(&[characters, fields]) = file.get(at..at + 2) else {
+        return;
+    };
+    let from = at + 2 + usize::from(characters);
+    let changed = match random.below(4) {
+        0 => at,
+        1 => at + 1,
+        _ => from + random.index(usize::from(fields) * 3),
+    };
+    if let Some(byte) = file.get_mut(changed) {
+        *byte = match random.below(4) {
+            0 => random.pick(&[0, 1, 2, 127, 128, 254, 255]),
+            1 => byte.wrapping_add(1),
+            2 => byte.wrapping_sub(1),
+            _ => characters.wrapping_add(random.below(3) as u8),
+        };
+    }
 }
 
 /// Any bytes, even in number but for one time in twenty.

@@ -1,6 +1,7 @@
 //! Valid elements of every type, alone and as trees.
 
 use super::random::Random;
+use super::text;
 use super::texts;
 use super::tree::{is_header, Node};
 
@@ -13,7 +14,8 @@ pub const LINKED: [u64; 12] = [2, 3, 4, 6, 7, 11, 12, 14, 17, 18, 19, 21];
 /// Raw types that come up more often than the others.
 const RAW: [u64; 12] = [0, 5, 8, 9, 9, 10, 15, 16, 20, 66, 88, 127];
 
-/// The words of a fixed part.
+/// The words of a fixed part. `n` is the word that sizes it: the number of
+/// points, or the characters of a text and 256 times its fields.
 pub fn fixed(kind: u64, dim: u64, n: usize) -> usize {
     let flat = dim != 3;
     match kind {
@@ -23,7 +25,7 @@ pub fn fixed(kind: u64, dim: u64, n: usize) -> usize {
         4 | 6 | 11 | 21 => 19 + n * [6, 4][usize::from(flat)],
         7 => [43, 35][usize::from(flat)],
         12 | 14 => 20,
-        17 => 18,
+        17 => [38, 30][usize::from(flat)] + (n % 256 + n / 256 * 3).div_ceil(2),
         18 | 19 => 21,
         _ => 2,
     }
@@ -44,9 +46,9 @@ pub fn raw_kind(random: &mut Random) -> u64 {
 
 /// A type that may stand at the top or under a header of type `above`.
 pub fn kind(random: &mut Random, dim: u64, above: Option<u64>) -> u64 {
-    let plain = |random: &mut Random| match random.below(7) {
+    let plain = |random: &mut Random| match random.below(8) {
         0 => 3,
-        1 => 17,
+        1 | 7 => 17,
         2 => random.pick(&POINTED),
         3 => raw_kind(random),
         4 => 4,
@@ -76,16 +78,20 @@ pub fn kind(random: &mut Random, dim: u64, above: Option<u64>) -> u64 {
 /// The own words of a valid element. C and the rest of word 0 are set; the
 /// total and the count are left to the layout.
 pub fn single(random: &mut Random, dim: u64, kind: u64, c: bool) -> Vec<u16> {
-    let n = if POINTED.contains(&kind) {
-        points(random)
-    } else {
-        0
-    };
+    let n = sizing(random, kind);
     single_with(random, dim, kind, c, n)
 }
 
-/// The number of points: small, and now and then a limit.
-fn points(random: &mut Random) -> usize {
+/// A word that sizes the fixed part of a valid element: small, and now and
+/// then a limit; 0 in types without one.
+pub fn sizing(random: &mut Random, kind: u64) -> usize {
+    if kind == 17 {
+        let (characters, fields) = text::counts(random);
+        return characters + 256 * fields;
+    }
+    if !POINTED.contains(&kind) {
+        return 0;
+    }
     match random.below(60) {
         0 => 101,
         1 => 100,
@@ -94,7 +100,17 @@ fn points(random: &mut Random) -> usize {
     }
 }
 
-/// The same with a number of points given.
+/// The word that sizes an element, as it stands there.
+pub fn sizing_in(own: &[u16], dim: u64, kind: u64) -> usize {
+    let offset = match kind {
+        17 => text::counts_word(dim),
+        _ if POINTED.contains(&kind) => 18,
+        _ => return 0,
+    };
+    usize::from(own[offset])
+}
+
+/// The same with the word given that sizes it.
 pub fn single_with(random: &mut Random, dim: u64, kind: u64, c: bool, n: usize) -> Vec<u16> {
     if !LINKED.contains(&kind) && kind != 1 {
         return raw(random, kind, c);
@@ -131,6 +147,9 @@ pub fn single_with(random: &mut Random, dim: u64, kind: u64, c: bool, n: usize) 
     }
     if POINTED.contains(&kind) {
         own[18] = n as u16;
+    }
+    if kind == 17 {
+        text::fill(random, &mut own, dim, n);
     }
     start(random, &mut own, kind, c);
     own

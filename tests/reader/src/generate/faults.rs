@@ -1,17 +1,18 @@
 //! Files with a single fault aimed at a number, and with two faults in one
 //! element, with the refusal that judging must answer.
 
-use super::elements::{self, fixed, POINTED};
+use super::elements::{self, fixed};
 use super::files;
 use super::random::Random;
-use super::targets::{short, target, wrong_linkage};
+use super::targets::{short, spoil_field, target, wrong_field, wrong_linkage, wrong_linkage_with};
+use super::text;
 use super::texts;
 use super::tree::{is_counted, is_header, lay, Laid, Node};
 use crate::refusal::Refusal;
 use crate::words::bytes_of;
 
 /// The order of checks for one element, its components standing before 9.
-pub const ORDER: [u32; 10] = [3, 4, 5, 10, 6, 7, 8, 11, 12, 9];
+pub const ORDER: [u32; 11] = [3, 4, 5, 10, 6, 7, 20, 8, 11, 12, 9];
 
 /// A file and the refusal that it must meet.
 #[derive(Debug, Clone)]
@@ -144,7 +145,7 @@ pub fn first_in_order(faults: &[u32]) -> u32 {
 }
 
 /// Sets a fault in the words of a laid-out element. Faults that were made
-/// with the element (7, 11) and 10 need nothing more.
+/// with the element (7, 11, 20) and 10 need nothing more.
 fn damage(random: &mut Random, laid: &mut Laid, place: usize, kind: u64, number: u32) {
     let bound = laid.aim_bound();
     let words = &mut laid.words;
@@ -241,11 +242,14 @@ fn kind_fault(random: &mut Random, dim: u64, depth: u64) -> Aimed {
 /// Two faults in one element; the one checked first must be answered.
 pub fn two_faults(random: &mut Random, dim: u64, depth: u64) -> Aimed {
     let mut depth = depth.min(9);
-    let kind = random.pick(&[2, 2, 2, 7, 12, 14, 3, 4, 6, 11, 21, 17]);
+    let kind = random.pick(&[2, 2, 2, 7, 12, 14, 3, 4, 6, 11, 21, 17, 17]);
     let mut numbers = vec![3, 4, 5, 6, 7, 11];
     if is_header(kind) {
         numbers.push(8);
         numbers.push(if kind == 2 { 12 } else { 9 });
+    }
+    if kind == 17 {
+        numbers.extend([20, 20, 20]);
     }
     let mut faults = if depth == 9 { vec![10] } else { Vec::new() };
     while faults.len() < 2 {
@@ -259,18 +263,21 @@ pub fn two_faults(random: &mut Random, dim: u64, depth: u64) -> Aimed {
     }
     let c = depth > 0;
     let short_first = faults.contains(&7);
-    let mut node = if faults.contains(&11) {
-        wrong_linkage(random, dim, kind, c)
+    let n = if faults.contains(&20) {
+        text::counts_with_fields(random)
     } else {
-        Node::new(elements::single(random, dim, kind, c))
+        elements::sizing(random, kind)
     };
+    let mut node = if faults.contains(&11) {
+        wrong_linkage_with(random, dim, kind, c, n)
+    } else {
+        Node::new(elements::single_with(random, dim, kind, c, n))
+    };
+    if faults.contains(&20) {
+        spoil_field(random, dim, &mut node.own);
+    }
     if short_first {
         // Short by one word, so that the words of the other fault stay.
-        let n = if POINTED.contains(&kind) {
-            usize::from(node.own[18])
-        } else {
-            0
-        };
         node.own.truncate(fixed(kind, dim, n) - 1);
         node.own[1] = (node.own.len() - 2) as u16;
     }
@@ -280,10 +287,14 @@ pub fn two_faults(random: &mut Random, dim: u64, depth: u64) -> Aimed {
 /// A header whose count is wrong, with a fault in a component: the
 /// component's fault comes first.
 pub fn component_before_count(random: &mut Random, dim: u64) -> Aimed {
-    let number = random.pick(&[4, 5, 7, 11]);
+    let number = random.pick(&[4, 5, 7, 11, 20]);
     let kind = random.pick(&[12, 14]);
     let mut bad = match number {
-        7 => short(random, dim, 4, true),
+        7 => {
+            let kind = random.pick(&[4, 17]);
+            short(random, dim, kind, true)
+        }
+        20 => wrong_field(random, dim, true),
         11 => wrong_linkage(random, dim, 17, true),
         _ => Node::new(elements::single(random, dim, 3, true)),
     };

@@ -53,6 +53,14 @@ pub fn nodes(random: &mut Random, dim: u64) -> Vec<Node> {
     while budget > 0 {
         nodes.push(elements::tree(random, dim, 0, None, &mut budget));
     }
+    // A text in nearly every file, alone or with others under a node.
+    if !random.one_in(8) {
+        let kind = random.pick(&[17, 17, 7]);
+        let mut budget = 3;
+        let text = elements::tree_of(random, dim, kind, 0, false, &mut budget);
+        let at = random.index(nodes.len() + 1);
+        nodes.insert(at, text);
+    }
     nodes
 }
 

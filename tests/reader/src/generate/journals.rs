@@ -122,8 +122,10 @@ fn made_up(random: &mut Random, state: &State) -> Vec<u16> {
                 header = named.map_or(u32::MAX, |named| named as u32);
                 place = at as u32;
             }
-            if random.one_in(4) {
-                changes::change_word(random, &mut piece);
+            match random.below(5) {
+                0 => changes::change_word(random, &mut piece),
+                1 => changes::change_text(random, &mut piece, state.dim),
+                _ => {}
             }
             words_of(&piece)
         }

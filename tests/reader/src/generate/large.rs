@@ -3,6 +3,7 @@
 use super::elements;
 use super::files::{finish, Valid};
 use super::random::Random;
+use super::text;
 use super::tree::Node;
 use crate::calls::State;
 use crate::words::bytes_of;
@@ -102,6 +103,55 @@ pub fn most_points(random: &mut Random, dim: u64) -> Valid {
         .map(|&kind| Node::new(elements::single_with(random, dim, kind, false, 101)))
         .collect();
     finish(&nodes, dim, &[])
+}
+
+/// A text with 255 characters and 255 fields, one without any, and one with
+/// a tail that makes it 65,535 words long.
+pub fn most_text(random: &mut Random, dim: u64) -> Valid {
+    let full = 255 + 256 * 255;
+    let mut longest = elements::single_with(random, dim, 17, false, full);
+    longest[16] &= !(1 << 11);
+    longest.resize(65_535, 0);
+    longest[1] = 65_533;
+    let nodes = [
+        Node::new(elements::single_with(random, dim, 17, false, full)),
+        Node::new(elements::single_with(random, dim, 17, false, 0)),
+        Node::new(longest),
+    ];
+    finish(&nodes, dim, &[])
+}
+
+/// A text of 65,536 or 65,537 words: 8 at place 0, or 20 where its field is
+/// wrong.
+pub fn text_too_large(size: usize, dim: u64, bad_field: bool) -> Vec<u8> {
+    let mut words = vec![0; size];
+    let counts = text::counts_word(dim);
+    words[0] = 17 << 8;
+    words[1] = (size - 2) as u16;
+    words[counts] = 1 | 1 << 8;
+    // One character, and a field that starts at it or before it.
+    text::put_bytes(&mut words, 2 * counts + 3, &[u8::from(!bad_field), 1, 0]);
+    words.push(65535);
+    bytes_of(&words)
+}
+
+/// A file of texts, each with some characters and a field, of nearly
+/// 1,048,576 bytes.
+pub fn most_texts(random: &mut Random, dim: u64) -> Valid {
+    let mut nodes = Vec::new();
+    let mut words = 1;
+    loop {
+        let counts = 1 + random.index(9) + 256;
+        let mut own = elements::single_with(random, dim, 17, false, counts);
+        own[16] &= !(1 << 11);
+        own.truncate(elements::fixed(17, dim, counts));
+        own[1] = (own.len() - 2) as u16;
+        words += own.len();
+        if words > 524_288 {
+            return finish(&nodes, dim, &[]);
+        }
+        nodes.push(Node::new(own));
+    }
 }
 
 /// Cells with names of six letters, the greatest words among them.

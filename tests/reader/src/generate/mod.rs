@@ -13,6 +13,8 @@ pub mod places;
 pub mod random;
 pub mod sessions;
 mod targets;
+pub mod text;
+pub mod text_writes;
 pub mod texts;
 pub mod tree;
 pub mod writes;

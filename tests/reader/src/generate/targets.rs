@@ -2,6 +2,7 @@
 
 use super::elements::{self, fixed, LINKED, POINTED};
 use super::random::Random;
+use super::text;
 use super::tree::Node;
 
 /// Types of headers that the dimension allows.
@@ -21,6 +22,7 @@ pub fn target(random: &mut Random, dim: u64, number: u32, depth: u64) -> Node {
         8 => random.pick(headers(dim)),
         9 => random.pick(&headers(dim)[1..]),
         12 => 2,
+        20 => 17,
         7 | 11 => loop {
             let kind = random.pick(&LINKED);
             if dim == 3 || kind < 18 || kind == 21 {
@@ -41,6 +43,7 @@ pub fn target(random: &mut Random, dim: u64, number: u32, depth: u64) -> Node {
     match number {
         7 => short(random, dim, kind, c),
         11 => wrong_linkage(random, dim, kind, c),
+        20 => wrong_field(random, dim, c),
         _ => {
             let mut budget = 3;
             let mut node = elements::tree_of(random, dim, kind, depth, c, &mut budget);
@@ -70,13 +73,15 @@ pub fn short(random: &mut Random, dim: u64, kind: u64, c: bool) -> Node {
         };
         return Node::new(own);
     }
-    let n = if POINTED.contains(&kind) {
-        2 + random.index(4)
-    } else {
-        0
-    };
+    let n = elements::sizing(random, kind);
     let mut own = elements::single_with(random, dim, kind, c, n);
     let whole = fixed(kind, dim, n);
+    if kind == 17 && random.one_in(2) {
+        if let Some(counts) = more_than_filled(random, dim, n, own.len()) {
+            own[text::counts_word(dim)] = counts;
+            return Node::new(own);
+        }
+    }
     let left = if random.one_in(2) {
         whole - 1
     } else {
@@ -87,13 +92,46 @@ pub fn short(random: &mut Random, dim: u64, kind: u64, c: bool) -> Node {
     Node::new(own)
 }
 
+/// The counts of a text that say more than an element of that size has, the
+/// number of characters or of fields changed: by little where that is enough.
+fn more_than_filled(random: &mut Random, dim: u64, counts: usize, size: usize) -> Option<u16> {
+    let (characters, fields) = (counts % 256, counts / 256);
+    let mut wrong: Vec<usize> = Vec::new();
+    wrong.extend((characters + 1..256).map(|more| more + 256 * fields));
+    wrong.extend((fields + 1..256).map(|more| characters + 256 * more));
+    wrong.retain(|&counts| fixed(17, dim, counts) > size);
+    match wrong.len() {
+        0 => None,
+        _ if random.one_in(2) => Some(wrong[0] as u16),
+        number => Some(wrong[random.index(number)] as u16),
+    }
+}
+
+/// A text with a field that is wrong, others beside it that may be good.
+pub fn wrong_field(random: &mut Random, dim: u64, c: bool) -> Node {
+    let counts = text::counts_with_fields(random);
+    let mut own = elements::single_with(random, dim, 17, c, counts);
+    spoil_field(random, dim, &mut own);
+    Node::new(own)
+}
+
+/// Makes one of a text's fields wrong.
+pub fn spoil_field(random: &mut Random, dim: u64, own: &mut [u16]) {
+    let counts = elements::sizing_in(own, dim, 17);
+    let (characters, fields) = (counts % 256, counts / 256);
+    let bad = text::bad_field(random, characters);
+    let at = 2 * text::counts_word(dim) + 2 + characters + 3 * random.index(fields);
+    text::put_bytes(own, at, &bad);
+}
+
 /// An element whose attribute part is wrong.
 pub fn wrong_linkage(random: &mut Random, dim: u64, kind: u64, c: bool) -> Node {
-    let n = if POINTED.contains(&kind) {
-        2 + random.index(3)
-    } else {
-        0
-    };
+    let n = elements::sizing(random, kind);
+    wrong_linkage_with(random, dim, kind, c, n)
+}
+
+/// The same with the word given that sizes it.
+pub fn wrong_linkage_with(random: &mut Random, dim: u64, kind: u64, c: bool, n: usize) -> Node {
     let fixed = fixed(kind, dim, n);
     let mut own = elements::single_with(random, dim, kind, c, n);
     own.truncate(fixed);
@@ -107,7 +145,11 @@ pub fn wrong_linkage(random: &mut Random, dim: u64, kind: u64, c: bool) -> Node 
     own[15] = match random.below(3) {
         0 if fixed > 21 && random.one_in(2) => {
             // Inside the fixed part, with a linkage there that fills the rest.
-            let begin = 21 + random.index(fixed - 21);
+            let begin = match random.index(fixed - 21) + 21 {
+                // The counts and the fields of a text stay as they are.
+                at if kind == 17 && !text::is_free(dim, n, at) => 21,
+                at => at,
+            };
             let follow = own.len() - begin - 1;
             if (1..256).contains(&follow) {
                 own[begin] = 1 << 12 | follow as u16;

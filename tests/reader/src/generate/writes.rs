@@ -42,6 +42,25 @@ pub fn good_write(random: &mut Random) -> Write {
         _ => 2 + random.index(4),
     };
     let fixed = fixed(kind, dim, n);
+    let (fields, tail) = good_header(random, kind, fixed);
+    let points = (0..n * dim as usize)
+        .map(|_| random.draw() as i32)
+        .collect();
+    let size = fixed + tail.len();
+    let slack = if random.one_in(2) { 0 } else { random.index(9) };
+    Write {
+        fields,
+        points,
+        tail: bytes_of(&tail),
+        dim,
+        room: size * 2 + slack,
+        fill: random.draw() as u8,
+    }
+}
+
+/// Header fields of an element of that type and fixed part, with a tail that
+/// fits them.
+pub fn good_header(random: &mut Random, kind: u64, fixed: usize) -> (Fields, Vec<u16>) {
     let mut tail: Vec<u16> = Vec::new();
     let has_a = random.one_in(2);
     let mut attribute_index = random.below(65536);
@@ -62,38 +81,26 @@ pub fn good_write(random: &mut Random) -> Write {
     for value in &mut range {
         *value = random.draw() & 0xFFFF_FFFF;
     }
-    let points = (0..n * dim as usize)
-        .map(|_| random.draw() as i32)
-        .collect();
-    let size = fixed + tail.len();
-    let slack = if random.one_in(2) { 0 } else { random.index(9) };
-    Write {
-        fields: Fields {
-            kind,
-            level: random.below(64),
-            c: random.below(2),
-            deleted: random.below(2),
-            range,
-            graphic_group: random.below(65536),
-            attribute_index,
-            properties,
-            style: random.below(8),
-            weight: random.below(32),
-            colour: random.below(256),
-        },
-        points,
-        tail: bytes_of(&tail),
-        dim,
-        room: size * 2 + slack,
-        fill: random.draw() as u8,
-    }
+    let fields = Fields {
+        kind,
+        level: random.below(64),
+        c: random.below(2),
+        deleted: random.below(2),
+        range,
+        graphic_group: random.below(65536),
+        attribute_index,
+        properties,
+        style: random.below(8),
+        weight: random.below(32),
+        colour: random.below(256),
+    };
+    (fields, tail)
 }
 
-/// Sets one fault, or changes something that may be none.
-fn spoil(random: &mut Random, call: &mut Write) {
+/// Sets a header field out of its range, or to what may be wrong with others.
+pub fn spoil_header(random: &mut Random, fields: &mut Fields) {
     let far = random.pick(&[1 << 32, u64::MAX, 1 << 16, 256]);
-    let fields = &mut call.fields;
-    match random.below(22) {
+    match random.below(11) {
         0 => fields.kind = random.below(130),
         1 => fields.level = random.pick(&[64, far]),
         2 => fields.c = random.pick(&[2, far]),
@@ -104,7 +111,14 @@ fn spoil(random: &mut Random, call: &mut Write) {
         7 => fields.properties = random.pick(&[65536, u64::MAX, 2048]),
         8 => fields.style = random.pick(&[8, far]),
         9 => fields.weight = random.pick(&[32, far]),
-        10 => fields.colour = random.pick(&[256, u64::MAX]),
+        _ => fields.colour = random.pick(&[256, u64::MAX]),
+    }
+}
+
+/// Sets one fault, or changes something that may be none.
+fn spoil(random: &mut Random, call: &mut Write) {
+    match random.below(22) {
+        0..=10 => spoil_header(random, &mut call.fields),
         11 => call.dim = random.pick(&[0, 1, 4, u64::MAX]),
         12 => call.tail.push(0),
         13 => call.points.push(7),

@@ -2,7 +2,7 @@
 #![allow(dead_code)]
 
 use reader::words::{bytes_of, words_of};
-use reader::{Call, Refusal, State};
+use reader::*;
 
 pub const MARKER: u16 = 65535;
 
@@ -27,9 +27,28 @@ pub fn line(c: bool) -> Vec<u16> {
     element(3, c, 26)
 }
 
-/// A text of 18 words.
+/// A 2D text without characters.
 pub fn text(c: bool) -> Vec<u16> {
-    element(17, c, 18)
+    element(17, c, 30)
+}
+
+/// The same in 3D.
+pub fn solid_text(c: bool) -> Vec<u16> {
+    element(17, c, 38)
+}
+
+/// A text with characters and fields, the odd last byte zero.
+pub fn text_with(dim: u64, c: bool, characters: &[u8], fields: &[[u8; 3]]) -> Vec<u16> {
+    let mut bytes = [characters, &fields.concat()].concat();
+    if bytes.len() % 2 == 1 {
+        bytes.push(0);
+    }
+    let words = words_of(&bytes);
+    let counts = if dim == 3 { 37 } else { 29 };
+    let mut text = element(17, c, counts + 1 + words.len());
+    text[counts] = (fields.len() << 8 | characters.len()) as u16;
+    text[counts + 1..].copy_from_slice(&words);
+    text
 }
 
 /// A 2D element with N points.
@@ -92,6 +111,7 @@ pub fn faulty() -> Vec<(u32, u64, Vec<u8>)> {
     reserved[0] |= 1 << 6;
     let mut linked = line(false);
     linked[16] = 1 << 11;
+    let field = text_with(2, false, b"AB", &[[3, 0, 0]]);
     let mut named = cell(false, &[]);
     named[20] = 64000;
     let mut total = cell(false, &[]);
@@ -107,6 +127,7 @@ pub fn faulty() -> Vec<(u32, u64, Vec<u8>)> {
         (10, 9 * 46, file(&[nest(8, &[line(true)])])),
         (6, 26, file(&[before.clone(), element(24, false, 2)])),
         (7, 0, file(&[element(3, false, 25)])),
+        (20, 26, file(&[before.clone(), field])),
         (8, 26, file(&[before.clone(), total])),
         (11, 0, file(&[linked])),
         (12, 26, file(&[before.clone(), named])),
@@ -142,4 +163,71 @@ pub fn used_words(state: &State) -> Vec<u16> {
 pub fn trailer(state: &State) -> [u16; 6] {
     let words = words_of(&state.journal[..state.jused as usize]);
     words[words.len() - 6..].try_into().unwrap()
+}
+
+/// The header fields of an element as viewed.
+pub fn fields_of(view: &View) -> Fields {
+    let display = view.display.clone().unwrap();
+    Fields {
+        kind: view.kind,
+        level: view.level,
+        c: u64::from(view.c),
+        deleted: u64::from(view.deleted),
+        range: view.range.unwrap().map(u64::from),
+        graphic_group: display.graphic_group,
+        attribute_index: display.attribute_index,
+        properties: display.properties,
+        style: display.style,
+        weight: display.weight,
+        colour: display.colour,
+    }
+}
+
+/// The fields of a text as it is viewed and read.
+pub fn text_fields_of(file: &[u8], dim: u64, place: u64) -> TextFields {
+    let text = read_text(file, dim, place).unwrap();
+    TextFields {
+        header: fields_of(&view(file, dim, place).unwrap()),
+        font: u64::from(text.font),
+        justification: u64::from(text.justification),
+        length_multiplier: u64::from(text.length_multiplier),
+        height_multiplier: u64::from(text.height_multiplier),
+        rotation: text.rotation.iter().copied().map(u64::from).collect(),
+        origin: text.origin.iter().copied().map(i64::from).collect(),
+        spare: u64::from(text.spare),
+    }
+}
+
+/// The characters, the fields' bytes and the tail of a text, by the calls.
+pub fn text_parts_of(file: &[u8], dim: u64, place: u64) -> (Vec<u8>, Vec<u8>, Vec<u8>) {
+    let (start, length) = text_characters(file, dim, place).unwrap();
+    let (start, length) = (start as usize, length as usize);
+    let mut fields = Vec::new();
+    let mut k = 0;
+    while let Ok(field) = text_field(file, dim, place, k) {
+        fields.extend([field.first as u8, field.length as u8]);
+        fields.push(field.justification as u8);
+        k += 1;
+    }
+    let fixed = start + (length + fields.len()).div_ceil(2) * 2;
+    let end = extent(file, dim, place).unwrap().1 as usize * 2;
+    let characters = file[start..start + length].to_vec();
+    (characters, fields, file[fixed..end].to_vec())
+}
+
+/// Writes each text of an accepted file again from what is read of it: the
+/// same bytes. Gives the number of texts.
+pub fn rewrite_texts(file: &[u8], dim: u64) -> usize {
+    let texts = texts_from(file, dim, 0).unwrap();
+    for one in &texts {
+        let (from, to) = extent(file, dim, one.place).unwrap();
+        let whole = &file[from as usize * 2..to as usize * 2];
+        let text = text_fields_of(file, dim, one.place);
+        let (characters, fields, tail) = text_parts_of(file, dim, one.place);
+        let mut out = vec![0; whole.len()];
+        let size = write_text(&text, &characters, &fields, &tail, dim, &mut out);
+        assert_eq!(size, Ok(to - from));
+        assert_eq!(out, whole);
+    }
+    texts.len()
 }

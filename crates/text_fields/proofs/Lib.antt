@@ -1,0 +1,5 @@
+pub mod Bounds
+pub mod Triples
+pub mod Element
+pub mod Writable
+pub mod Below

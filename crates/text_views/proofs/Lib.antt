@@ -1,0 +1,5 @@
+pub mod Bytes
+pub mod Ways
+pub mod Refusals
+pub mod Inside
+pub mod Fields

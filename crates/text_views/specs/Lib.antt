@@ -1,0 +1,3 @@
+pub mod TextViews
+pub mod Refusals
+pub mod Fields

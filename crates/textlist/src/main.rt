@@ -1,0 +1,4 @@
+// Program textlist: the texts of a 2D file from standard input, a line for each in file order, or the line of its refusal.
+fn main() {
+    printing::list_input(printing::Listed::Texts, b"textlist");
+}

@@ -1,0 +1,50 @@
+-- Each case as its numbers, or too short a slice.
+use mathlib.Core.Path.{ap}
+use Rattle.answers.proofs.Laws.{too-short, answered}
+use Rattle.write_answers.specs.Writing.{cutReply}
+use borrow.Author.Needs.{needs}
+use Rattle.write_answers.proofs.put_written.Statement.{statement}
+use Rattle.write_answers.proofs.put_written.Tie as tie
+
+returns : tie.Need-returns
+returns c = too-short 1 _ (c .before .args .out .now) (c .if1 .taken)
+
+enum-known-answer : tie.Need-enum-known-answer
+enum-known-answer c = search needs
+
+slice-write-out : tie.Need-slice-write-out
+slice-write-out c = search needs
+
+enum-known-answer-2 : tie.Need-enum-known-answer-2
+enum-known-answer-2 c = search needs
+
+mul-result : tie.Need-mul-result
+mul-result c = search needs
+
+add-result : tie.Need-add-result
+add-result c = search needs
+
+same-length : tie.Need-same-length
+same-length c = search needs
+
+returns-2 : tie.Need-returns-2
+returns-2 c =
+    answered 1 _ _ (c .before .before .before .before .args .out .now) (ap cutReply (c .before .answer .given .1)) (c .before .before .before .if1 .left)
+
+returns-3 : tie.Need-returns-3
+returns-3 c =
+    answered 1 _ _ (c .before .before .before .before .args .out .now) (ap cutReply (c .before .answer2 .given .1)) (c .before .before .before .if1 .left)
+
+pub put-written-spec : {M : Type 1} → statement M
+put-written-spec =
+    tie.close
+    (tie.spec
+    returns
+    enum-known-answer
+    slice-write-out
+    enum-known-answer-2
+    mul-result
+    add-result
+    same-length
+    returns-2
+    returns-3)

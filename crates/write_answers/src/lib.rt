@@ -1,0 +1,79 @@
+// What the C interface's functions that write an element have in common: the header fields as a slice of numbers, and the
+// answer as numbers. What they are handed and leave is in specs/Writing, the laws of it in proofs/Writing.
+ghost use mathlib.Core.Path.{_≡_};
+ghost use lib.ListN.{length};
+ghost use Rattle.answers.specs.Answers.{Replied};
+ghost use Rattle.write_answers.specs.Writing.{fieldsGiven, fieldsOf, givenIn, cutReply};
+use writer::Written;
+
+// The header fields that a slice of numbers is, or that it is none.
+pub enum Given {
+    Header { fields: fields::Fields },
+    Nothing,
+}
+
+// Whether a slice is header fields.
+fn fields_given(fields: &[usize]) -> bool
+    ensures { λ r. ⌜ r ≡ fieldsGiven (now (fields .entry)) ⌝ }
+{
+    if fields.len() != 16 {
+        return false;
+    }
+    if 1 < fields[2] {
+        return false;
+    }
+    fields[3] <= 1
+}
+
+// The header fields of a slice.
+fn fields_of(fields: &[usize]) -> fields::Fields
+    requires { ⌜ length (now fields) ≡ 16 ⌝ }
+    ensures { λ r. ⌜ r ≡ fieldsOf (now (fields .entry)) ⌝ }
+{
+    fields::Fields {
+        kind: fields[0],
+        level: fields[1],
+        c: fields[2] == 1,
+        deleted: fields[3] == 1,
+        low_x: fields[4],
+        low_y: fields[5],
+        low_z: fields[6],
+        high_x: fields[7],
+        high_y: fields[8],
+        high_z: fields[9],
+        group: fields[10],
+        index: fields[11],
+        properties: fields[12],
+        style: fields[13],
+        weight: fields[14],
+        colour: fields[15],
+    }
+}
+
+// The header fields of a slice, where it is such.
+pub fn fields_in(fields: &[usize]) -> Given
+    ensures { λ r. ⌜ r ≡ givenIn (now (fields .entry)) ⌝ }
+{
+    if !fields_given(fields) {
+        return Given::Nothing;
+    }
+    Given::Header {
+        fields: fields_of(fields),
+    }
+}
+
+// The number of words; of a refusal its number and place as one number, and nothing written. 1 where the slice is too short.
+pub fn put_written(out: &mut [usize], answer: Written) -> usize
+    ensures { λ r. ⌜ Replied 1 (cutReply answer) (now (out .entry)) r (now (out .exit)) ⌝ }
+{
+    if out.len() < 1 {
+        return 1;
+    }
+    match answer {
+        Written::Made { words } => {
+            out[0] = words;
+            0
+        }
+        Written::Refused { number, place } => number % 256 + 256 * (place % 72057594037927936),
+    }
+}
