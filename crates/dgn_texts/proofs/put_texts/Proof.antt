@@ -80,7 +80,10 @@ loop-holds : tie.Need-loop-holds Inv-loop μ-loop
 loop-holds c =
     let a = c .before .before .args in
     let ws = words (a .file .now) in
-    (omega arith, walking-start ws, subst (λ p. Going p (a .numbers .now) (numbersOf (a .dim) (a .file .now) (a .k)) (a .elements) 0 0 (a .numbers .now)) (from-first (a .k) (length (a .numbers .now)) (λ i. entryAt (a .dim) ws (walkOf ws i)) (a .elements) (omega (arith, c .if1 .left))) (going-start (a .numbers .now) (numbersOf (a .dim) (a .file .now) (a .k)) (a .elements) 0))
+    let numbers = a .numbers .now in
+    let from = numbersOf (a .dim) (a .file .now) (a .k) in
+    let first = from-first (a .k) (length numbers) (λ i. entryAt (a .dim) ws (walkOf ws i)) (a .elements) (omega (arith, c .if1 .left)) in
+    (omega arith, walking-start ws, subst (λ p. Going p numbers from (a .elements) 0 0 numbers) first (going-start numbers from (a .elements) 0))
 
 put-from-requires : tie.Need-put-from-requires Inv-loop μ-loop
 put-from-requires c κs =
