@@ -19,6 +19,15 @@ size_t hop_sizes(const uint8_t *file)
     return n;
 }
 
+/* By sizes, up to a place: how many elements there are from another place on. */
+size_t hop_extent(const uint8_t *file, size_t at, size_t end)
+{
+    size_t n = 0;
+    for (; at < end; at += word(file, at + 1) + 2)
+        n++;
+    return n;
+}
+
 /* By totals: how many there are at the top. */
 size_t hop_totals(const uint8_t *file)
 {

@@ -57,7 +57,7 @@ static void history(void)
         printf("%s at %zu", kinds[record[DGN_RECORD_KIND]], record[DGN_RECORD_PLACE]);
         if (record[DGN_RECORD_KIND] >= DGN_INSERT && record[DGN_RECORD_HEADER] != DGN_TOP)
             printf(" beneath %zu", record[DGN_RECORD_HEADER]);
-        printf(", %zu words kept\n", record[DGN_RECORD_PAYLOAD]);
+        printf(", kept words: %zu\n", record[DGN_RECORD_PAYLOAD]);
         jused = record[DGN_RECORD_BEFORE];
     }
     hold("the record before", r, DGN_NOTHING, 3);

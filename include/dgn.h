@@ -50,8 +50,8 @@
 extern "C" {
 #endif
 
-#define DGN_VERSION 0x000100
-#define DGN_VERSION_TEXT "0.1.0"
+#define DGN_VERSION 0x000200
+#define DGN_VERSION_TEXT "0.2.0"
 
 /* A returned number taken apart. */
 #define DGN_NUMBER(r) ((r) & 255)
@@ -355,7 +355,8 @@ size_t dgn_write_text(const size_t *fields, size_t fields_len, const int64_t *te
  *
  * A record is its payload, then six words: kind (1 mark, 2 rename, 3 insert, 4 remove), the header's place (-1 for the
  * top and for kinds 1 and 2) and the place, each two words with the high one first, and the number of payload words.
- * The payload is for a rename the two old words of the name, for a remove the words removed, else none.
+ * The payload is for a mark the deleted flags that its elements had, sixteen to a word, the first in bit 0, for a rename the
+ * two old words of the name, for a remove the words removed, for an insert none.
  *
  * Refusals of each call, in this order: 1 (also a used length beyond its buffer, a used file whose last word is not
  * 65535), the file's own, 1 where the end marker stands before the last used word, then those named below. */
@@ -366,8 +367,8 @@ enum { DGN_EDIT_USED, DGN_EDIT_JOURNAL_USED };
 /* The top of the file, for a header's place. */
 #define DGN_TOP ((size_t)-1)
 
-/* Marks the element at `place`: deleted 1 sets its deleted flag, 0 clears it, and another number is 1. Then 13, 14,
- * 16. */
+/* Marks the element at `place` with all beneath it: deleted 1 sets their deleted flags, 0 clears them, and another number is
+ * 1. One undo brings back the flags that they had. Then 13, 14 where the flag of the named element is already so, 16. */
 size_t dgn_mark(uint8_t *file, size_t file_len, size_t used, uint8_t *journal, size_t journal_len, size_t jused, size_t dimension, size_t place, size_t deleted, size_t *out, size_t out_len);
 
 /* Renames the type 1 or 2 cell at `place`; for the text see dgn_pack. Then 13, 18, 12 at 0 for the text, 16. */

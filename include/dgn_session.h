@@ -60,7 +60,7 @@ static inline size_t dgn_session_keep(struct dgn_session *s, size_t r, const siz
     return r;
 }
 
-/* dgn_mark: deleted is 1 or 0. */
+/* dgn_mark: deleted is 1 or 0. All beneath the element goes with it, and one undo brings back what was. */
 static inline size_t dgn_session_mark(struct dgn_session *s, size_t place, size_t deleted)
 {
     size_t out[DGN_EDIT_NUMBERS];

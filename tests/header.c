@@ -295,9 +295,9 @@ static void editing(void)
     check(refused(dgn_mark(file, 146, 146, journal, 100, 76, 2, 0, 2, fresh(), 2), DGN_CALL, 0), "deleted by 2");
     check(refused(dgn_mark(file, 146, 146, journal, 100, 92, 2, 46, 1, fresh(), 1), DGN_CALL, 0), "an answer slice of one number");
     check(dgn_undo(file, 146, 146, journal, 100, 92, 2, fresh(), 2) == 0 && ARE(146, 76), "undo of the rename");
-    check(dgn_mark(file, 146, 146, journal, 100, 76, 2, 46, 0, fresh(), 2) == 0 && ARE(146, 88), "mark");
+    check(dgn_mark(file, 146, 146, journal, 100, 76, 2, 46, 0, fresh(), 2) == 0 && ARE(146, 90), "mark");
     check(file[93] == (original[93] & 127), "live");
-    check(dgn_undo(file, 146, 146, journal, 100, 88, 2, fresh(), 2) == 0 && ARE(146, 76), "undo of the mark");
+    check(dgn_undo(file, 146, 146, journal, 100, 90, 2, fresh(), 2) == 0 && ARE(146, 76), "undo of the mark");
     check(dgn_undo(file, 146, 146, journal, 100, 76, 2, fresh(), 2) == 0 && ARE(94, 64), "undo of the insert");
     check(dgn_undo(file, 146, 94, journal, 100, 64, 2, fresh(), 2) == 0 && ARE(146, 0), "undo of the remove");
     check(refused(dgn_undo(file, 146, 146, journal, 100, 0, 2, fresh(), 2), DGN_NOTHING, 0), "nothing to undo");
@@ -331,10 +331,10 @@ static void session(void)
     check(dgn_session_open(&s, 144) == DGN_NO_END + 256 * 72 && s.used == 8 && s.jused == 8, "the file's own refusal");
     check(dgn_session_open(&s, 150) == 0 && s.used == 146 && s.jused == 0, "open, with words behind the marker");
     check(dgn_session_mark(&s, 46, 1) == DGN_ALREADY && s.used == 146 && s.jused == 0, "deleted already");
-    check(dgn_session_mark(&s, 46, 0) == 0 && s.used == 146 && s.jused == 12, "mark");
-    check(dgn_session_rename(&s, 0, "417") == 0 && s.used == 146 && s.jused == 28, "rename");
-    check(dgn_session_insert(&s, 0, 72, file + 92, 52) == 0 && s.used == 198 && s.jused == 40, "insert");
-    check(dgn_session_remove(&s, 0) == DGN_JOURNAL && s.used == 198 && s.jused == 40, "no room in the journal");
+    check(dgn_session_mark(&s, 46, 0) == 0 && s.used == 146 && s.jused == 14, "mark");
+    check(dgn_session_rename(&s, 0, "417") == 0 && s.used == 146 && s.jused == 30, "rename");
+    check(dgn_session_insert(&s, 0, 72, file + 92, 52) == 0 && s.used == 198 && s.jused == 42, "insert");
+    check(dgn_session_remove(&s, 0) == DGN_JOURNAL && s.used == 198 && s.jused == 42, "no room in the journal");
     check(dgn_session_undo(&s) == 0 && dgn_session_undo(&s) == 0 && dgn_session_undo(&s) == 0, "three undos");
     check(dgn_session_undo(&s) == DGN_NOTHING && s.used == 146 && s.jused == 0, "no fourth");
     check(memcmp(bytes, file, sizeof file) == 0, "the same bytes");
@@ -352,7 +352,7 @@ static void refusals(void)
         check(dgn_refusal_name(n + 256 * 1100) == dgn_refusal_name(n), all[n]);
     }
     check(strcmp(dgn_refusal_name(DGN_FIELD + 1), "UNKNOWN") == 0 && strcmp(dgn_refusal_name(DGN_TOP), "UNKNOWN") == 0, "no refusal");
-    check(DGN_VERSION == 0x000100 && strcmp(DGN_VERSION_TEXT, "0.1.0") == 0, "the version");
+    check(DGN_VERSION == 0x000200 && strcmp(DGN_VERSION_TEXT, "0.2.0") == 0, "the version");
 }
 
 int main(void)

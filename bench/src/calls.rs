@@ -34,6 +34,7 @@ extern "C" {
     ) -> usize;
     fn hop_sizes(file: *const u8) -> usize;
     fn hop_totals(file: *const u8) -> usize;
+    fn hop_extent(file: *const u8, at: usize, end: usize) -> usize;
     fn move_bytes(file: *mut u8, from: usize, to: usize, n: usize);
 }
 
@@ -138,6 +139,12 @@ pub fn by_sizes(file: &[u8]) -> u64 {
 
 pub fn by_totals(file: &[u8]) -> u64 {
     unsafe { hop_totals(file.as_ptr()) as u64 }
+}
+
+/// The elements of an accepted file from a place up to the end of an extent.
+pub fn in_extent(file: &[u8], at: usize, end: usize) -> usize {
+    assert!(2 * end <= file.len());
+    unsafe { hop_extent(file.as_ptr(), at, end) }
 }
 
 /// One call of a session, which takes over the new used lengths. Renames are not measured.

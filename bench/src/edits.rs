@@ -1,10 +1,13 @@
 //! Edits of a file of nearly 1 MiB against judging it and moving as many bytes: a line put in and taken out at the front
-//! and at the end, the last element marked, and the undo of each.
+//! and at the end, the last element marked, and the undo of each. A cell of 2,000 elements marked, and its undo, stand
+//! against judging the file and going over the cell's extent once.
 
 use crate::calls;
-use crate::inputs::{line_for, make, Kind, KIB, KINDS};
+use crate::inputs::{line_for, make, make_after, Kind, KIB, KINDS};
 use crate::tables::{heading, row};
 use crate::timing::{measure, Measured};
+use reader::generate::large;
+use reader::generate::tree::lay;
 use reader::{Call, State};
 use std::hint::black_box;
 
@@ -14,6 +17,10 @@ enum Work {
     Plain {
         from: usize,
         gap: usize,
+    },
+    /// Judging the used file and going over its words up to a place, from element to element.
+    Hop {
+        end: usize,
     },
 }
 
@@ -53,6 +60,11 @@ impl Measured for Done {
                 assert!(calls::judge(&state.file[..used], state.dim).is_ok());
                 calls::move_within(&mut state.file, *from, from + gap, used - from);
             }
+            Work::Hop { end } => {
+                let used = state.used as usize;
+                assert!(calls::judge(&state.file[..used], state.dim).is_ok());
+                assert!(black_box(calls::in_extent(&state.file, 0, *end)) > 2000);
+            }
         }
     }
 }
@@ -67,7 +79,7 @@ fn after(start: &State, call: &Call) -> State {
     ours
 }
 
-const ROWS: [&str; 10] = [
+const ROWS: [&str; 12] = [
     "insert a line, front",
     "its undo",
     "remove it, front",
@@ -78,16 +90,25 @@ const ROWS: [&str; 10] = [
     "its undo",
     "mark, last element",
     "its undo",
+    "mark, a cell of 2,000 elements",
+    "its undo",
 ];
+
+/// A session on a file, with room behind it.
+fn begun(mut file: Vec<u8>, dim: u64) -> State {
+    let used = file.len() as u64;
+    file.resize(1024 * KIB, 0);
+    State { dim, file, used, journal: vec![0; 4 * KIB], jused: 0 }
+}
 
 /// The ratios of one kind of file, a cell for each row.
 fn column(kind: Kind, rounds: usize) -> Vec<String> {
     let input = make(kind, 1020 * KIB, 1);
     let used = input.file.len();
-    let mut file = input.file;
-    file.resize(1024 * KIB, 0);
     let dim = kind.dim();
-    let start = State { dim, file, used: used as u64, journal: vec![0; 4 * KIB], jused: 0 };
+    let start = begun(input.file, dim);
+    let cell = lay(&[large::cell_of_many(2000)]).words;
+    let many = begun(make_after(&cell, kind, 1020 * KIB, 1).file, dim);
     let piece = line_for(dim, 1);
     let gap = piece.len();
     let end = used - 2;
@@ -106,11 +127,18 @@ fn column(kind: Kind, rounds: usize) -> Vec<String> {
         pair(&State { jused: 0, ..with }, Call::Remove { place });
     }
     pair(&start, Call::Mark { place: input.last, deleted: start.file[2 * input.last as usize + 1] < 128 });
+    pair(&many, Call::Mark { place: 0, deleted: true });
     all.push(Box::new(Done::new(&start, Work::Plain { from: 0, gap })));
     all.push(Box::new(Done::new(&start, Work::Plain { from: end, gap })));
+    all.push(Box::new(Done::new(&many, Work::Hop { end: cell.len() })));
 
     let times = measure(&mut all, rounds);
-    (0..ROWS.len()).map(|k| times.ratio(k, if k < 4 { 10 } else { 11 }).to_string()).collect()
+    let beside = |k| match k {
+        0..=3 => 12,
+        4..=9 => 13,
+        _ => 14,
+    };
+    (0..ROWS.len()).map(|k| times.ratio(k, beside(k)).to_string()).collect()
 }
 
 /// A row for each edit, a column for each kind of file.

@@ -27,7 +27,8 @@ pub struct Record<'j> {
     pub header: Option<usize>,
     /// The place.
     pub place: usize,
-    /// Its payload, words as bytes: the two old words of the name for a rename, those removed for a remove, else none.
+    /// Its payload, words as bytes: for a mark the deleted flags that the elements had, sixteen a word, the first in bit 0, for a
+    /// rename the two old words of the name, for a remove those removed, else none.
     pub payload: &'j [u8],
     /// The journal's used length in bytes before the record. Its payload begins there.
     pub before: usize,

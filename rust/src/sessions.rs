@@ -109,7 +109,8 @@ where
         Ok(())
     }
 
-    /// Marks the element at `place` deleted or live. Refusals: 1, the file's own, 13, 14, 16.
+    /// Marks the element at `place` with all beneath it deleted or live, as one step: one undo brings back what was deleted and what
+    /// was live. Refusals: 1, the file's own, 13, 14 where the element itself is already so, 16.
     pub fn mark(&mut self, place: usize, deleted: bool) -> Result<(), Refusal> {
         self.call(|file, used, journal, jused, dim, out| {
             raw::mark(file, used, journal, jused, dim, place, deleted.into(), out)

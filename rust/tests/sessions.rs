@@ -41,13 +41,13 @@ fn edited_and_undone() {
         (Edit::Insert, None, 0, 0),
         (Edit::Insert, Some(0), 72, 0),
         (Edit::Rename, None, 0, 2),
-        (Edit::Mark, None, 46, 0),
+        (Edit::Mark, None, 46, 1),
     ];
     assert_eq!(edits, wanted);
-    assert_eq!(history.iter().map(|r| r.before).collect::<Vec<_>>(), [52, 40, 28, 12, 0]);
+    assert_eq!(history.iter().map(|r| r.before).collect::<Vec<_>>(), [54, 42, 30, 14, 0]);
     let old = dgn::pack("00417").unwrap();
     let payload = [old.first.to_le_bytes(), old.second.to_le_bytes()].concat();
-    assert_eq!(history.iter().map(|r| r.payload).collect::<Vec<_>>(), [&removed[..], &[], &[], &payload, &[]]);
+    assert_eq!(history.iter().map(|r| r.payload).collect::<Vec<_>>(), [&removed[..], &[], &[], &payload, &[1, 0]]);
 
     for _ in 0..5 {
         session.undo().unwrap();
@@ -98,14 +98,14 @@ fn refusals_leave_all() {
 #[test]
 fn borrowed_buffers_and_room() {
     let mut file = cell();
-    let mut journal = [0u8; 12];
+    let mut journal = [0u8; 14];
     let mut session = Session::open(&mut file[..], 146, &mut journal[..], TWO).unwrap();
     assert_eq!(session.insert(Some(0), 72, &line(&fields())), refused(Number::Room, 0));
     assert_eq!(session.rename(0, "417"), refused(Number::Journal, 0));
     session.mark(0, true).unwrap();
     assert_eq!(session.mark(0, false), refused(Number::Journal, 0));
     let (used, journal_used) = (session.used(), session.journal_used());
-    assert_eq!((used, journal_used), (146, 12));
+    assert_eq!((used, journal_used), (146, 14));
     assert_ne!(file, cell());
 
     // left and taken up again
@@ -145,7 +145,8 @@ fn records() {
     let mut session = session();
     session.mark(46, false).unwrap();
     let mut journal = session.journal().to_vec();
-    assert_eq!(number(&journal, 12).map(|r| (r.edit, r.place, r.before)), Ok((Edit::Mark, 46, 0)));
-    journal[10] = 1;
-    assert_eq!(number(&journal, 12), Err((Number::BadJournal, 0)));
+    assert_eq!(number(&journal, 14).map(|r| (r.edit, r.place, r.before)), Ok((Edit::Mark, 46, 0)));
+    // the number of payload words
+    journal[12] = 0;
+    assert_eq!(number(&journal, 14), Err((Number::BadJournal, 0)));
 }

@@ -1,24 +1,25 @@
--- A buffer whose used bytes change and stay as many holds the words of the new ones, stored. So the deleted flag, a name
+-- A buffer whose used bytes change and stay as many holds the words of the new ones, stored. So deleted flags, a name
 -- and corrected totals in the used bytes are those in the used words.
 use Prim.Native.Nat.{ℕ, _+_, _-_, _/_, _%_, _<_, max}
 use mathlib.Core.Path.{_≡_, refl, sym, ap, _∙_}
 use mathlib.Core.Bool.{Bool}
-use mathlib.Core.List.{List, _++_}
+use mathlib.Core.List.{List, [], _∷_, _++_}
 use native.Mathlib.Omega.{arith}
 use lib.ListN.{length, drop, set}
 use Rattle.words.specs.Words.{words, Below, wordAt, putWord}
 use Rattle.words.proofs.Laws.{length-put, words-put}
 use Rattle.places.specs.declared.Above.{Above}
 use Rattle.places.specs.declared.Above.the-variants.{Top, Under}
-use Rattle.edits.specs.Edits.{flagged}
+use Rattle.edits.specs.Edits.{flagged, withFlags}
 use Rattle.headers.specs.Header.{namePlace}
 use Rattle.edits.specs.Calls.{stored}
-use Rattle.edits.proofs.Fields.{flagged-small}
 use Rattle.buffers.proofs.Stored.{stored-bytes}
 use Rattle.totals.proofs.Corrected.{below-put}
 use Rattle.totals.proofs.Totals.{length-totals, below-totals}
 use Rattle.changes.specs.CellNames.{namePut}
-use Rattle.changes.specs.Changes.{flagPut, totalsUnder}
+use Rattle.flags.specs.Extents.{flagPut, flagsPut}
+use Rattle.flags.proofs.Stores.{words-flags, length-put-flags}
+use Rattle.changes.specs.Changes.{totalsUnder}
 
 kept-stored : (f : List ℕ) (used : ℕ) (y : List ℕ) → used % 2 ≡ 0 → length y ≡ used → Below 256 y → y ++ drop used f ≡ stored f used (words y)
 kept-stored f used y even l b =
@@ -36,15 +37,20 @@ pub below-under : (up : Bool) (n : ℕ) (h : Above) (s : List ℕ) → Below 256
 below-under up n Top s b = b
 below-under up n (Under h) s b = below-totals up n h s b
 
+---- flags put
+
+below-put-flags : (qs : List ℕ) (bs : List Bool) (s : List ℕ) → Below 256 s → Below 256 (flagsPut qs bs s)
+unfolding flagPut
+below-put-flags [] bs s b = b
+below-put-flags (q ∷ qs) [] s b = b
+below-put-flags (q ∷ qs) (f ∷ bs) s b = below-put-flags qs bs (flagPut f q s) (below-put s q (flagged f (wordAt (words s) q)) b)
+
 ---- a buffer with its used bytes s changed
 
 module _ (f : List ℕ) (used : ℕ) (s : List ℕ) (even : used % 2 ≡ 0) (is : length s ≡ used) (below : Below 256 s) where
-  pub flag-stored : (p : ℕ) (deleted : Bool) → flagPut deleted p s ++ drop used f ≡ stored f used (set (words s) p (flagged deleted (wordAt (words s) p)))
-  unfolding flagPut
-  flag-stored p deleted =
-      let w = flagged deleted (wordAt (words s) p) in
-      kept-stored f used (putWord s p w) even (length-put s p w ∙ is) (below-put s p w below)
-      ∙ ap (stored f used) (words-put s p w (flagged-small deleted (wordAt (words s) p)))
+  pub flags-stored : (qs : List ℕ) (bs : List Bool) → flagsPut qs bs s ++ drop used f ≡ stored f used (withFlags qs bs (words s))
+  flags-stored qs bs =
+      kept-stored f used (flagsPut qs bs s) even (length-put-flags qs bs s ∙ is) (below-put-flags qs bs s below) ∙ ap (stored f used) (words-flags qs bs s)
 
   pub name-stored : (p a b : ℕ) → a < 65536 → b < 65536 →
       namePut p a b s ++ drop used f ≡ stored f used (set (set (words s) (namePlace (words s) p) a) (namePlace (words s) p + 1) b)

@@ -1,12 +1,12 @@
--- The four edits on a file's bytes are the book's edits on its words: on an accepted used file an edit that nothing
--- refuses leaves the bytes of the edited words, stored; with how long they are, and a removal's record.
+-- The edits on a file's bytes are the book's edits on its words: on an accepted used file an edit that nothing refuses leaves
+-- the bytes of the edited words, stored; with how long they are, and the records of a mark and a removal.
 use Prim.Native.Nat.{ℕ, _+_, _-_, _*_, _/_, _%_, _<_, _≤_}
 use mathlib.Core.Path.{_≡_, sym, ap, _∙_, subst}
 use mathlib.Core.Bool.{Bool, true, false}
 use mathlib.Core.List.{List, _++_}
 use mathlib.Core.Option.{Option}
 use native.Mathlib.Omega.{arith}
-use lib.ListN.{length, take, drop, length-set}
+use lib.ListN.{length, take, drop, replicate}
 use lib.Seq.{length-take-le}
 use Rattle.words.specs.Words.{words, Below}
 use Rattle.words.proofs.Laws.{length-words, words-below}
@@ -15,11 +15,13 @@ use Rattle.places.specs.declared.Above.{Above}
 use Rattle.places.specs.declared.Spotted.the-variants.{At}
 use Rattle.places.specs.Descent.{locateOf}
 use Rattle.places.proofs.Places.{spot-inside}
-use Rattle.edits.proofs.Lengths.{length-raise}
-use Rattle.edits.specs.Edits.{mark, rename, insert, remove, around, downTo, extentIn, raise, apply}
+use Rattle.edits.proofs.Lengths.{length-raise, length-mark}
+use Rattle.edits.proofs.Flags.{length-with}
+use Rattle.edits.specs.Bits.{wordFlags}
+use Rattle.edits.specs.Edits.{mark, rename, insert, remove, restore, extentPlaces, around, downTo, extentIn, raise, apply}
 use Rattle.headers.specs.Header.{namePlace}
 use Rattle.edits.specs.Allowed.{fine, orElse, unless, gapOk, pieceFault, roomFault, insertFault}
-use Rattle.edits.specs.Records.{removed, headerBy, recordOf}
+use Rattle.edits.specs.Records.{flag, removed, oldFlags, headerBy, recordOf}
 use Rattle.edits.specs.Calls.{usedWords, stored}
 use Rattle.edits.proofs.Accepted.{Accepted}
 use Rattle.edits.proofs.Bounds.{below-take}
@@ -32,9 +34,11 @@ use Rattle.opening.specs.Opening.{headerOf}
 use Rattle.opening.proofs.Opening.{AcceptedUsed}
 use Rattle.opening.proofs.Accepted.{standing, found-is}
 use Rattle.changes.specs.CellNames.{namePut}
-use Rattle.changes.specs.Changes.{flagPut, totalsUnder, usedTotals, pieceIn, extentOut}
+use Rattle.flags.specs.Extents.{placesIn, flagsPut, allPut}
+use Rattle.flags.proofs.Walked.{found-places}
+use Rattle.changes.specs.Changes.{totalsUnder, usedTotals, pieceIn, extentOut}
 use Rattle.changes.proofs.Steps.{piece-within, extent-within}
-use Rattle.changes.proofs.Kept.{below-under, flag-stored, name-stored, totals-stored}
+use Rattle.changes.proofs.Kept.{below-under, flags-stored, name-stored, totals-stored}
 use Rattle.changes.proofs.Found.{gap-within, raised-under, Found, found-at, found-extent, lowered-under}
 
 module _ (dim : ℕ) (F : List ℕ) (used m : ℕ) (below : Below 256 F) (even : used % 2 ≡ 0) (within : used ≤ length F) (accepted : AcceptedUsed dim (take used F) m) where
@@ -52,16 +56,33 @@ module _ (dim : ℕ) (F : List ℕ) (used m : ℕ) (below : Below 256 F) (even :
   part-words : 2 * length (usedWords F used) ≡ used
   part-words = let l = part-length in let w = length-words (take used F) in omega arith
 
-  ---- mark and rename
-
-  pub mark-made : (p : ℕ) (deleted : Bool) →
-      flagPut deleted p (take used F) ++ drop used F ≡ stored F used (apply dim (usedWords F used) (mark p deleted))
-  unfolding apply
-  mark-made p deleted = flag-stored F used (take used F) even part-length part-below p deleted
+  ---- mark, its undo and rename
 
   pub mark-length : (p : ℕ) (deleted : Bool) → 2 * length (apply dim (usedWords F used) (mark p deleted)) ≡ used
+  mark-length p deleted = ap (λ n. 2 * n) (length-mark dim (usedWords F used) p deleted) ∙ part-words
+
+  pub restore-length : (p : ℕ) (x : List ℕ) → 2 * length (apply dim (usedWords F used) (restore p x)) ≡ used
   unfolding apply
-  mark-length p deleted = ap (λ n. 2 * n) (length-set (usedWords F used) p _) ∙ part-words
+  restore-length p x = ap (λ n. 2 * n) (length-with (extentPlaces (spotsOf dim (usedWords F used)) p) (wordFlags x) (usedWords F used)) ∙ part-words
+
+  module _ (p end depth : ℕ) (above : Above) (located : locateOf (usedWords F used) p m ≡ At end depth above) where
+    -- the elements of the extent
+    pub extent-found : extentPlaces (spotsOf dim (usedWords F used)) p ≡ placesIn (usedWords F used) p end
+    extent-found = found-places dim (take used F) m accepted part-below p end depth above located
+
+    pub mark-made : (deleted : Bool) → allPut deleted p end (take used F) ++ drop used F ≡ stored F used (apply dim (usedWords F used) (mark p deleted))
+    unfolding apply allPut
+    mark-made deleted =
+        rw extent-found
+        (flags-stored F used (take used F) even part-length part-below (placesIn (usedWords F used) p end) (replicate (length (placesIn (usedWords F used) p end)) deleted))
+
+    pub mark-record : (deleted : Bool) → recordOf dim (usedWords F used) (mark p deleted) ≡ flag p (oldFlags (placesIn (usedWords F used) p end) (usedWords F used))
+    unfolding recordOf
+    mark-record deleted = ap (λ qs. flag p (oldFlags qs (usedWords F used))) extent-found
+
+    pub restore-made : (x : List ℕ) → flagsPut (placesIn (usedWords F used) p end) (wordFlags x) (take used F) ++ drop used F ≡ stored F used (apply dim (usedWords F used) (restore p x))
+    unfolding apply
+    restore-made x = rw extent-found (flags-stored F used (take used F) even part-length part-below (placesIn (usedWords F used) p end) (wordFlags x))
 
   pub rename-made : (p a b : ℕ) → a < 65536 → b < 65536 →
       namePut p a b (take used F) ++ drop used F ≡ stored F used (apply dim (usedWords F used) (rename p a b))

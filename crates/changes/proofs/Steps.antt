@@ -1,20 +1,14 @@
--- What the functions' steps say of the bytes that they leave: the flag by its word, and a piece or an extent moved once the
--- used part's totals are corrected.
+-- What the functions' steps say of the bytes that they leave: a piece or an extent moved once the used part's totals are
+-- corrected.
 use Prim.Native.Nat.{ℕ, _/_, _≤_, _<_}
 use mathlib.Core.Path.{_≡_, refl, sym, ap, _∙_}
-use mathlib.Core.Bool.{Bool, true, false}
+use mathlib.Core.Bool.{true, false}
 use mathlib.Core.List.{List, _++_}
 use lib.ListN.{length, take, drop}
 use borrow.Author.Tests.{le-leb, lt-leb}
-use Rattle.words.specs.Words.{words, wordAt, putWord}
 use Rattle.places.specs.declared.Above.{Above}
-use Rattle.edits.specs.Edits.{flagged}
 use Rattle.buffers.specs.Files.{wordsInserted, wordsRemoved}
-use Rattle.changes.specs.Changes.{flagPut, totalsUnder, usedTotals, pieceIn, extentOut}
-
-pub flag-put : (b deleted : Bool) (p w : ℕ) (s t : List ℕ) → deleted ≡ b → w ≡ wordAt (words s) p → t ≡ putWord s p (flagged b w) → t ≡ flagPut deleted p s
-unfolding flagPut
-flag-put b deleted p w s t d e f = f ∙ rw (d, e) refl
+use Rattle.changes.specs.Changes.{totalsUnder, usedTotals, pieceIn, extentOut}
 
 ---- a piece put in, an extent taken out
 

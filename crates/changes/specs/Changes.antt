@@ -1,21 +1,15 @@
 -- The bytes that an edit leaves of a file's buffer once nothing refuses it; proofs/Made: they are the buffer with the words
--- of edits' `apply` stored. Mark changes the used part alone, as rename does (crate cell_names); insert and remove correct
--- totals in it and move what follows.
+-- of edits' `apply` stored. Mark and its undo change the used part alone (crate flags), and so does rename (specs/CellNames);
+-- insert and remove correct totals in it and move what follows.
 use Prim.Native.Nat.{ℕ, _/_}
 use mathlib.Core.List.{List, _++_}
 use mathlib.Core.Bool.{Bool, true, false, cond}
 use lib.ListN.{length, take, drop}
 use lib.Dec.{leb}
-use Rattle.words.specs.Words.{words, wordAt, putWord}
 use Rattle.places.specs.declared.Above.{Above}
 use Rattle.places.specs.declared.Above.the-variants.{Top, Under}
-use Rattle.edits.specs.Edits.{flagged}
 use Rattle.totals.specs.Totals.{totalsPut}
 use Rattle.buffers.specs.Files.{wordsInserted, wordsRemoved}
-
--- the bytes with bit 15 of the word at a place set or clear
-unfoldable pub flagPut : Bool → ℕ → List ℕ → List ℕ
-flagPut deleted p s = putWord s p (flagged deleted (wordAt (words s) p))
 
 -- the bytes with the totals on the path down to a named header corrected; at the top there is none
 abbrev pub totalsUnder : Bool → ℕ → Above → List ℕ → List ℕ

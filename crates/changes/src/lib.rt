@@ -1,6 +1,6 @@
-// Three edits on a file's buffer, made once nothing refuses them: the deleted flag, a piece put in, an extent taken out,
-// with the totals on the path. Definitions: specs/Changes; proofs/Made: on an accepted file these bytes, and those of the
-// fourth edit, rename_cell, are the book's words, stored.
+// Two edits on a file's buffer, made once nothing refuses them: a piece put in and an extent taken out, with the totals on
+// the path. Definitions: specs/Changes; proofs/Made: on an accepted file these bytes, and those of rename_cell and of the
+// crate flags, are the book's words, stored.
 //
 // The name of the cell at a place of a file's used part: its two words read as bytes, and written over. Definitions:
 // specs/CellNames.
@@ -9,21 +9,9 @@ ghost use Prim.Native.Nat.{_<_};
 ghost use lib.ListN.{length};
 ghost use Rattle.words.specs.Words.{words};
 ghost use Rattle.headers.specs.Header.{namePlace};
-ghost use Rattle.changes.specs.Changes.{flagPut, totalsUnder, pieceIn, extentOut};
+ghost use Rattle.changes.specs.Changes.{totalsUnder, pieceIn, extentOut};
 ghost use Rattle.changes.specs.CellNames.{namePut, nameBytes, cellName};
 use places::Above;
-
-// Marks the element at a place of a file's used part deleted, or live.
-pub fn mark_element(used: &mut [u8], place: usize, deleted: bool)
-    ensures { λ _. ⌜ now (used .exit) ≡ flagPut deleted place (now (used .entry)) ⌝ }
-{
-    let w = words::word(used, place) % 32768;
-    if deleted {
-        words::put_word(used, place, (32768 + w) as u16);
-    } else {
-        words::put_word(used, place, w as u16);
-    }
-}
 
 // Corrects the totals on the path down to a header, if there is one.
 fn correct_under(used: &mut [u8], header: Above, up: bool, n: usize)

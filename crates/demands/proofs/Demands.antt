@@ -87,11 +87,13 @@ use Rattle.edits.specs.Start.{AcceptedOpens}
 use Rattle.edits.specs.Refusals.{EveryRefusal, PiecePlace}
 use Rattle.edits.specs.Causes.{EditRefused, InsertRefused, UndoRefused}
 use Rattle.edits.specs.Made.{MadeExactly, EditsMade, MarkMade, RenameMade, InsertMade, RemoveMade}
+use Rattle.edits.specs.Marks.{MarkMarks, MarkJudged, MarkUndone, FlagsBack}
 use Rattle.edits.proofs.Start as start
 use Rattle.edits.proofs.Causes as causes
 use Rattle.edits.proofs.Allowed as allowed
 use Rattle.edits.proofs.PlainEdits as plain
 use Rattle.edits.proofs.Every as every
+use Rattle.edits.proofs.Marks as marks
 use Rattle.sessions.specs.Runs.{EveryCall}
 use Rattle.sessions.proofs.Runs as runs
 use Rattle.answers.specs.Answers.{Reply, withRoom, Replied, Small, SmallReply, ReadAs}
@@ -581,8 +583,9 @@ pub edits-made : EditsMade
 edits-made = allowed.edits-made
 
 -- in plain facts, of a session that opens: a mark is made where an element starts at the place, its flag is not as wanted and 12
--- bytes of the journal are free; a rename where it is a cell and the text a name, with 16 bytes; an insert where place and piece have
--- no fault and the file's buffer has room, with 12 bytes; a remove with 12 bytes and those of the extent
+-- bytes of the journal are free, with two for each sixteen elements of its extent, a part of sixteen too; a rename where it is a cell
+-- and the text a name, with 16 bytes; an insert where place and piece have no fault and the file's buffer has room, with 12 bytes; a
+-- remove with 12 bytes and those of the extent
 pub mark-made : MarkMade
 mark-made = plain.mark-made
 
@@ -594,6 +597,22 @@ insert-made = plain.insert-made
 
 pub remove-made : RemoveMade
 remove-made = plain.remove-made
+
+-- after a mark that is made every element in the extent has the flag and no other word of the file changed, and judging answers
+-- the same of the file
+pub mark-marks : MarkMarks
+mark-marks = marks.mark-marks
+
+pub mark-judged : MarkJudged
+mark-judged = marks.mark-judged
+
+-- a mark and its undo give the same bytes, whatever mixture of flags the extent had; and its record gives the words back whatever
+-- flags stand in the extent then
+pub mark-undone : MarkUndone
+mark-undone = marks.mark-undone
+
+pub flags-back : FlagsBack
+flags-back = marks.flags-back
 
 ---- words and signed longs: what is stored is read back, and every other word stays
 

@@ -16,8 +16,9 @@ use Rattle.limits.specs.Limits.{callOk}
 use Rattle.places.specs.Places.{spottedAt}
 use Rattle.points_linkages.specs.Points.{pointOf}
 use Rattle.text_views.specs.TextViews.{turnAt, originAt, oddAt, textAt, fieldAt, textIn as textRead, charactersAt, fieldIn, textOf, charactersOf, fieldOf}
-use Rattle.edits.specs.Edits.{corrected, splice, cut, apply}
-use Rattle.edits.specs.Allowed.{markFault, renameFault, gapOk, pieceFault, insertFault, removeFault, editFault}
+use Rattle.edits.specs.Bits.{flagWords, wordFlags, flagsOk}
+use Rattle.edits.specs.Edits.{extentPlaces, corrected, splice, cut, apply}
+use Rattle.edits.specs.Allowed.{markFault, renameFault, gapOk, pieceFault, insertFault, removeFault, restoreFault, editFault}
 use Rattle.edits.specs.Records.{recordOf, recordWords, lastRecord, reversal, reversible}
 use Rattle.edits.specs.Calls.{sessionOk, sessionFault, openFault, stored, editMade, editWithin, edited, undoMade, undone, step}
 use Rattle.demands.specs.Starred.{allHold, starred}
@@ -25,7 +26,7 @@ use Rattle.demands.specs.Starred.{allHold, starred}
 pub starred-hold : allHold starred ≡ true
 unfolding over codeOf letterOf wordFrom packed wordOk nameOk textIn textAnswer unpacked linkageWords fillFrom linkagesFill
     byteAt textPart eachFieldOk fieldsOk fixedPart mayStand attributesOk linkagesOk reservedOk placeOk fixedOk textFieldsOk extentOk storedNameOk faultOf headOf countOk stopOf
-    listFrom elementFrom elementOf topOf callOk judgeOf spotsFrom spotsOf spottedAt pointOf turnAt originAt oddAt textAt fieldAt textRead charactersAt fieldIn textOf charactersOf fieldOf corrected splice cut apply markFault renameFault
-    gapOk pieceFault insertFault removeFault editFault recordOf recordWords lastRecord reversal reversible sessionOk
+    listFrom elementFrom elementOf topOf callOk judgeOf spotsFrom spotsOf spottedAt pointOf turnAt originAt oddAt textAt fieldAt textRead charactersAt fieldIn textOf charactersOf fieldOf flagWords wordFlags flagsOk extentPlaces corrected splice cut apply markFault renameFault
+    gapOk pieceFault insertFault removeFault restoreFault editFault recordOf recordWords lastRecord reversal reversible sessionOk
     sessionFault openFault stored editMade editWithin edited undoMade undone step
 starred-hold = refl

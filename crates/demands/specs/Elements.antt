@@ -29,6 +29,11 @@ attributed kind size index own = element (live kind 0) size index 2048 own
 abbrev pub raw : ℕ → List ℕ
 raw c = live 5 c ∷ 0 ∷ []
 
+-- n raw components one behind another, live (0) or deleted (1)
+abbrev pub raws : ℕ → ℕ → List ℕ
+raws zero deleted = []
+raws (suc n) deleted = firstWord 5 1 0 deleted ∷ 0 ∷ raws n deleted
+
 -- a 2D line, live and deleted, and an empty 2D text
 abbrev pub line : ℕ → List ℕ
 line c = plain 3 c 26 []
@@ -49,9 +54,12 @@ flatText size characters fields given = plain 17 0 size (texted 11 characters fi
 abbrev pub solidText : ℕ → ℕ → ℕ → List ℕ → List ℕ
 solidText size characters fields given = plain 17 0 size (texted 19 characters fields given)
 
--- the headers, each before what stands under it: a 2D cell with its total, and one at the top with its name too
+-- the headers, each before what stands under it: a 2D cell with its total, live and deleted, and one at the top with its name too
 abbrev pub cell : ℕ → ℕ → List ℕ
 cell c total = plain 2 c 46 (total ∷ [])
+
+abbrev pub deadCell : ℕ → ℕ → List ℕ
+deadCell c total = element (firstWord 2 c 0 1) 46 0 0 (total ∷ [])
 
 abbrev pub namedCell : ℕ → ℕ → ℕ → List ℕ
 namedCell total first second = plain 2 0 46 (total ∷ first ∷ second ∷ [])

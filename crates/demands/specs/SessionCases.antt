@@ -12,7 +12,7 @@ use Rattle.edits.specs.Records.{recordWords, flag, inserted}
 use Rattle.edits.specs.Calls.{Session, Call, mark-call, rename-call, insert-call, remove-call, undo-call, Result, step, editedNumbers}
 use Rattle.edits.specs.Demand.{runOf}
 use Rattle.demands.specs.Cases.{Case, case}
-use Rattle.demands.specs.Elements.{firstWord, live, element, raw, line, deadLine, cell, namedCell, libraryCell, chain, text00417, text417}
+use Rattle.demands.specs.Elements.{firstWord, live, element, raw, raws, line, deadLine, cell, deadCell, namedCell, libraryCell, chain, text00417, text417}
 
 -- a session by the file's words, the words behind its marker, the journal's records and the words behind them
 abbrev pub session : List ℕ → List ℕ → List ℕ → List ℕ → Session
@@ -53,25 +53,66 @@ nines n = replicate n 9
 abbrev pub zeros : ℕ → List ℕ
 zeros n = replicate n 0
 
+-- the record of a mark: the extent's old flags, then six words
+abbrev pub marked : ℕ → List ℕ → List ℕ
+marked place old = old ++ atTop 1 place (length old)
+
+-- a cell with a dead line among live ones, then a line at the top; the cell dead with all its lines
+abbrev pub mixed : List ℕ
+mixed = cell 0 105 ++ line 1 ++ deadLine 1 ++ line 1 ++ line 0
+
+abbrev pub dead : List ℕ
+dead = deadCell 0 105 ++ deadLine 1 ++ deadLine 1 ++ deadLine 1 ++ line 0
+
 -- mark and its undo; the words behind the file and behind the journal stay
 abbrev pub markCases : List Case
 markCases =
-    -- one bit is set, and the record of kind 1 has no payload
-    makes (session (line 0) (nines 1) [] (nines 7)) (mark-call 0 true) (session (deadLine 0) (nines 1) (atTop 1 0 0) (nines 1)) ∷
+    -- an element that is no header: one bit is set, and the record has one payload word
+    makes (session (line 0) (nines 1) [] (nines 8)) (mark-call 0 true) (session (deadLine 0) (nines 1) (marked 0 (0 ∷ [])) (nines 1)) ∷
     -- its undo clears the bit, and the journal's bytes stay
-    makes (session (deadLine 0) (nines 1) (atTop 1 0 0) []) undo-call (session (line 0) (nines 1) [] (atTop 1 0 0)) ∷
-    -- a component marked live, and its undo; the record stands behind the one before
-    makes (session (cell 0 53 ++ deadLine 1) [] (nines 1) (nines 6)) (mark-call 46 false) (session (cell 0 53 ++ line 1) [] (nines 1 ++ atTop 1 46 0) []) ∷
-    makes (session (cell 0 53 ++ line 1) [] (nines 1 ++ atTop 1 46 0) []) undo-call (session (cell 0 53 ++ deadLine 1) [] (nines 1) (atTop 1 46 0)) ∷
-    -- marked twice: 14, and marked live while live
-    refuses (session (deadLine 0) [] (atTop 1 0 0) (nines 6)) (mark-call 0 true) 14 0 ∷
-    refuses (session (line 0) [] [] (nines 6)) (mark-call 0 false) 14 0 ∷
+    makes (session (deadLine 0) (nines 1) (marked 0 (0 ∷ [])) []) undo-call (session (line 0) (nines 1) [] (marked 0 (0 ∷ []))) ∷
+    -- a cell goes as a whole, and what follows its extent stays; its undo brings the mixture back
+    makes (session mixed [] [] (nines 7)) (mark-call 0 true) (session dead [] (marked 0 (4 ∷ [])) []) ∷
+    makes (session dead [] (marked 0 (4 ∷ [])) []) undo-call (session mixed [] [] (marked 0 (4 ∷ []))) ∷
+    -- and so it comes back as a whole
+    makes (session dead [] [] (nines 7)) (mark-call 0 false) (session (cell 0 105 ++ line 1 ++ line 1 ++ line 1 ++ line 0) [] (marked 0 (15 ∷ [])) []) ∷
+    -- an undo looks at no flag that stands: over other flags, and over those that it writes
+    makes (session (cell 0 105 ++ deadLine 1 ++ line 1 ++ deadLine 1 ++ line 0) [] (marked 0 (4 ∷ [])) []) undo-call (session mixed [] [] (marked 0 (4 ∷ []))) ∷
+    makes (session mixed [] (marked 0 (4 ∷ [])) []) undo-call (session mixed [] [] (marked 0 (4 ∷ []))) ∷
+    -- a component alone: not its header, not the components beside it; the record stands behind the one before
+    makes (session mixed [] (nines 1) (nines 7)) (mark-call 72 false) (session (cell 0 105 ++ line 1 ++ line 1 ++ line 1 ++ line 0) [] (nines 1 ++ marked 72 (1 ∷ [])) []) ∷
+    makes (session (cell 0 105 ++ line 1 ++ line 1 ++ line 1 ++ line 0) [] (nines 1 ++ marked 72 (1 ∷ [])) []) undo-call (session mixed [] (nines 1) (marked 72 (1 ∷ []))) ∷
+    -- a cell in a cell, with what stands under it and not with the cell around it
+    makes (session (cell 0 101 ++ cell 1 29 ++ raws 1 0 ++ line 1) [] [] (nines 7)) (mark-call 46 true)
+    (session (cell 0 101 ++ deadCell 1 29 ++ raws 1 1 ++ line 1) [] (marked 46 (0 ∷ [])) []) ∷
+    -- the cell around both, which takes all of them; its undo
+    makes (session (cell 0 101 ++ deadCell 1 29 ++ raws 1 0 ++ deadLine 1) [] [] (nines 7)) (mark-call 0 true)
+    (session (deadCell 0 101 ++ deadCell 1 29 ++ raws 1 1 ++ deadLine 1) [] (marked 0 (10 ∷ [])) []) ∷
+    makes (session (deadCell 0 101 ++ deadCell 1 29 ++ raws 1 1 ++ deadLine 1) [] (marked 0 (10 ∷ [])) []) undo-call
+    (session (cell 0 101 ++ deadCell 1 29 ++ raws 1 0 ++ deadLine 1) [] [] (marked 0 (10 ∷ []))) ∷
+    -- flags in the middle of a word
+    makes (session (cell 0 57 ++ raws 5 0 ++ raws 3 1 ++ raws 7 0) [] [] (nines 7)) (mark-call 0 true) (session (deadCell 0 57 ++ raws 15 1) [] (marked 0 (448 ∷ [])) []) ∷
+    -- sixteen elements: one payload word, the header's flag in its lowest bit
+    makes (session (cell 0 57 ++ raws 15 1) [] [] (nines 7)) (mark-call 0 true) (session (deadCell 0 57 ++ raws 15 1) [] (marked 0 (65534 ∷ [])) []) ∷
+    makes (session (deadCell 0 57 ++ raws 15 1) [] (marked 0 (65534 ∷ [])) []) undo-call (session (cell 0 57 ++ raws 15 1) [] [] (marked 0 (65534 ∷ []))) ∷
+    -- seventeen: two, the seventeenth's flag in the second one's lowest bit
+    makes (session (cell 0 59 ++ raws 15 0 ++ raws 1 1) [] [] (nines 8)) (mark-call 0 true) (session (deadCell 0 59 ++ raws 16 1) [] (marked 0 (0 ∷ 1 ∷ [])) []) ∷
+    makes (session (deadCell 0 59 ++ raws 16 1) [] (marked 0 (0 ∷ 1 ∷ [])) []) undo-call (session (cell 0 59 ++ raws 15 0 ++ raws 1 1) [] [] (marked 0 (0 ∷ 1 ∷ []))) ∷
+    -- thirty-three: three
+    makes (session (cell 0 91 ++ raws 31 0 ++ raws 1 1) [] [] (nines 9)) (mark-call 0 true) (session (deadCell 0 91 ++ raws 32 1) [] (marked 0 (0 ∷ 0 ∷ 1 ∷ [])) []) ∷
+    -- marked twice: 14, and marked live while live; by the named element's own flag alone
+    refuses (session (deadLine 0) [] (marked 0 (0 ∷ [])) (nines 7)) (mark-call 0 true) 14 0 ∷
+    refuses (session (line 0) [] [] (nines 7)) (mark-call 0 false) 14 0 ∷
+    refuses (session (deadCell 0 53 ++ line 1) [] [] (nines 7)) (mark-call 0 true) 14 0 ∷
+    refuses (session (cell 0 53 ++ deadLine 1) [] [] (nines 7)) (mark-call 0 false) 14 0 ∷
     -- no element starts there: 13, before 14, since bit 15 of word 1 is clear; nor at the marker
-    refuses (session (line 0) [] [] (nines 6)) (mark-call 1 false) 13 0 ∷
-    refuses (session (line 0) [] [] (nines 6)) (mark-call 26 true) 13 0 ∷
-    -- 14 before 16; five free words are too few: 16
-    refuses (session (line 0) [] [] (nines 5)) (mark-call 0 false) 14 0 ∷
-    refuses (session (line 0) [] [] (nines 5)) (mark-call 0 true) 16 0 ∷
+    refuses (session (line 0) [] [] (nines 7)) (mark-call 1 false) 13 0 ∷
+    refuses (session (line 0) [] [] (nines 7)) (mark-call 26 true) 13 0 ∷
+    -- 14 before 16; six free words are too few, and seven are for seventeen elements: 16
+    refuses (session (line 0) [] [] (nines 6)) (mark-call 0 false) 14 0 ∷
+    refuses (session (line 0) [] [] (nines 6)) (mark-call 0 true) 16 0 ∷
+    refuses (session (cell 0 57 ++ raws 15 0) [] [] (nines 6)) (mark-call 0 true) 16 0 ∷
+    refuses (session (cell 0 59 ++ raws 16 0) [] [] (nines 7)) (mark-call 0 true) 16 0 ∷
     []
 
 -- rename and its undo: the two old words are the payload
@@ -172,19 +213,29 @@ undoCases =
     -- a kind that is not 1 to 4
     refuses (session (line 0) [] (atTop 0 0 0) []) undo-call 19 0 ∷
     refuses (session (line 0) [] (atTop 5 0 0) []) undo-call 19 0 ∷
+    -- a mark's record without a payload, and with another size than the extent needs
+    refuses (session (deadLine 0) [] (marked 0 []) []) undo-call 19 0 ∷
+    refuses (session (deadLine 0) [] (marked 0 (0 ∷ 0 ∷ [])) []) undo-call 19 0 ∷
+    refuses (session (deadCell 0 57 ++ raws 15 1) [] (marked 0 (0 ∷ 0 ∷ [])) []) undo-call 19 0 ∷
+    refuses (session (deadCell 0 59 ++ raws 16 1) [] (marked 0 (0 ∷ [])) []) undo-call 19 0 ∷
+    -- with a spare bit set
+    refuses (session (deadLine 0) [] (marked 0 (2 ∷ [])) []) undo-call 19 0 ∷
+    refuses (session dead [] (marked 0 (16 ∷ [])) []) undo-call 19 0 ∷
+    refuses (session (deadCell 0 59 ++ raws 16 1) [] (marked 0 (0 ∷ 2 ∷ [])) []) undo-call 19 0 ∷
+    refuses (session dead [] (marked 0 (32768 ∷ [])) []) undo-call 19 0 ∷
+    refuses (session (deadCell 0 59 ++ raws 16 1) [] (marked 0 (0 ∷ 32768 ∷ [])) []) undo-call 19 0 ∷
     -- a payload that is not its kind's
-    refuses (session (line 0) [] (nines 1 ++ atTop 1 0 1) []) undo-call 19 0 ∷
     refuses (session (cell 0 27) [] (nines 1 ++ atTop 2 0 1) []) undo-call 19 0 ∷
     refuses (session (line 0) [] (nines 1 ++ atTop 3 0 1) []) undo-call 19 0 ∷
     -- a header place that is not its kind's
-    refuses (session (cell 0 53 ++ line 1) [] (under 0 1 46 0) []) undo-call 19 0 ∷
+    refuses (session (cell 0 53 ++ line 1) [] (0 ∷ under 0 1 46 1) []) undo-call 19 0 ∷
     refuses (session (cell 0 27) [] (nines 2 ++ under 0 2 0 2) []) undo-call 19 0 ∷
     -- the element of a kind 3 record is not there, or not directly under its header place
     refuses (session (line 0) [] (atTop 3 1 0) []) undo-call 19 0 ∷
     refuses (session filled [] (under 46 3 112 0) []) undo-call 19 0 ∷
     refuses (session filled [] (atTop 3 112 0) []) undo-call 19 0 ∷
     -- a reversal that is not allowed: no element there, not a cell, no name, a piece with C clear
-    refuses (session (line 0) [] (atTop 1 1 0) []) undo-call 19 0 ∷
+    refuses (session (line 0) [] (marked 1 (0 ∷ [])) []) undo-call 19 0 ∷
     refuses (session (line 0) [] (nines 2 ++ atTop 2 0 2) []) undo-call 19 0 ∷
     refuses (session (cell 0 27) [] (64000 ∷ 0 ∷ atTop 2 0 2) []) undo-call 19 0 ∷
     refuses (session empty (zeros 26) (line 0 ++ under 92 4 112 26) []) undo-call 19 0 ∷
@@ -244,7 +295,7 @@ openCases =
 -- places of a record as longs, high word first, of an element at word 65,538 and under a header at word 131,073
 abbrev pub recordCases : List Case
 recordCases =
-    case (recordWords (flag 65538)) (1 ∷ 65535 ∷ 65535 ∷ 1 ∷ 2 ∷ 0 ∷ []) ∷
+    case (recordWords (flag 65538 (5 ∷ []))) (5 ∷ 1 ∷ 65535 ∷ 65535 ∷ 1 ∷ 2 ∷ 1 ∷ []) ∷
     case (recordWords (inserted (some 131073) 131093)) (3 ∷ 2 ∷ 1 ∷ 2 ∷ 21 ∷ 0 ∷ []) ∷
     []
 
@@ -253,14 +304,14 @@ abbrev pub fourEdits : List Call
 fourEdits = mark-call 0 true ∷ rename-call 0 text417 ∷ insert-call (some 0) 46 (bytes (raw 1)) ∷ mark-call 1 true ∷ remove-call 46 ∷ []
 
 abbrev pub fourRecords : List ℕ
-fourRecords = atTop 1 0 0 ++ (49234 ∷ 51080 ∷ atTop 2 0 2) ++ under 0 3 46 0 ++ (raw 1 ++ under 0 4 46 2)
+fourRecords = marked 0 (0 ∷ []) ++ (49234 ∷ 51080 ∷ atTop 2 0 2) ++ under 0 3 46 0 ++ (raw 1 ++ under 0 4 46 2)
 
 abbrev pub fourUndos : List Call
 fourUndos = undo-call ∷ undo-call ∷ undo-call ∷ undo-call ∷ []
 
 -- calls of a session of the cell 00417, each lent what the last one left, leave a session
 abbrev pub leaves : List Call → Session → Case
-leaves cs t = case (sessionNumbers (runOf 2 (session (namedCell 27 49234 51080) (nines 2) [] (nines 28)) cs .session)) (sessionNumbers t)
+leaves cs t = case (sessionNumbers (runOf 2 (session (namedCell 27 49234 51080) (nines 2) [] (nines 29)) cs .session)) (sessionNumbers t)
 
 -- calls one after another
 abbrev pub runCases : List Case

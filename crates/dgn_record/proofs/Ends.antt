@@ -31,14 +31,13 @@ module _ (js : List ℕ) (kind header place n before : ℕ) where
     payload : length (take m (drop (t - m) js)) ≡ m
     payload = simp (length-take, length-drop) (omega arith)
 
+    -- a payload of any length
+    filled : length (take m (drop (t - m) js)) ≡ n → 2 * length (take (t - m) js) ≡ before → Fills js n before
+    filled n-is b = let l = back in let x = payload in omega arith
+
     built : (k : Kind) (h : Option ℕ) (p : ℕ) → formed k h m ≡ true → newestReply (build k h p (take m (drop (t - m) js)) (take (t - m) js)) ≡ done (kind ∷ header ∷ place ∷ n ∷ before ∷ []) →
         Fills js n before
-    built flags h p f e =
-        let m-is = eqb-true m 0 (and-eq-true-iff (atTop h) (eqb m 0) .0 f .1) in
-        let n-is : 0 ≡ n = cc in
-        let b : 2 * length (take (t - m) js) ≡ before = cc in
-        let l = back in
-        omega arith
+    built flags h p f e = filled (cc) (cc)
     built renames h p f e =
         let m-is = eqb-true m 2 (and-eq-true-iff (atTop h) (eqb m 2) .0 f .1) in
         let n-is : 2 ≡ n = cc in
@@ -51,12 +50,7 @@ module _ (js : List ℕ) (kind header place n before : ℕ) where
         let b : 2 * length (take (t - m) js) ≡ before = cc in
         let l = back in
         omega arith
-    built removes h p f e =
-        let n-is : length (take m (drop (t - m) js)) ≡ n = cc in
-        let b : 2 * length (take (t - m) js) ≡ before = cc in
-        let l = back in
-        let x = payload in
-        omega arith
+    built removes h p f e = filled (cc) (cc)
     built no-kind h p f e = not-refused 19 0 e
 
   read-fills : (t m : ℕ) → t + 6 ≡ length js → (k : Kind) (h : Option ℕ) (p : ℕ) → newestReply (readBy js t m k h p) ≡ done (kind ∷ header ∷ place ∷ n ∷ before ∷ []) → Fills js n before

@@ -24,7 +24,7 @@ count-is j n p before w = let e = length-words j in let h = w .room in simp (len
 
 pub last-reply : (j : List ℕ) (r : Last) → LastRead j r → lastReply r ≡ newestReply (lastRecord (words j))
 last-reply j Bad l = rw (← l .is) refl
-last-reply j (Flag p before) l = rw (← l .is) (rw (before-length j 0 p before (l .within)) refl)
+last-reply j (Flag p n before) l = rw (← l .is) (rw (before-length j n p before (l .within), count-is j n p before (l .within)) refl)
 last-reply j (Renamed p a b before) l = rw (← l .is) (rw (before-length j 2 p before (l .within .2)) refl)
 last-reply j (Inserted h p before) l = rw (← l .is) (rw (before-length j 0 p before (l .within .1)) refl)
 last-reply j (Removed h p n before) l = rw (← l .is) (rw (before-length j n p before (l .within .1), count-is j n p before (l .within .1)) refl)

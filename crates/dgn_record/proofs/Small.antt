@@ -39,7 +39,7 @@ record-small journal used = go (usedOk (length journal) used) (eqb used 0) (last
 
 -- its header place, its place and the number of its payload's words
 abbrev Fits : Rec → Type 0
-Fits (flag p) = p < 4294967296
+Fits (flag p x) = (p < 4294967296) × (length x < 65536)
 Fits (renamed p a b) = p < 4294967296
 Fits (inserted h p) = SmallHeader h × (p < 4294967296)
 Fits (removed h p x) = SmallHeader h × ((p < 4294967296) × (length x < 65536))
@@ -53,7 +53,7 @@ keep-fits true l h = h
 keep-fits false l h = tt
 
 build-fits : (k : Kind) (h : Option ℕ) (p : ℕ) (x before : List ℕ) → SmallHeader h → p < 4294967296 → length x < 65536 → FitsIn (build k h p x before)
-build-fits flags h p x before a b c = b
+build-fits flags h p x before a b c = (b, c)
 build-fits renames h p x before a b c = b
 build-fits inserts h p x before a b c = (a, b)
 build-fits removes h p x before a b c = (a, (b, c))
@@ -92,13 +92,13 @@ abbrev Numbers : List ℕ → Type 0
 Numbers g = SmallRecord (getD g 0 0) (getD g 1 0) (getD g 2 0) (getD g 3 0) (getD g 4 0)
 
 numbers-small : (r : Rec) (before : ℕ) → Fits r → before ≤ 1048576 → Numbers (recordNumbers r before)
-numbers-small (flag p) before f l = record { a-kind = (omega arith, omega arith); a-header = inr refl; a-place = f; payload = omega arith; back = l }
+numbers-small (flag p x) before f l = record { a-kind = (omega arith, omega arith); a-header = inr refl; a-place = f .0; payload = f .1; back = l }
 numbers-small (renamed p a b) before f l = record { a-kind = (omega arith, omega arith); a-header = inr refl; a-place = f; payload = omega arith; back = l }
 numbers-small (inserted h p) before f l = record { a-kind = (omega arith, omega arith); a-header = header-is h (f .0); a-place = f .1; payload = omega arith; back = l }
 numbers-small (removed h p x) before f l = record { a-kind = (omega arith, omega arith); a-header = header-is h (f .0); a-place = f .1 .0; payload = f .1 .1; back = l }
 
 five : (r : Rec) (before : ℕ) → length (recordNumbers r before) ≡ 5
-five (flag p) before = refl
+five (flag p x) before = refl
 five (renamed p a b) before = refl
 five (inserted h p) before = refl
 five (removed h p x) before = refl
@@ -118,7 +118,7 @@ before-small journal used r before e =
     omega arith
   where
     lent : (r : Rec) → recordReply journal used ≡ done (recordNumbers r before) → usedOk (length journal) before ≡ true
-    lent (flag p) e = ends-there journal used _ _ _ _ before e .lent
+    lent (flag p x) e = ends-there journal used _ _ _ _ before e .lent
     lent (renamed p a b) e = ends-there journal used _ _ _ _ before e .lent
     lent (inserted h p) e = ends-there journal used _ _ _ _ before e .lent
     lent (removed h p x) e = ends-there journal used _ _ _ _ before e .lent

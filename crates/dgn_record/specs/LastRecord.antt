@@ -1,5 +1,5 @@
 -- The last record of a journal's used bytes as numbers: its kind, header place, place and payload words, and the used length
--- before it.
+-- before it, which is where its payload begins.
 use Prim.Native.Nat.{ℕ, _+_, _*_, _≤_, _<_}
 use mathlib.Core.Path.{_≡_}
 use mathlib.Core.Logic.{_⊎_}
@@ -22,7 +22,7 @@ headerNumber none = 18446744073709551615
 headerNumber (some h) = h
 
 abbrev pub recordNumbers : Rec → ℕ → List ℕ
-recordNumbers (flag p) before = 1 ∷ headerNumber none ∷ p ∷ 0 ∷ before ∷ []
+recordNumbers (flag p x) before = 1 ∷ headerNumber none ∷ p ∷ length x ∷ before ∷ []
 recordNumbers (renamed p a b) before = 2 ∷ headerNumber none ∷ p ∷ 2 ∷ before ∷ []
 recordNumbers (inserted h p) before = 3 ∷ headerNumber h ∷ p ∷ 0 ∷ before ∷ []
 recordNumbers (removed h p x) before = 4 ∷ headerNumber h ∷ p ∷ length x ∷ before ∷ []
@@ -43,7 +43,7 @@ recordReply journal jused =
 
 abbrev pub lastReply : Last → Reply ℕ
 lastReply Bad = refuse 19 0
-lastReply (Flag p before) = done (1 ∷ headerNumber none ∷ p ∷ 0 ∷ before ∷ [])
+lastReply (Flag p n before) = done (1 ∷ headerNumber none ∷ p ∷ n ∷ before ∷ [])
 lastReply (Renamed p a b before) = done (2 ∷ headerNumber none ∷ p ∷ 2 ∷ before ∷ [])
 lastReply (Inserted h p before) = done (3 ∷ headerNumber (placeOf h) ∷ p ∷ 0 ∷ before ∷ [])
 lastReply (Removed h p n before) = done (4 ∷ headerNumber (placeOf h) ∷ p ∷ n ∷ before ∷ [])

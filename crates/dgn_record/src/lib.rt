@@ -49,7 +49,11 @@ fn put_last(out: &mut [usize], last: Last) -> usize
 {
     match last {
         Last::Bad => 19,
-        Last::Flag { place, before } => put_five(out, 1, TOP, place, 0, before),
+        Last::Flag {
+            place,
+            count,
+            before,
+        } => put_five(out, 1, TOP, place, count, before),
         Last::Renamed {
             place,
             first: _,

@@ -73,7 +73,7 @@ five r before out t h e = go r e
         (sym (take-take 4 5 t (omega arith)) ∙ ap (take 4) all, ap (λ l. getD l 4 0) q ∙ front-at vs out 4 0 (omega arith) (omega arith))
 
     go : (r : Rec) → t ≡ sets out 0 (recordNumbers r before) → (take 4 t ≡ take 4 (recordNumbers r 0)) × (getD t 4 0 ≡ before)
-    go (flag p) e = front (recordNumbers (flag p) before) refl e
+    go (flag p x) e = front (recordNumbers (flag p x) before) refl e
     go (renamed p a b) e = front (recordNumbers (renamed p a b) before) refl e
     go (inserted h p) e = front (recordNumbers (inserted h p) before) refl e
     go (removed h p x) e = front (recordNumbers (removed h p x) before) refl e

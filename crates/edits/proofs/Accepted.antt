@@ -8,7 +8,7 @@ use mathlib.Core.Option.{Option, none, some}
 use lib.ListN.{length}
 use Rattle.words.specs.Words.{Below}
 use Rattle.grammar.proofs.Forest.{Forest, flat, Wf}
-use Rattle.edits.specs.Edits.{Edit, mark, rename, insert, remove, apply}
+use Rattle.edits.specs.Edits.{Edit, mark, rename, insert, remove, restore, apply}
 use Rattle.edits.specs.Allowed.{fine, editFault}
 use Rattle.edits.specs.Records.{Rec, flag, renamed, inserted, removed, recordOf, reversal, reversible}
 
@@ -24,6 +24,7 @@ Carried (mark p deleted) = Unit {0}
 Carried (rename p a b) = (a < 65536) × (b < 65536)
 Carried (insert h p x) = Below 65536 x
 Carried (remove p) = Unit {0}
+Carried (restore p x) = Unit {0}
 
 -- a record's places and words fit its layout
 abbrev pub SmallHeader : Option ℕ → Type 0
@@ -31,7 +32,7 @@ SmallHeader none = Unit {0}
 SmallHeader (some h) = h < 4294967295
 
 abbrev pub Small : Rec → Type 0
-Small (flag p) = p < 4294967296
+Small (flag p x) = (p < 4294967296) × ((length x < 65536) × (Below 65536 x × (1 ≤ length x)))
 Small (renamed p a b) = (p < 4294967296) × ((a < 65536) × (b < 65536))
 Small (inserted h p) = SmallHeader h × (p < 4294967296)
 Small (removed h p x) = SmallHeader h × ((p < 4294967296) × ((length x < 65536) × Below 65536 x))

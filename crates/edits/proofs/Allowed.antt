@@ -73,7 +73,7 @@ module _ (dim : ℕ) (s : Session) where
   unfolding step
   step-edit c e f h = rw f (call-edit c e h)
 
-  step-made : (c : Call) (e : Edit) → editOf c ≡ some e → Allowed dim s c e → step dim s c ≡ editMade s (wordsBy dim s e) (recordBy dim s e)
+  pub step-made : (c : Call) (e : Edit) → editOf c ≡ some e → Allowed dim s c e → step dim s c ≡ editMade s (wordsBy dim s e) (recordBy dim s e)
   step-made c e h a = step-edit c e (a .opens) h ∙ edit-made dim s e (editFault dim (wordsOf s) e) (a .own) (a .file-room) (a .journal-room)
 
   step-allowed : (c : Call) (e : Edit) → editOf c ≡ some e → wasRefused (step dim s c .answer) ≡ false → Allowed dim s c e

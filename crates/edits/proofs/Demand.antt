@@ -33,7 +33,7 @@ use Rattle.edits.proofs.Undos.{kept-run, undos-bytes, undo-refused, und
 ---- a run's start
 
 -- where a file has no refusal of its own, it is accepted with its marker last
-file-tree : (dim : ℕ) → Hypotheses dim → (ws : List ℕ) → Below 65536 ws → endsInMarker ws ≡ true
+pub file-tree : (dim : ℕ) → Hypotheses dim → (ws : List ℕ) → Below 65536 ws → endsInMarker ws ≡ true
     → fileFault (topOf dim ws) (length ws - 1) ≡ fine → Accepted dim ws
 file-tree dim hyp ws b ends = go (topOf dim ws) refl
   where

@@ -1,18 +1,16 @@
 -- An element's own words with its deleted flag turned, and a cell's with another name: an element's own words again, and
 -- the old flag or name put back gives the old words.
-use Prim.Native.Nat.{ℕ, _+_, _≤_, _<_, _/_, _%_}
+use Prim.Native.Nat.{ℕ, _+_, _≤_, _<_}
 use mathlib.Core.Path.{_≡_, refl, sym, ap, _∙_}
 use mathlib.Core.Logic.{_≢_, _⊎_, inl, inr}
-use mathlib.Core.Bool.{Bool, true, false, not, false≢true}
+use mathlib.Core.Bool.{Bool, true, false, false≢true}
 use mathlib.Core.List.{List, [], _∷_}
 use native.Mathlib.Omega.{arith}
 use lib.ListN.{length, set, length-set}
-use lib.Seq.{getD-set-same, getD-set-other, set-set, set-getD}
-use lib.Dec.{eqb}
-use borrow.Author.Tests.{eqb-true, eq-eqb, ne-eqb}
+use lib.Seq.{getD-set-same, getD-set-other}
 use Rattle.words.specs.Words.{Below, wordAt}
 use Rattle.names.specs.Names.{nameOk}
-use Rattle.kinds.specs.FirstWord.{reservedOf, cOf, typeOf, deletedOf}
+use Rattle.kinds.specs.FirstWord.{reservedOf, cOf, typeOf}
 use Rattle.headers.specs.Header.{typeAt, sizingAt}
 use Rattle.kinds.specs.Kinds.{isHeader, isCounted, isSized, isLinked, isCell, nameWord, fixedPart}
 use Rattle.headers.proofs.Laws.{own-first, own-second}
@@ -21,7 +19,6 @@ use Rattle.grammar.proofs.Tests.{OwnTests, Extent}
 use Rattle.kinds.proofs.Types.{linked-long, each-named, name-late}
 use Rattle.grammar.proofs.Types.{cell-long}
 use Rattle.edits.specs.Edits.{flagged}
-use Rattle.edits.specs.Allowed.{flagDiffers}
 use Rattle.edits.proofs.Tests.{rule-of}
 use Rattle.edits.proofs.Parts.{set2, length-set2, set2-other, set2-first, set2-second, set2-back, below-set}
 use Rattle.grammar.proofs.Rules.{own-two}
@@ -57,33 +54,14 @@ pub flagged-small : (d : Bool) (w : ℕ) → flagged d w < 65536
 flagged-small true w = omega arith
 flagged-small false w = omega arith
 
--- what a record's reversal turns the flag to, and that it differs
-pub flag-turned : (d : Bool) (w : ℕ) → eqb (deletedOf (flagged d w)) 0 ≡ not d
-flag-turned true w = ne-eqb (deletedOf (flagged true w)) 0 (omega arith)
-flag-turned false w = eq-eqb (deletedOf (flagged false w)) 0 (omega arith)
-
-pub flag-differs : (d : Bool) (w : ℕ) → flagDiffers (not d) (flagged d w) ≡ true
-flag-differs true w = eq-eqb (deletedOf (flagged true w)) 1 (omega arith)
-flag-differs false w = eq-eqb (deletedOf (flagged false w)) 0 (omega arith)
-
-flag-back : (d : Bool) (w : ℕ) → w < 65536 → flagDiffers d w ≡ true → flagged (not d) (flagged d w) ≡ w
-flag-back true w h e = let l = eqb-true (w / 32768 % 2) 0 e in omega arith
-flag-back false w h e = let l = eqb-true (w / 32768 % 2) 1 e in omega arith
-
 pub length-marked : (d : Bool) (own : List ℕ) → length (marked d own) ≡ length own
 length-marked d own = length-set own 0 _
 
 pub marked-first : (d : Bool) (own : List ℕ) → 2 ≤ length own → wordAt (marked d own) 0 ≡ flagged d (wordAt own 0)
 marked-first d own h = getD-set-same own 0 _ 0 (omega arith)
 
-marked-other : (d : Bool) (own : List ℕ) (i : ℕ) → i ≢ 0 → wordAt (marked d own) i ≡ wordAt own i
+pub marked-other : (d : Bool) (own : List ℕ) (i : ℕ) → i ≢ 0 → wordAt (marked d own) i ≡ wordAt own i
 marked-other d own i h = getD-set-other own 0 i _ 0 h
-
-pub marked-back : (d : Bool) (own : List ℕ) → 2 ≤ length own → wordAt own 0 < 65536 → flagDiffers d (wordAt own 0) ≡ true → marked (not d) (marked d own) ≡ own
-marked-back d own h l e =
-    ap (λ w. set (marked d own) 0 (flagged (not d) w)) (marked-first d own h)
-    ∙ set-set own 0 (flagged d (wordAt own 0)) (flagged (not d) (flagged d (wordAt own 0)))
-    ∙ ap (set own 0) (flag-back d (wordAt own 0) l e) ∙ set-getD own 0 0
 
 pub type-marked : (d : Bool) (own : List ℕ) → 2 ≤ length own → typeAt (marked d own) 0 ≡ typeAt own 0
 type-marked d own h = ap typeOf (marked-first d own h) ∙ type-flagged d (wordAt own 0)

@@ -60,7 +60,9 @@ place-back h l = rw (long-back h, ne-eqb h 4294967295 (λ e. omega arith)) refl
 -- a record goes in and is read back, with the words before it
 pub reads : (js : List ℕ) (r : Rec) → Small r → lastRecord (js ++ recordWords r) ≡ some (r, js)
 unfolding recordWords
-reads js (flag p) s = record-read js [] 1 65535 65535 (p / 65536) (p % 65536) 0 refl ∙ ap (λ q. some (flag q, js)) (long-back p)
+reads js (flag p x) s =
+    record-read js x 1 65535 65535 (p / 65536) (p % 65536) (length x) refl
+    ∙ rw (le-leb 1 (length x) (s .1 .1 .1)) (ap (λ q. some (flag q x, js)) (long-back p))
 reads js (renamed p a b) s = record-read js (a ∷ b ∷ []) 2 65535 65535 (p / 65536) (p % 65536) 2 refl ∙ ap (λ q. some (renamed q a b, js)) (long-back p)
 reads js (inserted none p) s = record-read js [] 3 65535 65535 (p / 65536) (p % 65536) 0 refl ∙ ap (λ q. some (inserted none q, js)) (long-back p)
 reads js (inserted (some h) p) s =
@@ -89,7 +91,8 @@ six-below k h p n a b c d =
 
 pub record-below : (r : Rec) → Small r → Below 65536 (recordWords r)
 unfolding recordWords
-record-below (flag p) s = six-below 1 none p 0 (omega arith) tt s (omega arith)
+record-below (flag p x) s =
+    below-append 65536 x (six 1 none p (length x)) (s .1 .1 .0) (six-below 1 none p (length x) (omega arith) tt (s .0) (s .1 .0))
 record-below (renamed p a b) s =
     below-cons 65536 a (b ∷ six 2 none p 2) (s .1 .0) (below-cons 65536 b (six 2 none p 2) (s .1 .1) (six-below 2 none p 2 (omega arith) tt (s .0) (omega arith)))
 record-below (inserted h p) s = six-below 3 h p 0 (omega arith) (s .0) (s .1) (omega arith)
@@ -103,7 +106,7 @@ six-long k (some h) p n = refl
 
 pub record-long : (r : Rec) → 6 ≤ length (recordWords r)
 unfolding recordWords
-record-long (flag p) = omega arith
+record-long (flag p x) = omega (arith, six-long 1 none p (length x), length-append x (six 1 none p (length x)))
 record-long (renamed p a b) = omega arith
 record-long (inserted h p) = omega (arith, six-long 3 h p 0)
 record-long (removed h p x) = omega (arith, six-long 4 h p (length x), length-append x (six 4 h p (length x)))

@@ -10,11 +10,13 @@ use lib.ListN.{length, take, length-append}
 use lib.Seq.{take-length}
 use lib.Dec.{eqb}
 use borrow.Author.Tests.{eqb-true, eq-eqb}
-use Rattle.words.specs.Words.{Below}
-use Rattle.files.specs.Judge.{elementOf, topOf}
+use Rattle.words.specs.Words.{words, Below}
+use Rattle.files.specs.Judge.{elementOf, topOf, answer, judgeOf}
+use Rattle.limits.specs.Limits.{callOk}
 use Rattle.files.specs.Spots.{Spot, deepest, spotsOf}
 use Rattle.files.specs.declared.Verdict.{Verdict}
 use Rattle.files.specs.declared.Verdict.the-variants.{Good, Fault}
+use Rattle.files.specs.declared.Judged.the-variants as judged
 use Rattle.grammar.specs.Grammar.{File}
 use Rattle.grammar.proofs.Forest.{Forest, flat, num, weight, Wf, spots, components-tree, tree-components}
 use Rattle.grammar.proofs.Stands.{Stands}
@@ -31,6 +33,16 @@ tree-grammar dim f ws x e = record { body = flat f; after = []; direct = num f; 
 
 pub tree-spots : (dim : ℕ) (f : Forest) (ws : List ℕ) → Wf dim 0 0 f → ws ≡ flat f ++ (65535 ∷ []) → spotsOf dim ws ≡ spots 0 none 0 f
 tree-spots dim f ws x e = file-spots (tree-grammar dim f ws x e)
+
+-- what judging accepts, by its list of top-level elements
+pub judged-top : (dim : ℕ) (s : List ℕ) (e d m : ℕ) → judgeOf dim s ≡ judged.Accepted e d m → (k : ℕ) × (topOf dim (words s) ≡ Good m e d k)
+unfolding judgeOf
+judged-top dim s e d m q = go (callOk dim s) (topOf dim (words s)) refl q
+  where
+    go : (b : Bool) (v : Verdict) → topOf dim (words s) ≡ v → cond b (answer v) (judged.Refused 1 0) ≡ judged.Accepted e d m → (k : ℕ) × (topOf dim (words s) ≡ Good m e d k)
+    go true (Good next e′ d′ k) t q = (k, t ∙ (let z : Good next e′ d′ k ≡ Good m e d k = cc in z))
+    go true (Fault n p) t q = let z : _≡_ {A = ℕ} 0 1 = cc in absurd (omega arith)
+    go false v t q = let z : _≡_ {A = ℕ} 0 1 = cc in absurd (omega arith)
 
 -- what judging accepts with the marker as the last word is a tree
 pub judged-tree : (dim : ℕ) (ws : List ℕ) (next e d k : ℕ) → Below 65536 ws → topOf dim ws ≡ Good next e d k → next + 1 ≡ length ws → Accepted dim ws

@@ -5,16 +5,18 @@ use mathlib.Core.Bool.{Bool, true, false, _&&_}
 use mathlib.Core.List.{List, [], _∷_}
 use mathlib.Core.Option.{Option}
 use native.Mathlib.Omega.{arith}
-use lib.ListN.{length, take, set, length-set, length-append, length-take, length-drop}
+use lib.ListN.{length, take, set, replicate, length-set, length-append, length-take, length-drop}
 use Rattle.words.specs.Words.{wordAt}
 use Rattle.words.proofs.Laws.{length-words}
 use Rattle.names.specs.declared.Packed.{Packed}
 use Rattle.names.specs.declared.Packed.the-variants as name
 use Rattle.headers.specs.Header.{typeAt, namePlace}
 use Rattle.kinds.specs.Kinds.{isCounted}
-use Rattle.edits.specs.Edits.{mark, rename, insert, remove, moved, countMoved, corrected, isLast, raise, splice, cut, apply}
+use Rattle.files.specs.Spots.{spotsOf}
+use Rattle.edits.specs.Edits.{mark, rename, insert, remove, extentPlaces, moved, countMoved, corrected, isLast, raise, splice, cut, apply}
 use Rattle.edits.specs.Calls.{Session, wordsOf, wordsBy, nameOfText}
 use Rattle.edits.proofs.Parts.{length-set2}
+use Rattle.edits.proofs.Flags.{length-with}
 
 length-corrected : (up : Bool) (n : ℕ) (direct : Bool) (q : ℕ) (ws : List ℕ) → length (corrected up n direct q ws) ≡ length ws
 unfolding corrected
@@ -33,7 +35,7 @@ length-raise up n (q ∷ qs) ws = length-raise up n qs (corrected up n (isLast q
 module _ (dim : ℕ) (ws : List ℕ) (p : ℕ) where
   pub length-mark : (d : Bool) → length (apply dim ws (mark p d)) ≡ length ws
   unfolding apply
-  length-mark d = length-set ws p _
+  length-mark d = length-with (extentPlaces (spotsOf dim ws) p) (replicate (length (extentPlaces (spotsOf dim ws) p)) d) ws
 
   pub length-rename : (a b : ℕ) → length (apply dim ws (rename p a b)) ≡ length ws
   unfolding apply

@@ -7,7 +7,11 @@ pub mod OwnLaws
 pub mod Parts
 pub mod Grown
 pub mod Fields
+pub mod Packed
+pub mod Flags
+pub mod Alike
 pub mod Ways
+pub mod Extents
 pub mod Joined
 pub mod Places
 pub mod Raised
@@ -15,10 +19,10 @@ pub mod Lengths
 pub mod Gaps
 pub mod Judging
 pub mod Reversed
-pub mod MarkSound
 pub mod RenameSound
 pub mod InsertSound
 pub mod RemoveSound
+pub mod MarkSound
 pub mod Sound
 pub mod Hypotheses
 pub mod Journal
@@ -33,4 +37,6 @@ pub mod Steps
 pub mod Undos
 pub mod Demand
 pub mod Every
+pub mod Marks
 pub mod Start
+pub mod Examples

@@ -3,7 +3,7 @@ use Prim.Native.Nat.{ℕ, _+_, _*_, _%_, _≤_}
 use mathlib.Core.Path.{_≡_, refl, sym, ap, _∙_}
 use mathlib.Core.Bool.{Bool, true, false, and-eq-true-iff}
 use mathlib.Core.List.{List}
-use mathlib.Core.Option.{Option}
+use mathlib.Core.Option.{Option, none}
 use native.Mathlib.Omega.{arith}
 use lib.ListN.{length, take, drop, length-append, length-take}
 use lib.Dec.{eqb, leb}
@@ -18,16 +18,19 @@ use Rattle.headers.specs.Header.{typeAt}
 use Rattle.kinds.specs.Kinds.{isCell}
 use Rattle.files.specs.Spots.{spotsOf, spotIn}
 use Rattle.edits.specs.declared.Edited.the-variants.{Made}
-use Rattle.edits.specs.Edits.{mark, rename, insert, remove, extentIn}
+use Rattle.edits.specs.Bits.{flagSize}
+use Rattle.edits.specs.Edits.{mark, rename, insert, remove, extentIn, extentPlaces, flagsAt}
 use Rattle.edits.specs.Allowed.{fine, startsAt, flagDiffers, markFault, renameFault, removeFault, editFault}
-use Rattle.edits.specs.Records.{headerBy, six, recordOf, recordWords}
+use Rattle.edits.specs.Records.{headerBy, six, oldFlags, recordOf, recordWords}
 use Rattle.edits.specs.Calls.{Session, mark-call, rename-call, insert-call, remove-call, wordsOf, sessionFault, openFault, wordsBy, recordBy, step}
 use Rattle.edits.specs.Book.{wasRefused}
-use Rattle.edits.specs.Made.{renameOf, MarkMade, RenameMade, InsertMade, RemoveMade}
+use Rattle.edits.specs.Made.{renameOf, markBytes, MarkMade, RenameMade, InsertMade, RemoveMade}
 use Rattle.edits.proofs.Faults.{fine-test, fine-both}
 use Rattle.edits.proofs.Allowed.{edits-made, made-exactly}
 use Rattle.edits.proofs.Journal.{six-long}
 use Rattle.edits.proofs.Tested.{used-parts, used-twice, ready-tested}
+use Rattle.edits.proofs.Packed.{length-packed}
+use Rattle.edits.proofs.Flags.{length-flags}
 use Rattle.edits.proofs.Lengths.{length-mark, length-rename, length-insert, mark-fits, text-fits, remove-fits}
 
 module _ (dim : ℕ) (s : Session) (opens : sessionFault dim s ≡ fine) where
@@ -35,13 +38,24 @@ module _ (dim : ℕ) (s : Session) (opens : sessionFault dim s ≡ fine) where
   used-is : 2 * length (wordsOf s) ≡ s .used
   used-is = sym (used-twice (s .file) (s .used) (used-parts (length (s .file)) (s .used) (ready-tested dim s opens .file)))
 
-  mark-plain : (p : ℕ) (d : Bool) → startsAt (spotsOf dim (wordsOf s)) p ≡ true → flagDiffers d (wordAt (wordsOf s) p) ≡ true → s .jused + 12 ≤ length (s .journal) →
-      step dim s (mark-call p d) .answer ≡ Made (s .used) (s .jused + 12)
-  unfolding editFault markFault openFault recordOf recordWords
+  mark-record : (p : ℕ) (d : Bool) → 2 * length (recordBy dim s (mark p d)) ≡ markBytes dim (wordsOf s) p
+  unfolding recordOf recordWords
+  mark-record p d =
+      let qs = extentPlaces (spotsOf dim (wordsOf s)) p in
+      let x = oldFlags qs (wordsOf s) in
+      let l = length-append x (six 1 none p (length x)) in
+      let n = length-packed (flagsAt qs (wordsOf s)) ∙ ap flagSize (length-flags qs (wordsOf s)) in
+      let long = six-long 1 none p (length x) in
+      omega arith
+
+  mark-plain : (p : ℕ) (d : Bool) → startsAt (spotsOf dim (wordsOf s)) p ≡ true → flagDiffers d (wordAt (wordsOf s) p) ≡ true →
+      s .jused + markBytes dim (wordsOf s) p ≤ length (s .journal) → step dim s (mark-call p d) .answer ≡ Made (s .used) (s .jused + markBytes dim (wordsOf s) p)
+  unfolding editFault markFault openFault
   mark-plain p d there differs free =
+      let record-is = mark-record p d in
       edits-made dim s (mark-call p d) (mark p d) refl
-      (record { opens = opens; own = fine-both (fine-test 13 there) (fine-test 14 differs); file-room = mark-fits dim s p d; journal-room = free })
-      ∙ ap (λ n. Made (2 * n) (s .jused + 12)) (length-mark dim (wordsOf s) p d) ∙ ap (λ n. Made n (s .jused + 12)) used-is
+      (record { opens = opens; own = fine-both (fine-test 13 there) (fine-test 14 differs); file-room = mark-fits dim s p d; journal-room = omega arith })
+      ∙ rw (record-is, length-mark dim (wordsOf s) p d, used-is) refl
 
   rename-plain : (p : ℕ) (text : List ℕ) (a b : ℕ) → startsAt (spotsOf dim (wordsOf s)) p ≡ true → isCell (typeAt (wordsOf s) p) ≡ true → packed text ≡ name.Words a b →
       s .jused + 16 ≤ length (s .journal) → step dim s (rename-call p text) .answer ≡ Made (s .used) (s .jused + 16)

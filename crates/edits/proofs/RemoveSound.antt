@@ -29,7 +29,7 @@ use Rattle.edits.proofs.Reversed.{sound-of, marker, below-marker, spot-
 use Rattle.edits.proofs.InsertSound.{insert-way, remove-way}
 
 -- an extent has at most 65,535 words
-extent-small : {dim depth under : ℕ} {own : List ℕ} (k : Forest) → OwnTests dim depth under own (length (flat k)) (num k) → weight own k < 65536
+pub extent-small : {dim depth under : ℕ} {own : List ℕ} (k : Forest) → OwnTests dim depth under own (length (flat k)) (num k) → weight own k < 65536
 extent-small {own = own} k o = go (isHeader (typeAt own 0)) (o .extent)
   where
     go : (b : Bool) → Extent b own (length (flat k)) (num k) → weight own k < 65536

@@ -25,7 +25,7 @@ use Rattle.edits.proofs.Steps.{Replayed, Begun, Kept, KeptRun, room, li
 ---- an undo, by the journal
 
 -- an undo that is not refused before it looks at the journal
-step-undo : (dim : ℕ) (s : Session) → sessionFault dim s ≡ fine → step dim s undo-call ≡ undone dim s
+pub step-undo : (dim : ℕ) (s : Session) → sessionFault dim s ≡ fine → step dim s undo-call ≡ undone dim s
 unfolding step openFault
 step-undo dim s e = rw e refl
 
@@ -35,7 +35,7 @@ unfolding undone
 undone-nothing dim s e = rw e refl
 
 -- the last record taken off, and its edit turned back
-undone-last : (dim : ℕ) (s : Session) (ws js : List ℕ) (e : Edit) → wordsOf s ≡ apply dim ws e
+pub undone-last : (dim : ℕ) (s : Session) (ws js : List ℕ) (e : Edit) → wordsOf s ≡ apply dim ws e
     → journalOf s ≡ js ++ recordWords (recordOf dim ws e) → Sound dim ws e
     → (s .jused ≡ 0 → ⊥) → 2 * length ws ≤ length (s .file) → undone dim s ≡ undoMade s ws (2 * length js)
 unfolding undone

@@ -228,7 +228,7 @@ module _ (dim : ℕ) (own₀ : List ℕ) (k₀ f : Forest) where
 ---- another element of the same length in an element's place
 
 module _ (dim : ℕ) (own₀ : List ℕ) (k₀ : Forest) (own₁ : List ℕ) (k₁ r₀ : Forest) (eq : weight own₁ k₁ ≡ weight own₀ k₀) where
-  len-swap : (w : Way) → length (flat (plug w (node own₁ k₁ r₀))) ≡ length (flat (plug w (node own₀ k₀ r₀)))
+  pub len-swap : (w : Way) → length (flat (plug w (node own₁ k₁ r₀))) ≡ length (flat (plug w (node own₀ k₀ r₀)))
   len-swap w = rw (flat-plug w (node own₁ k₁ r₀), flat-plug w (node own₀ k₀ r₀)) (simp length-append (omega arith))
 
   num-swap : (w : Way) → num (plug w (node own₁ k₁ r₀)) ≡ num (plug w (node own₀ k₀ r₀))

@@ -14,7 +14,8 @@ use Rattle.files.specs.Judge.{elementOf}
 use Rattle.files.specs.Spots.{Spot, spotsOf, spotIn}
 use Rattle.files.specs.declared.Verdict.{Verdict}
 use Rattle.files.specs.declared.Verdict.the-variants.{Good, Fault}
-use Rattle.edits.specs.Edits.{Edit, mark, rename, insert, remove, downTo}
+use Rattle.edits.specs.Bits.{flagsOk}
+use Rattle.edits.specs.Edits.{Edit, mark, rename, insert, remove, restore, extentPlaces, downTo}
 
 -- a refusal's number and place, or none
 pub data Fault? : Type 0 where
@@ -39,7 +40,7 @@ isSome (some x) = true
 abbrev pub startsAt : List Spot → ℕ → Bool
 startsAt xs p = isSome (spotIn xs p)
 
--- 14 unless the deleted flag is still to be changed
+-- 14 unless the deleted flag is still to be changed, that of the named element alone
 abbrev pub flagDiffers : Bool → ℕ → Bool
 flagDiffers true w = eqb (deletedOf w) 0
 flagDiffers false w = eqb (deletedOf w) 1
@@ -114,9 +115,14 @@ insertFault dim xs ws h p x =
 unfoldable pub removeFault : List Spot → ℕ → Fault?
 removeFault xs p = unless (startsAt xs p) 13
 
+-- a restore's: 13, then 19 unless the flags are as many words as the extent needs, with no spare bit set
+unfoldable pub restoreFault : List Spot → ℕ → List ℕ → Fault?
+restoreFault xs p x = orElse (unless (startsAt xs p) 13) (unless (flagsOk (length (extentPlaces xs p)) x) 19)
+
 -- the refusal of an edit on a file's words
 unfoldable pub editFault : ℕ → List ℕ → Edit → Fault?
 editFault dim ws (mark p deleted) = markFault (spotsOf dim ws) ws p deleted
 editFault dim ws (rename p a b) = renameFault (spotsOf dim ws) ws p (nameOk a b)
 editFault dim ws (insert h p x) = insertFault dim (spotsOf dim ws) ws h p x
 editFault dim ws (remove p) = removeFault (spotsOf dim ws) p
+editFault dim ws (restore p x) = restoreFault (spotsOf dim ws) p x

@@ -1,3 +1,4 @@
+pub mod Bits
 pub mod Edits
 pub mod Allowed
 pub mod Records
@@ -7,4 +8,5 @@ pub mod Demand
 pub mod Start
 pub mod Refusals
 pub mod Made
+pub mod Marks
 pub mod Causes

@@ -16,7 +16,8 @@ use Rattle.headers.specs.Header.{typeAt}
 use Rattle.kinds.specs.Kinds.{isCell}
 use Rattle.files.specs.Spots.{spotsOf}
 use Rattle.edits.specs.declared.Edited.the-variants.{Made}
-use Rattle.edits.specs.Edits.{Edit, mark, rename, insert, remove, extentIn}
+use Rattle.edits.specs.Bits.{flagSize}
+use Rattle.edits.specs.Edits.{Edit, mark, rename, insert, remove, extentIn, extentPlaces}
 use Rattle.edits.specs.Allowed.{fine, startsAt, flagDiffers, editFault}
 use Rattle.edits.specs.Calls.{Session, Call, mark-call, rename-call, insert-call, remove-call, undo-call, wordsOf, sessionFault, openFault, wordsBy, recordBy, step}
 use Rattle.edits.specs.Book.{wasRefused}
@@ -57,12 +58,16 @@ EditsMade =
 
 ---- the same in plain facts, of a session that opens
 
--- an element starts at the place, its flag is not as wanted, and 12 bytes of the journal are free
+-- the bytes of a mark's record: 12, and two for each sixteen elements of the extent, a part of sixteen too
+abbrev pub markBytes : ℕ → List ℕ → ℕ → ℕ
+markBytes dim ws p = 2 * flagSize (length (extentPlaces (spotsOf dim ws) p)) + 12
+
+-- an element starts at the place, its flag is not as wanted, and so many bytes of the journal are free
 abbrev pub MarkMade : Type 0
 MarkMade =
     (dim : ℕ) (s : Session) (p : ℕ) (deleted : Bool) → sessionFault dim s ≡ fine → startsAt (spotsOf dim (wordsOf s)) p ≡ true →
-    flagDiffers deleted (wordAt (wordsOf s) p) ≡ true → s .jused + 12 ≤ length (s .journal) →
-    step dim s (mark-call p deleted) .answer ≡ Made (s .used) (s .jused + 12)
+    flagDiffers deleted (wordAt (wordsOf s) p) ≡ true → s .jused + markBytes dim (wordsOf s) p ≤ length (s .journal) →
+    step dim s (mark-call p deleted) .answer ≡ Made (s .used) (s .jused + markBytes dim (wordsOf s) p)
 
 -- a cell starts at the place, the text is a name, and 16 bytes of the journal are free
 abbrev pub RenameMade : Type 0

@@ -7,15 +7,15 @@ use mathlib.Core.Option.{Option, none, some}
 use lib.ListN.{length, take, drop}
 use lib.Dec.{eqb, leb}
 use Rattle.words.specs.Words.{wordAt, longAt}
-use Rattle.kinds.specs.FirstWord.{deletedOf}
 use Rattle.files.specs.Spots.{Spot, spotsOf, spotIn}
-use Rattle.edits.specs.Edits.{Edit, mark, rename, insert, remove, extentIn}
+use Rattle.edits.specs.Bits.{flagWords}
+use Rattle.edits.specs.Edits.{Edit, mark, rename, insert, remove, restore, extentIn, extentPlaces, flagsAt}
 use Rattle.headers.specs.Header.{nameFirst, nameSecond}
 use Rattle.edits.specs.Allowed.{Fault?, fine, fault, isUnder, editFault}
 
--- kind 1 flag; 2 rename, with the two old words; 3 insert; 4 remove, with the words removed
+-- kind 1 flag, with the extent's old flags; 2 rename, with the two old words; 3 insert; 4 remove, with the words removed
 pub data Rec : Type 0 where
-  flag : ℕ → Rec
+  flag : ℕ → List ℕ → Rec
   renamed : ℕ → ℕ → ℕ → Rec
   inserted : Option ℕ → ℕ → Rec
   removed : Option ℕ → ℕ → List ℕ → Rec
@@ -25,12 +25,17 @@ abbrev pub headerBy : Option Spot → Option ℕ
 headerBy none = none
 headerBy (some x) = x .header
 
+-- the deleted flags of an extent, as words
+abbrev pub oldFlags : List ℕ → List ℕ → List ℕ
+oldFlags qs ws = flagWords (flagsAt qs ws)
+
 -- the record of an edit on a file's words
 unfoldable pub recordOf : ℕ → List ℕ → Edit → Rec
-recordOf dim ws (mark p deleted) = flag p
+recordOf dim ws (mark p deleted) = flag p (oldFlags (extentPlaces (spotsOf dim ws) p) ws)
 recordOf dim ws (rename p a b) = renamed p (nameFirst ws p) (nameSecond ws p)
 recordOf dim ws (insert h p x) = inserted h p
 recordOf dim ws (remove p) = removed (headerBy (spotIn (spotsOf dim ws) p)) p (take (extentIn (spotsOf dim ws) p) (drop p ws))
+recordOf dim ws (restore p x) = flag p (oldFlags (extentPlaces (spotsOf dim ws) p) ws)
 
 -- a place as a long; -1 is 65535, 65535
 abbrev pub long : Option ℕ → List ℕ
@@ -41,7 +46,7 @@ abbrev pub six : ℕ → Option ℕ → ℕ → ℕ → List ℕ
 six kind h p n = kind ∷ (long h ++ (long (some p) ++ (n ∷ [])))
 
 unfoldable pub recordWords : Rec → List ℕ
-recordWords (flag p) = six 1 none p 0
+recordWords (flag p x) = x ++ six 1 none p (length x)
 recordWords (renamed p a b) = a ∷ b ∷ six 2 none p 2
 recordWords (inserted h p) = six 3 h p 0
 recordWords (removed h p x) = x ++ six 4 h p (length x)
@@ -71,7 +76,7 @@ kindOf n = cond (eqb n 1) flags (cond (eqb n 2) renames (cond (eqb n 3) inserts 
 
 -- the header place and the number of payload words are the kind's
 abbrev pub formed : Kind → Option ℕ → ℕ → Bool
-formed flags h n = atTop h && eqb n 0
+formed flags h n = atTop h && leb 1 n
 formed renames h n = atTop h && eqb n 2
 formed inserts h n = eqb n 0
 formed removes h n = true
@@ -79,7 +84,7 @@ formed no-kind h n = false
 
 -- the record of a kind, with the words before it
 abbrev pub build : Kind → Option ℕ → ℕ → List ℕ → List ℕ → Newest
-build flags h p x before = some (flag p, before)
+build flags h p x before = some (flag p x, before)
 build renames h p x before = some (renamed p (wordAt x 0) (wordAt x 1), before)
 build inserts h p x before = some (inserted h p, before)
 build removes h p x before = some (removed h p x, before)
@@ -95,16 +100,16 @@ readAt js t n = readBy js t n (kindOf (wordAt js t)) (placeOf (longAt js (t + 1)
 unfoldable pub lastRecord : List ℕ → Newest
 lastRecord js = keep (leb 6 (length js)) (readAt js (length js - 6) (wordAt js (length js - 6 + 5)))
 
--- the reversal: the opposite edit at the recorded places; a flag is turned over, whatever it is
+-- the reversal: the opposite edit at the recorded places; old flags are written back, whatever stands there
 unfoldable pub reversal : List ℕ → Rec → Edit
-reversal ws (flag p) = mark p (eqb (deletedOf (wordAt ws p)) 0)
+reversal ws (flag p x) = restore p x
 reversal ws (renamed p a b) = rename p a b
 reversal ws (inserted h p) = remove p
 reversal ws (removed h p x) = insert h p x
 
 -- the element that a kind 3 record places is directly under its header place
 abbrev pub underItsHeader : List Spot → Rec → Bool
-underItsHeader xs (flag p) = true
+underItsHeader xs (flag p x) = true
 underItsHeader xs (renamed p a b) = true
 underItsHeader xs (inserted h p) = isUnder (spotIn xs p) h
 underItsHeader xs (removed h p x) = true

@@ -3,3 +3,4 @@ pub mod Depths
 pub mod Inserting
 pub mod ExactInserts
 pub mod ExactReversals
+pub mod Ends

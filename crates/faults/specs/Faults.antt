@@ -20,6 +20,11 @@ abbrev pub isAt : Spotted → Bool
 isAt (spotted.At end depth above) = true
 isAt (spotted.Refused n p) = false
 
+-- the place behind its extent, 0 where there is none
+abbrev pub endOf : Spotted → ℕ
+endOf (spotted.At end depth above) = end
+endOf (spotted.Refused n p) = 0
+
 -- the number that marking answers: 13, 14, or 0 for none
 unfoldable pub markNumber : List ℕ → Spotted → ℕ → Bool → ℕ
 markNumber ws found p deleted =

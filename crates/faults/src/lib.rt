@@ -11,9 +11,9 @@ ghost use Rattle.kinds.specs.Kinds.{isCell};
 ghost use mathlib.Core.Bool.{_||_};
 ghost use lib.Dec.{eqb};
 ghost use Rattle.places.specs.declared.Above.the-variants.{Under};
-ghost use Rattle.faults.specs.Faults.{isAt, markNumber, renameNumber, sameAbove, standsUnder};
+ghost use Rattle.faults.specs.Faults.{isAt, endOf, markNumber, renameNumber, sameAbove, standsUnder};
 ghost use Rattle.faults.specs.Inserting.{componentsOf, roomUnder, insertRefusal, answerOf};
-ghost use Rattle.faults.specs.Reversing.{reversesAt};
+ghost use Rattle.faults.specs.Reversing.{flagsFit, reversesAt};
 use places::Above;
 use places::Spotted;
 
@@ -31,6 +31,23 @@ fn is_at(found: Spotted) -> bool
             number: _,
             place: _,
         } => false,
+    }
+}
+
+// The place behind the extent that was found, 0 where none was.
+pub fn end_of(found: Spotted) -> usize
+    ensures { λ r. ⌜ r ≡ endOf found ⌝ }
+{
+    match found {
+        Spotted::At {
+            end,
+            depth: _,
+            above: _,
+        } => end,
+        Spotted::Refused {
+            number: _,
+            place: _,
+        } => 0,
     }
 }
 
@@ -261,6 +278,23 @@ pub fn insert_fault(
     }
 }
 
+// Whether a payload is the flags of the extent that was found at a place.
+fn flags_fit(used: &[u8], found: Spotted, place: usize, payload: &[u8]) -> bool
+    ensures { λ r. ⌜ r ≡ flagsFit found (words (now (used .entry))) place (words (now (payload .entry))) ⌝ }
+{
+    match found {
+        Spotted::At {
+            end,
+            depth: _,
+            above: _,
+        } => flags::flags_ok(flags::count(used, place, end), payload),
+        Spotted::Refused {
+            number: _,
+            place: _,
+        } => false,
+    }
+}
+
 // Whether the reversal of a record is allowed: its kind (1 flag, 2 rename, 3 insert, else remove), its header place, its
 // place and its payload.
 pub fn reversible(
@@ -276,7 +310,7 @@ pub fn reversible(
     ensures { λ r. ⌜ r ≡ reversesAt dim (now (used .entry)) marker found kind header place (words (now (payload .entry))) ⌝ }
 {
     if kind == 1 {
-        return is_at(found);
+        return flags_fit(used, found, place, payload);
     }
     if kind == 2 {
         let named = names::name_ok(words::word(payload, 0), words::word(payload, 1));

@@ -10,13 +10,14 @@ use lib.ListN.{length, length-append}
 use lib.Dec.{eqb, leb}
 use borrow.Author.Tests.{eq-eqb, le-leb, eqb-true, leb-true}
 use Rattle.words.specs.Words.{words, bytes, Below, over}
-use Rattle.words.proofs.Laws.{length-words, bytes-append, bytes-words}
+use Rattle.words.proofs.Laws.{length-words, length-bytes, bytes-append, bytes-words}
 use Rattle.edits.specs.Records.{six, long, placeOf}
 use Rattle.edits.specs.Calls.{pushed}
 use Rattle.edits.proofs.Journal.{six-long}
-use Rattle.words.proofs.Over.{over-over}
+use Rattle.words.proofs.Over.{length-over, over-over}
 use Rattle.buffers.proofs.Fits.{kept}
-use Rattle.journals.specs.Journals.{pushFits, recordPushed}
+use Rattle.copies.proofs.Copies.{copied-fits}
+use Rattle.journals.specs.Journals.{sixPut, pushFits, recordPushed}
 
 ---- the bytes of a record
 
@@ -28,14 +29,30 @@ long-placed h = go (eqb h 4294967295) refl
     go true e = rw (eqb-true h 4294967295 e) refl
     go false e = refl
 
-pub push-copies : (s x t s₁ s₂ : List ℕ) (used k : ℕ) (h : Option ℕ) (p : ℕ) → Below 256 x → length x % 2 ≡ 0 → used + length x + 12 ≤ length s
-    → t ≡ bytes (six k h p (length x / 2)) → s₁ ≡ over s used x → s₂ ≡ over s₁ (used + length x) t → s₂ ≡ pushed s used (words x ++ six k h p (length (words x)))
-push-copies s x t s₁ s₂ used k h p b even l e f g =
-    let t′ : t ≡ bytes (six k h p (length (words x))) = e ∙ ap (λ n. bytes (six k h p n)) (sym (length-words x)) in
-    let y : bytes (words x ++ six k h p (length (words x))) ≡ x ++ t =
-    bytes-append (words x) (six k h p (length (words x))) ∙ rw (bytes-words x (length x / 2) (omega arith) b) (ap (λ z. x ++ z) (sym t′)) in
-    g ∙ rw f (over-over s used x (used + length x) t refl (omega arith))
-    ∙ sym (ap (over s used) y)
+-- the six words behind a payload that stands behind the used bytes
+pub six-behind : (s x : List ℕ) (used kind header p : ℕ) → used + 2 * length x + 12 ≤ length s →
+    sixPut (over s used (bytes x)) (used + 2 * length x) kind header p (length x) ≡ pushed s used (x ++ six kind (placeOf header) p (length x))
+unfolding sixPut
+six-behind s x used kind header p h =
+    let t = six kind (placeOf header) p (length x) in
+    let n = length-bytes x in
+    let l = length-over s used (bytes x) (omega arith) in
+    let m = length-bytes t in
+    let k = six-long kind (placeOf header) p (length x) in
+    copied-fits (over s used (bytes x)) (used + 2 * length x) (bytes t) (omega arith)
+    ∙ over-over s used (bytes x) (used + 2 * length x) (bytes t) (omega arith) (omega arith)
+    ∙ ap (over s used) (sym (bytes-append x t))
+
+pub push-copies : (s x s₁ s₂ : List ℕ) (used k header p : ℕ) → Below 256 x → length x % 2 ≡ 0 → used + length x + 12 ≤ length s → s₁ ≡ over s used x →
+    s₂ ≡ sixPut s₁ (used + length x) k header p (length x / 2) → s₂ ≡ pushed s used (words x ++ six k (placeOf header) p (length (words x)))
+push-copies s x s₁ s₂ used k header p b even l f g =
+    let n = length-words x in
+    let y = bytes-words x (length x / 2) (omega arith) b in
+    let e : used + length x ≡ used + 2 * length (words x) = omega arith in
+    g ∙ ap (λ t. sixPut t (used + length x) k header p (length x / 2)) (f ∙ ap (over s used) (sym y))
+    ∙ ap (λ a. sixPut (over s used (bytes (words x))) a k header p (length x / 2)) e
+    ∙ ap (λ c. sixPut (over s used (bytes (words x))) (used + 2 * length (words x)) k header p c) (sym n)
+    ∙ six-behind s (words x) used k header p (omega arith)
 
 ---- what fits
 

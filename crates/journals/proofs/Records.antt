@@ -59,8 +59,8 @@ module _ (j : List ℕ) (t n kind header p : ℕ) (R : Six j t n kind header p) 
         let half : 2 * (t - n) / 2 ≡ t - n = omega arith in
         rw half (read-by ∙ rw ok refl)
 
-    pub read-flag : kind ≡ 1 → RecordRead j t n (Flag p (2 * (t - n)))
-    read-flag k = record { is = sym (read-good ∙ rw (eq-eqb kind 1 k) refl); within = within-of 0 (omega arith) }
+    pub read-flag : kind ≡ 1 → RecordRead j t n (Flag p n (2 * (t - n)))
+    read-flag k = record { is = sym (read-good ∙ rw (eq-eqb kind 1 k) refl); within = within-of n (omega arith) }
 
     -- a rename's payload has two words
     two : kind ≡ 2 → n ≡ 2

@@ -6,18 +6,23 @@ use mathlib.Core.Bool.{Bool, cond, _&&_}
 use mathlib.Core.Option.{Option, none, some}
 use lib.ListN.{length, take, drop}
 use lib.Dec.{eqb, leb}
-use Rattle.words.specs.Words.{words}
+use Rattle.words.specs.Words.{words, bytes}
 use Rattle.edits.specs.Records.{Rec, flag, renamed, inserted, removed, six, placeOf, kindOf, formed, readAt, lastRecord}
 use Rattle.edits.specs.Calls.{pushed}
+use Rattle.copies.specs.Copies.{copied}
 use Rattle.journals.specs.declared.Last.{Last}
 use Rattle.journals.specs.declared.Last.the-variants.{Bad, Flag, Renamed, Inserted, Removed}
+
+-- the buffer with a record's six words from the byte a on; as it was where they do not fit. The header place is the number
+-- of its long, 4294967295 for the top
+unfoldable pub sixPut : List ℕ → ℕ → ℕ → ℕ → ℕ → ℕ → List ℕ
+sixPut s a kind header p n = copied s a (bytes (six kind (placeOf header) p n))
 
 -- both lengths are even, and the payload and six words have room behind the used bytes
 abbrev pub pushFits : List ℕ → ℕ → List ℕ → Bool
 pushFits s used payload = eqb (used % 2) 0 && (eqb (length payload % 2) 0 && leb (used + length payload + 12) (length s))
 
--- the buffer with the record behind its used bytes; as it was where the record does not fit. The header place is the
--- number of its long, 4294967295 for the top
+-- the buffer with the record behind its used bytes; as it was where the record does not fit
 unfoldable pub recordPushed : List ℕ → ℕ → ℕ → ℕ → ℕ → List ℕ → List ℕ
 recordPushed s used kind header p payload =
     cond (pushFits s used payload)
@@ -30,7 +35,7 @@ wellFormed kind h n = formed (kindOf kind) h n
 -- what an answer says of a journal's words: the record, and the words before it
 abbrev pub recordIn : List ℕ → Last → Option (Rec × List ℕ)
 recordIn js Bad = none
-recordIn js (Flag p before) = some (flag p, take (before / 2) js)
+recordIn js (Flag p n before) = some (flag p (take n (drop (before / 2) js)), take (before / 2) js)
 recordIn js (Renamed p a b before) = some (renamed p a b, take (before / 2) js)
 recordIn js (Inserted h p before) = some (inserted (placeOf h) p, take (before / 2) js)
 recordIn js (Removed h p n before) = some (removed (placeOf h) p (take n (drop (before / 2) js)), take (before / 2) js)
@@ -45,7 +50,7 @@ pub record RecordWithin (size n p before : ℕ) : Type 0 where
 -- what holds of the numbers of an answer: a header place is a long, and the two old words are words
 abbrev pub LastWithin : ℕ → Last → Type 0
 LastWithin size Bad = Unit {0}
-LastWithin size (Flag p before) = RecordWithin size 0 p before
+LastWithin size (Flag p n before) = RecordWithin size n p before
 LastWithin size (Renamed p a b before) = (a < 65536) × (b < 65536) × RecordWithin size 2 p before
 LastWithin size (Inserted h p before) = (h < 4294967296) × RecordWithin size 0 p before
 LastWithin size (Removed h p n before) = (h < 4294967296) × RecordWithin size n p before

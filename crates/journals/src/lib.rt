@@ -6,10 +6,9 @@ ghost use mathlib.Core.Path.{_≡_};
 ghost use Prim.Native.Nat.{_+_, _*_, _≤_};
 ghost use mathlib.Core.Bool.{_&&_};
 ghost use lib.ListN.{length};
-ghost use lib.Dec.{eqb};
 ghost use Rattle.words.specs.Words.{bytes};
 ghost use Rattle.edits.specs.Records.{six, placeOf, atTop};
-ghost use Rattle.journals.specs.Journals.{recordPushed, wellFormed, RecordRead, LastRead};
+ghost use Rattle.journals.specs.Journals.{sixPut, recordPushed, wellFormed, RecordRead, LastRead};
 
 // The header place of a record at the top: the long -1.
 pub const TOP: usize = 4294967295;
@@ -32,6 +31,21 @@ fn trailer(kind: usize, header: usize, place: usize, count: usize) -> [u8; 12]
         (count % 256) as u8,
         (count / 256 % 256) as u8,
     ]
+}
+
+// The six words of a record go behind its payload, where they fit.
+pub fn put_six(
+    journal: &mut [u8],
+    at: usize,
+    kind: usize,
+    header: usize,
+    place: usize,
+    count: usize,
+)
+    ensures { λ _. ⌜ now (journal .exit) ≡ sixPut (now (journal .entry)) at kind header place count ⌝ }
+{
+    let six = trailer(kind, header, place, count);
+    copies::copy_in(journal, at, &six);
 }
 
 // A record goes behind the used part of a journal: the payload, then its six words.
@@ -61,17 +75,18 @@ pub fn push(
     if journal.len() - jused - n < 12 {
         return;
     }
-    let six = trailer(kind, header, place, n / 2);
     copies::copy_in(journal, jused, payload);
-    copies::copy_in(journal, jused + n, &six);
+    put_six(journal, jused + n, kind, header, place, n / 2);
 }
 
 // A record read back from a journal: its places and its payload, with the used length before it. `header` is the
-// number of the header place's long, TOP at the top; the words removed are the `count` words from byte `before` on.
+// number of the header place's long, TOP at the top; the old flags, or the words removed, are the `count` words from
+// byte `before` on.
 pub enum Last {
     Bad,
     Flag {
         place: usize,
+        count: usize,
         before: usize,
     },
     Renamed {
@@ -93,12 +108,12 @@ pub enum Last {
     },
 }
 
-// Whether the header place is the top and the payload has n words.
-fn at_top_with(header: usize, count: usize, n: usize) -> bool
-    ensures { λ r. ⌜ r ≡ (atTop (placeOf header) && eqb count n) ⌝ }
+// Whether the header place is the top and the payload is as long as it may be.
+fn at_top_with(header: usize, long: bool) -> bool
+    ensures { λ r. ⌜ r ≡ (atTop (placeOf header) && long) ⌝ }
 {
     if header == TOP {
-        return count == n;
+        return long;
     }
     false
 }
@@ -108,10 +123,10 @@ fn well_formed(kind: usize, header: usize, count: usize) -> bool
     ensures { λ r. ⌜ r ≡ wellFormed kind (placeOf header) count ⌝ }
 {
     if kind == 1 {
-        return at_top_with(header, count, 0);
+        return at_top_with(header, 1 <= count);
     }
     if kind == 2 {
-        return at_top_with(header, count, 2);
+        return at_top_with(header, count == 2);
     }
     if kind == 3 {
         return count == 0;
@@ -133,7 +148,11 @@ fn record_at(journal: &[u8], t: usize, count: usize) -> Last
         return Last::Bad;
     }
     if kind == 1 {
-        return Last::Flag { place, before };
+        return Last::Flag {
+            place,
+            count,
+            before,
+        };
     }
     if kind == 2 {
         return Last::Renamed {

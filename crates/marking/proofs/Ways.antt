@@ -1,36 +1,44 @@
 -- The ways out of a mark and a rename, by what the code finds and leaves: a number that is not 0 is the refusal; else 16 by
--- the journal's length; else the record is pushed and the file changed.
+-- the journal's length; else the record stands behind the journal and the file is changed.
 use Prim.Native.Nat.{ℕ, _+_, _-_, _*_, _%_, _≤_, _<_}
 use mathlib.Core.Path.{_≡_, refl, sym, ap, _∙_}
 use mathlib.Core.Bool.{Bool, true, false}
-use mathlib.Core.List.{List, [], _++_}
+use mathlib.Core.List.{List, _++_, append-nil}
 use native.Mathlib.Omega.{arith}
-use lib.ListN.{length, take, drop}
+use lib.ListN.{length, take, drop, length-take, length-drop, drop-of-length-le}
+use lib.Seq.{take-all, drop-drop}
 use borrow.Author.Tests.{ne-eqb}
-use Rattle.words.specs.Words.{words, Below, wordAt}
+use Rattle.words.specs.Words.{words, bytes, over, Below, wordAt}
 use Rattle.words.proofs.Laws.{words-below}
 use Rattle.names.specs.Names.{packed}
 use Rattle.names.specs.declared.Packed.the-variants as name
 use Rattle.files.specs.Spots.{spotsOf}
 use Rattle.places.specs.declared.Spotted.{Spotted}
+use Rattle.places.specs.declared.Spotted.the-variants.{At}
+use Rattle.places.specs.Descent.{locateOf}
+use Rattle.edits.specs.Bits.{flagSize}
 use Rattle.edits.specs.declared.Edited.{Edited}
 use Rattle.edits.specs.declared.Edited.the-variants.{Made, Refused}
-use Rattle.edits.specs.Edits.{mark, rename}
+use Rattle.edits.specs.Edits.{mark, rename, flagsAt}
 use Rattle.headers.specs.Header.{namePlace}
 use Rattle.edits.specs.Allowed.{fine, fault, renameFault, editFault}
-use Rattle.edits.specs.Records.{flag, recordOf}
-use Rattle.edits.specs.Calls.{Session, mark-call, rename-call, usedWords, sessionFault, wordsBy, recordBy}
-use Rattle.journals.specs.Journals.{recordPushed}
+use Rattle.edits.specs.Records.{flag, oldFlags, recordOf, recordWords}
+use Rattle.edits.specs.Calls.{Session, mark-call, rename-call, usedWords, sessionFault, pushed, wordsBy, recordBy}
+use Rattle.edits.proofs.Packed.{length-packed}
+use Rattle.edits.proofs.Flags.{length-flags}
+use Rattle.journals.specs.Journals.{sixPut, recordPushed}
 use Rattle.opening.specs.Opening.{sessionOf}
-use Rattle.faults.specs.Faults.{markNumber, renameNumber}
+use Rattle.faults.specs.Faults.{endOf, markNumber, renameNumber}
 use Rattle.faults.proofs.ExactMarks.{numbered, mark-is, rename-is}
+use Rattle.faults.proofs.Ends.{Located, mark-there}
 use Rattle.changes.specs.CellNames.{namePut, cellName}
-use Rattle.changes.specs.Changes.{flagPut}
+use Rattle.flags.specs.Extents.{placesIn, allPut, oldPut}
+use Rattle.flags.proofs.Packing.{old-over}
 use Rattle.changes.proofs.Made as made
 use Rattle.opening.specs.Steps.{Leaves, Stepped, lastPlace, Open}
 use Rattle.opening.proofs.Steps.{edit-step, edit-refused, edit-journal, edit-done}
 use Rattle.opening.proofs.OpenSession.{used-within, jused-within, open-used, used-below, used-even, jused-even}
-use Rattle.opening.proofs.Pushed.{Laid, flag-laid, renamed-laid, record-long, record-pushed}
+use Rattle.opening.proofs.Pushed.{Laid, renamed-laid, record-long, record-pushed, flag-long, flag-pushed}
 use Rattle.marking.specs.Marking.{cellRenamed}
 
 -- a number as a refusal
@@ -39,6 +47,25 @@ numbered-fault n h = rw (ne-eqb n 0 h) refl
 
 numbered-none : (n : ℕ) → n ≡ 0 → numbered n ≡ fine
 numbered-none n h = rw h refl
+
+-- a buffer's part from its byte n on, lent and come back as t
+abbrev rest : List ℕ → ℕ → List ℕ
+rest s n = take (length s - n) (drop n s)
+
+abbrev withRest : List ℕ → ℕ → List ℕ → List ℕ
+withRest s n t = take n s ++ (t ++ drop (length s - n) (drop n s))
+
+length-rest : (s : List ℕ) (n : ℕ) → length (rest s n) ≡ length s - n
+length-rest s n = simp (length-take, length-drop) (omega arith)
+
+-- bytes over its front
+over-behind : (s : List ℕ) (n : ℕ) (x : List ℕ) → withRest s n (over (rest s n) 0 x) ≡ over s n x
+unfolding over
+over-behind s n x =
+    let l = length-drop n s in
+    let e : n + (0 + length x) ≡ n + length x = omega arith in
+    rw (take-all (length s - n) (drop n s) (omega arith), drop-of-length-le (drop n s) {i = length s - n} (omega arith), append-nil (x ++ drop (0 + length x) (drop n s)))
+    (ap (λ l. take n s ++ (x ++ l)) (drop-drop (0 + length x) n s ∙ ap (λ k. drop k s) e))
 
 -- what a text asks by what it packs to
 module _ (dim : ℕ) (s : Session) (p : ℕ) (text : List ℕ) {r : Edited} {file journal : List ℕ} (ready : sessionFault dim s ≡ fine) where
@@ -69,33 +96,63 @@ module _ (dim : ℕ) (file : List ℕ) (used : ℕ) (journal : List ℕ) (jused 
     mark-refused h =
         edit-step dim s _ _ _ refl (o .ready) refl (edit-refused dim s (mark p deleted) (editFault dim ws (mark p deleted)) n 0 (sym mark-own ∙ numbered-fault n h))
 
-    module _ (none : n ≡ 0) where
+    -- nothing refuses it: the extent that was found ends at `end`, and its flags take `size` words
+    module _ (none : n ≡ 0) (end size : ℕ) (ends : end ≡ endOf found) (sized : size ≡ flagSize (length (placesIn ws p end))) where
       mark-fine : editFault dim ws (mark p deleted) ≡ fine
       mark-fine = sym mark-own ∙ numbered-none n none
 
       mark-fits : 2 * length (wordsBy dim s (mark p deleted)) ≤ length file
       mark-fits = let l = made.mark-length dim file used m below (used-even o) (used-within o) (open-used o) p deleted in let w = (used-within o) in omega arith
 
-      mark-long : 2 * length (recordBy dim s (mark p deleted)) ≡ 12
-      unfolding recordOf
-      mark-long = record-long (flag p) 1 4294967295 p [] refl (flag-laid p)
+      there : Located found end
+      there = mark-there ws p deleted found (sym none ∙ is) end ends
 
-      pub mark-full : length journal - jused < 12 → Stepped dim s (mark-call p deleted) (Refused 16 0) file journal
+      located : locateOf ws p m ≡ At end (there .depth) (there .above)
+      located = sym (o .found-is) ∙ there .found-is
+
+      abbrev old : List ℕ
+      old = oldFlags (placesIn ws p end) ws
+
+      old-size : length old ≡ size
+      old-size = length-packed (flagsAt (placesIn ws p end) ws) ∙ ap flagSize (length-flags (placesIn ws p end) ws) ∙ sym sized
+
+      mark-record : recordOf dim ws (mark p deleted) ≡ flag p old
+      mark-record = made.mark-record dim file used m below (used-even o) (used-within o) (open-used o) p end (there .depth) (there .above) located deleted
+
+      mark-long : 2 * length (recordBy dim s (mark p deleted)) ≡ 2 * size + 12
+      mark-long = ap (λ r. 2 * length (recordWords r)) mark-record ∙ flag-long p old ∙ ap (λ k. 2 * k + 12) old-size
+
+      pub mark-full : length journal - jused < 2 * size + 12 → Stepped dim s (mark-call p deleted) (Refused 16 0) file journal
       mark-full h =
           let l = mark-long in
           let j = (jused-within o) in
           edit-step dim s _ _ _ refl (o .ready) refl (edit-journal dim s (mark p deleted) (editFault dim ws (mark p deleted)) mark-fine mark-fits (omega arith))
 
-      pub mark-done : 12 ≤ length journal - jused → (part journal′ : List ℕ) → part ≡ flagPut deleted p (take used file) →
-          journal′ ≡ recordPushed journal jused 1 4294967295 p [] → Stepped dim s (mark-call p deleted) (Made used (jused + 12)) (part ++ drop used file) journal′
-      unfolding recordOf
-      mark-done h part journal′ f j =
-          let l = mark-long in
-          let w = (jused-within o) in
-          edit-step dim s _ _ _ refl (o .ready) refl (edit-done dim s (mark p deleted) (editFault dim ws (mark p deleted)) mark-fine mark-fits (omega arith)
-          used (jused + 12) (part ++ drop used file) journal′ (sym (made.mark-length dim file used m below (used-even o) (used-within o) (open-used o) p deleted)) (omega arith)
-          (ap (λ x. x ++ drop used file) f ∙ made.mark-made dim file used m below (used-even o) (used-within o) (open-used o) p deleted)
-          (j ∙ record-pushed (flag p) 1 4294967295 p [] refl (flag-laid p) journal jused (jused-even o) (omega arith)))
+      module _ (room : 2 * size + 12 ≤ length journal - jused) where
+        -- the old flags and the six words behind the journal
+        mark-pushed : (out journal′ : List ℕ) → out ≡ oldPut p end (take used file) (rest journal jused) →
+            journal′ ≡ sixPut (withRest journal jused out) (jused + 2 * size) 1 4294967295 p size → journal′ ≡ pushed journal jused (recordBy dim s (mark p deleted))
+        mark-pushed out journal′ f j =
+            let k = old-size in
+            let d = length-rest journal jused in
+            let w = (jused-within o) in
+            j ∙ ap (λ t. sixPut (withRest journal jused t) (jused + 2 * size) 1 4294967295 p size) (f ∙ old-over p end (take used file) (rest journal jused) (omega arith))
+            ∙ ap (λ t. sixPut t (jused + 2 * size) 1 4294967295 p size) (over-behind journal jused (bytes old))
+            ∙ ap (λ c. sixPut (over journal jused (bytes old)) (jused + 2 * c) 1 4294967295 p c) (sym k)
+            ∙ flag-pushed p old journal jused (omega arith)
+            ∙ ap (λ r. pushed journal jused (recordWords r)) (sym mark-record)
+
+        pub mark-done : (part out journal′ : List ℕ) → part ≡ allPut deleted p end (take used file) → out ≡ oldPut p end (take used file) (rest journal jused) →
+            journal′ ≡ sixPut (withRest journal jused out) (jused + 2 * size) 1 4294967295 p size →
+            Stepped dim s (mark-call p deleted) (Made used (jused + 2 * size + 12)) (part ++ drop used file) journal′
+        mark-done part out journal′ f g j =
+            let l = mark-long in
+            let w = (jused-within o) in
+            edit-step dim s _ _ _ refl (o .ready) refl (edit-done dim s (mark p deleted) (editFault dim ws (mark p deleted)) mark-fine mark-fits (omega arith)
+            used (jused + 2 * size + 12) (part ++ drop used file) journal′ (sym (made.mark-length dim file used m below (used-even o) (used-within o) (open-used o) p deleted)) (omega arith)
+            (ap (λ x. x ++ drop used file) f
+            ∙ made.mark-made dim file used m below (used-even o) (used-within o) (open-used o) p end (there .depth) (there .above) located deleted)
+            (mark-pushed out journal′ g j))
 
   ---- rename
 

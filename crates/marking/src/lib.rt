@@ -1,6 +1,6 @@
-// Marking an element deleted or live, and renaming a cell: calls of a session on its two lent buffers. Each opens the session
-// (1, the file's own refusals, 1 for an early marker) and so finds its place, then its own refusals and 16, and changes the
-// buffers last. Contracts: one step of edits' specs/Calls.
+// Marking the elements of an extent deleted or live, and renaming a cell: calls of a session on its two lent buffers. Each
+// opens the session (1, the file's own refusals, 1 for an early marker) and so finds its place, then its own refusals and 16,
+// and changes the buffers last. Contracts: one step of edits' specs/Calls.
 ghost use Rattle.edits.specs.Calls.{mark-call, rename-call};
 ghost use Rattle.opening.specs.Opening.{sessionOf};
 ghost use Rattle.opening.specs.Steps.{Leaves, Stepped, Open};
@@ -10,7 +10,8 @@ use journals::TOP;
 use opening::Opened;
 use places::Spotted;
 
-// Marks the element at a place deleted, or live, in an open session.
+// Marks the extent at a place deleted, or live, in an open session: its old flags are packed behind the journal while it
+// is marked, and the record's six words go behind them.
 fn mark_opened(
     file: &mut [u8],
     used: usize,
@@ -28,18 +29,26 @@ fn mark_opened(
     if number != 0 {
         return opening::refused(number);
     }
-    if journal.len() - jused < 12 {
+    let end = faults::end_of(found);
+    let n = flags::flag_size(flags::count(&file[..used], place, end));
+    if journal.len() - jused < 2 * n + 12 {
         return opening::refused(16);
     }
-    journals::push(journal, jused, 1, TOP, place, &file[..0]);
-    changes::mark_element(&mut file[..used], place, deleted);
+    flags::mark(
+        &mut file[..used],
+        place,
+        end,
+        deleted,
+        &mut journal[jused..],
+    );
+    journals::put_six(journal, jused + 2 * n, 1, TOP, place, n);
     Edited::Made {
         used,
-        jused: jused + 12,
+        jused: jused + 2 * n + 12,
     }
 }
 
-// Marks the element at a place deleted, or live.
+// Marks the elements of the extent at a place deleted, or live.
 pub fn mark(
     file: &mut [u8],
     used: usize,

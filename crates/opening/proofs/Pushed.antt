@@ -5,17 +5,18 @@ use mathlib.Core.Bool.{Bool, true, false, cond}
 use mathlib.Core.List.{List, [], _∷_, _++_}
 use mathlib.Core.Option.{none, some}
 use native.Mathlib.Omega.{arith}
-use lib.ListN.{length}
+use lib.ListN.{length, length-append}
 use lib.Dec.{eqb}
 use borrow.Author.Tests.{ne-eqb}
-use Rattle.words.specs.Words.{words, bytes}
+use Rattle.words.specs.Words.{words, bytes, over}
 use Rattle.places.specs.declared.Above.{Above}
 use Rattle.places.specs.declared.Above.the-variants.{Top, Under}
 use Rattle.edits.specs.Records.{Rec, flag, renamed, inserted, removed, six, placeOf, recordWords}
 use Rattle.edits.specs.Calls.{pushed}
 use Rattle.edits.proofs.Accepted.{SmallHeader}
-use Rattle.journals.specs.Journals.{recordPushed}
-use Rattle.journals.proofs.Pushed.{pushed-fits, record-length}
+use Rattle.edits.proofs.Journal.{six-long}
+use Rattle.journals.specs.Journals.{sixPut, recordPushed}
+use Rattle.journals.proofs.Pushed.{six-behind, pushed-fits, record-length}
 use Rattle.opening.specs.Opening.{headerOf}
 use Rattle.opening.specs.Steps.{numberOf, aboveAt}
 
@@ -37,10 +38,6 @@ header-above n = go (eqb n 4294967295)
 -- a record that is a payload and six words
 abbrev pub Laid : Rec → ℕ → ℕ → ℕ → List ℕ → Type 0
 Laid rec kind header p x = recordWords rec ≡ words x ++ six kind (placeOf header) p (length (words x))
-
-pub flag-laid : (p : ℕ) → Laid (flag p) 1 4294967295 p []
-unfolding recordWords
-flag-laid p = refl
 
 -- a word from its two bytes
 two-bytes : (w : ℕ) → w < 65536 → w % 256 + 256 * (w / 256 % 256) ≡ w
@@ -68,3 +65,15 @@ module _ (rec : Rec) (kind header p : ℕ) (x : List ℕ) (even : length x % 2 �
   pub record-pushed : (journal : List ℕ) (jused : ℕ) → jused % 2 ≡ 0 → jused + length x + 12 ≤ length journal →
       recordPushed journal jused kind header p x ≡ pushed journal jused (recordWords rec)
   record-pushed journal jused ev h = pushed-fits journal jused kind header p x ev even h ∙ ap (pushed journal jused) (sym laid)
+
+---- a mark's record, whose payload is packed in its place
+
+module _ (p : ℕ) (x : List ℕ) where
+  pub flag-long : 2 * length (recordWords (flag p x)) ≡ 2 * length x + 12
+  unfolding recordWords
+  flag-long = let l = length-append x (six 1 none p (length x)) in let k = six-long 1 none p (length x) in omega arith
+
+  pub flag-pushed : (journal : List ℕ) (jused : ℕ) → jused + 2 * length x + 12 ≤ length journal →
+      sixPut (over journal jused (bytes x)) (jused + 2 * length x) 1 4294967295 p (length x) ≡ pushed journal jused (recordWords (flag p x))
+  unfolding recordWords
+  flag-pushed journal jused h = six-behind journal x jused 1 4294967295 p h

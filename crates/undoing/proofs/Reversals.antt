@@ -6,9 +6,7 @@ use mathlib.Core.List.{List, [], _++_}
 use mathlib.Core.Option.{some}
 use native.Mathlib.Omega.{arith}
 use lib.ListN.{length, take, drop, length-take, length-drop}
-use lib.Dec.{eqb}
 use Rattle.words.specs.Words.{words, Below, wordAt}
-use Rattle.kinds.specs.FirstWord.{deletedOf}
 use Rattle.files.specs.Spots.{spotsOf}
 use Rattle.places.specs.declared.Above.{Above}
 use Rattle.places.specs.declared.Above.the-variants.{Top}
@@ -28,11 +26,14 @@ use Rattle.journals.specs.Journals.{RecordWithin, LastRead}
 use Rattle.journals.proofs.Records.{before-length}
 use Rattle.opening.specs.Opening.{sessionOf, headerOf}
 use Rattle.opening.proofs.Opening.{AcceptedUsed}
-use Rattle.faults.specs.Faults.{sameAbove, standsUnder}
+use Rattle.edits.specs.Bits.{wordFlags}
+use Rattle.flags.specs.Extents.{placesIn, flagsPut}
+use Rattle.faults.specs.Faults.{endOf, sameAbove, standsUnder}
+use Rattle.faults.proofs.Ends.{Located, flags-there}
 use Rattle.faults.specs.Reversing.{reversesAt}
 use Rattle.faults.proofs.ExactReversals.{recordBy, reversible-is}
 use Rattle.changes.specs.CellNames.{namePut, nameBytes}
-use Rattle.changes.specs.Changes.{flagPut, pieceIn, extentOut}
+use Rattle.changes.specs.Changes.{pieceIn, extentOut}
 use Rattle.changes.proofs.Made as made
 use Rattle.opening.specs.Steps.{Stepped, lastPlace, aboveAt}
 use Rattle.opening.proofs.Pushed.{header-above, name-words}
@@ -61,23 +62,29 @@ module _ (dim : ℕ) (file : List ℕ) (used p : ℕ) (found : Spotted) (o : Ope
       reversesAt dim (take used file) marker found kind h p x ≡ reversible dim ws (recordBy kind (headerOf h) p x)
   reverses-is marker last kind h x = rw (last, o .found-is) (reversible-is dim (take used file) m used-here used-below kind h p x)
 
-  ---- a flag is turned over
+  ---- the old flags are written back
 
   module _ (marker : ℕ) (last : marker ≡ lastPlace file used) (x : List ℕ) where
-    flag-is : reversesAt dim (take used file) marker found 1 Top p x ≡ reversible dim ws (flag p)
+    flag-is : reversesAt dim (take used file) marker found 1 Top p x ≡ reversible dim ws (flag p x)
     flag-is = reverses-is marker last 1 Top x
 
-    pub flag-refused : reversesAt dim (take used file) marker found 1 Top p x ≡ false → Reversed dim file used (flag p) before (Refused 19 0) file
-    flag-refused e = back-refused dim file used (flag p) before (sym flag-is ∙ e)
+    pub flag-refused : reversesAt dim (take used file) marker found 1 Top p x ≡ false → Reversed dim file used (flag p x) before (Refused 19 0) file
+    flag-refused e = back-refused dim file used (flag p x) before (sym flag-is ∙ e)
 
-    pub flag-done : reversesAt dim (take used file) marker found 1 Top p x ≡ true → (deleted : Bool) (part : List ℕ) → deleted ≡ eqb (deletedOf (wordAt ws p)) 0 →
-        part ≡ flagPut deleted p (take used file) → Reversed dim file used (flag p) before (Made used before) (part ++ drop used file)
+    flag-there : reversesAt dim (take used file) marker found 1 Top p x ≡ true → (end : ℕ) → end ≡ endOf found → Located found end
+    unfolding reversesAt
+    flag-there e end q = flags-there ws p x found e end q
+
+    pub flag-done : reversesAt dim (take used file) marker found 1 Top p x ≡ true → (end : ℕ) (part : List ℕ) → end ≡ endOf found →
+        part ≡ flagsPut (placesIn ws p end) (wordFlags x) (take used file) → Reversed dim file used (flag p x) before (Made used before) (part ++ drop used file)
     unfolding reversal
-    flag-done e deleted part d f =
-        let l = made.mark-length dim file used m below (o .even) (o .within) used-here p (eqb (deletedOf (wordAt ws p)) 0) in
+    flag-done e end part q f =
+        let there = flag-there e end q in
+        let l = made.restore-length dim file used m below (o .even) (o .within) used-here p x in
         let w = o .within in
-        back-done dim file used (flag p) before (sym flag-is ∙ e) (omega arith) used (part ++ drop used file) (sym l)
-        (ap (λ x. x ++ drop used file) f ∙ rw d (made.mark-made dim file used m below (o .even) (o .within) used-here p (eqb (deletedOf (wordAt ws p)) 0)))
+        back-done dim file used (flag p x) before (sym flag-is ∙ e) (omega arith) used (part ++ drop used file) (sym l)
+        (ap (λ y. y ++ drop used file) f
+        ∙ made.restore-made dim file used m below (o .even) (o .within) used-here p end (there .depth) (there .above) (sym (o .found-is) ∙ there .found-is) x)
 
   ---- the old name is written back
 
@@ -181,6 +188,26 @@ module _ (dim : ℕ) (file : List ℕ) (used : ℕ) (journal : List ℕ) (jused 
   read-back rec n p before r after e w v =
       undo-reversed dim s ready some-used rec (take (before / 2) js) before r after (sym e) (before-length (take jused journal) n p before w) v
 
+  -- the payload of a record stands within the used journal
+  module _ (n p before : ℕ) (w : RecordWithin (length (take jused journal)) n p before) where
+    payload-within : before + 2 * n ≤ length journal
+    payload-within =
+        let r = w .room in
+        let k = length-take jused journal in
+        omega arith
+
+    payload-even : length (take (before + 2 * n - before) (drop before journal)) % 2 ≡ 0
+    payload-even =
+        let r = payload-within in
+        let l : length (take (before + 2 * n - before) (drop before journal)) ≡ 2 * n = simp (length-take, length-drop) (omega arith) in
+        omega arith
+
+    payload-words : words (take (before + 2 * n - before) (drop before journal)) ≡ take n (drop (before / 2) js)
+    payload-words =
+        let r = w .room in
+        let k = length-take jused journal in
+        part-words journal jused before (before + 2 * n) n (w .even) refl (omega arith)
+
   module _ (read : Last) (is : LastRead (take jused journal) read) where
     -- what was read, by its case
     case-of : (q : Last) → read ≡ q → LastRead (take jused journal) q
@@ -189,9 +216,18 @@ module _ (dim : ℕ) (file : List ℕ) (used : ℕ) (journal : List ℕ) (jused 
     pub read-bad : read ≡ last.Bad → Stepped dim s undo-call (Refused 19 0) file journal
     read-bad e = undo-bad dim s ready some-used (sym (case-of last.Bad e .is))
 
-    pub read-flag : (p before : ℕ) → read ≡ last.Flag p before → (r : Edited) (after : List ℕ) →
-        Reversed dim file used (flag p) before r after → Stepped dim s undo-call r after journal
-    read-flag p before e r after v = let l = case-of (last.Flag p before) e in read-back (flag p) 0 p before r after (l .is) (l .within) v
+    module _ (p n before : ℕ) (e : read ≡ last.Flag p n before) where
+      flag-within : RecordWithin (length (take jused journal)) n p before
+      flag-within = case-of (last.Flag p n before) e .within
+
+      pub read-flags : before + 2 * n ≤ length journal
+      read-flags = payload-within n p before flag-within
+
+      pub read-flag : (r : Edited) (after : List ℕ) → Reversed dim file used (flag p (words (take (before + 2 * n - before) (drop before journal)))) before r after →
+          Stepped dim s undo-call r after journal
+      read-flag r after v =
+          read-back (flag p (take n (drop (before / 2) js))) n p before r after (case-of (last.Flag p n before) e .is) flag-within
+          (subst (λ y. Reversed dim file used (flag p y) before r after) (payload-words n p before flag-within) v)
 
     -- the two old words are words
     pub read-name : (p a b before : ℕ) → read ≡ last.Renamed p a b before → (a < 65536) × (b < 65536)
@@ -208,27 +244,17 @@ module _ (dim : ℕ) (file : List ℕ) (used : ℕ) (journal : List ℕ) (jused 
         read-back (inserted (placeOf h) p) 0 p before r after (l .is) (l .within .1) v
 
     module _ (h p n before : ℕ) (e : read ≡ last.Removed h p n before) where
-      -- the words removed stand within the used journal
+      removed-within : RecordWithin (length (take jused journal)) n p before
+      removed-within = case-of (last.Removed h p n before) e .within .1
+
       pub read-within : before + 2 * n ≤ length journal
-      read-within =
-          let w = case-of (last.Removed h p n before) e .within .1 .room in
-          let k = length-take jused journal in
-          omega arith
+      read-within = payload-within n p before removed-within
 
       pub read-even : length (take (before + 2 * n - before) (drop before journal)) % 2 ≡ 0
-      read-even =
-          let w = read-within in
-          let l : length (take (before + 2 * n - before) (drop before journal)) ≡ 2 * n = simp (length-take, length-drop) (omega arith) in
-          omega arith
+      read-even = payload-even n p before removed-within
 
       pub read-removed : (r : Edited) (after : List ℕ) →
           Reversed dim file used (removed (placeOf h) p (words (take (before + 2 * n - before) (drop before journal)))) before r after → Stepped dim s undo-call r after journal
       read-removed r after v =
-          let l = case-of (last.Removed h p n before) e in
-          let w = l .within .1 in
-          let room = w .room in
-          let k = length-take jused journal in
-          let x : words (take (before + 2 * n - before) (drop before journal)) ≡ take n (drop (before / 2) js) =
-          part-words journal jused before (before + 2 * n) n (w .even) refl (omega arith) in
-          read-back (removed (placeOf h) p (take n (drop (before / 2) js))) n p before r after (l .is) w
-          (subst (λ y. Reversed dim file used (removed (placeOf h) p y) before r after) x v)
+          read-back (removed (placeOf h) p (take n (drop (before / 2) js))) n p before r after (case-of (last.Removed h p n before) e .is) removed-within
+          (subst (λ y. Reversed dim file used (removed (placeOf h) p y) before r after) (payload-words n p before removed-within) v)

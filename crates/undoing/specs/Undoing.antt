@@ -30,7 +30,7 @@ pub record OpenFile (dim : ℕ) (file : List ℕ) (used p : ℕ) (found : Spotte
 -- the place that a record names, 0 where it is ill-formed
 abbrev pub placeIn : Last → ℕ
 placeIn last.Bad = 0
-placeIn (last.Flag p before) = p
+placeIn (last.Flag p n before) = p
 placeIn (last.Renamed p a b before) = p
 placeIn (last.Inserted h p before) = p
 placeIn (last.Removed h p n before) = p

@@ -17,7 +17,7 @@ use opening::Opened;
 use places::Above;
 use places::Spotted;
 
-// Turns the flag of the element at a place over.
+// Writes the old flags back over those of the extent at a place, whatever they are.
 fn undo_flag(
     file: &mut [u8],
     used: usize,
@@ -25,27 +25,17 @@ fn undo_flag(
     marker: usize,
     place: usize,
     found: Spotted,
+    old: &[u8],
     before: usize,
 ) -> Edited
     requires { ⌜ OpenFile dim (now file) used place found ⌝ }
     requires { ⌜ marker ≡ lastPlace (now file) used ⌝ }
-    ensures { λ r. ⌜ Reversed dim (now (file .entry)) used (flag place) before r (now (file .exit)) ⌝ }
+    ensures { λ r. ⌜ Reversed dim (now (file .entry)) used (flag place (words (now (old .entry)))) before r (now (file .exit)) ⌝ }
 {
-    let none = [0; 2];
-    if !faults::reversible(
-        &file[..used],
-        dim,
-        marker,
-        found,
-        1,
-        Above::Top,
-        place,
-        &none,
-    ) {
+    if !faults::reversible(&file[..used], dim, marker, found, 1, Above::Top, place, old) {
         return opening::refused(19);
     }
-    let deleted = words::word(&file[..used], place) / 32768 % 2 == 0;
-    changes::mark_element(&mut file[..used], place, deleted);
+    flags::restore(&mut file[..used], place, faults::end_of(found), old);
     Edited::Made {
         used,
         jused: before,
@@ -171,7 +161,11 @@ fn place_in(last: Last) -> usize
 {
     match last {
         Last::Bad => 0,
-        Last::Flag { place, before: _ } => place,
+        Last::Flag {
+            place,
+            count: _,
+            before: _,
+        } => place,
         Last::Renamed {
             place,
             first: _,
@@ -213,7 +207,20 @@ fn undo_opened(
     }
     match last {
         Last::Bad => opening::refused(19),
-        Last::Flag { place, before } => { undo_flag(file, used, dim, marker, place, found, before) }
+        Last::Flag {
+            place,
+            count,
+            before,
+        } => undo_flag(
+            file,
+            used,
+            dim,
+            marker,
+            place,
+            found,
+            &journal[before..before + 2 * count],
+            before,
+        ),
         Last::Renamed {
             place,
             first,

@@ -4,12 +4,20 @@ use crate::edited::judging;
 use crate::library::{self, TOP};
 use crate::runs::Runs;
 use reader::generate::journals::undo_state;
+use reader::generate::places::scan;
 use reader::generate::Random;
 use reader::{last_record, Call, Record, Refusal, State};
 
 /// A record as numbers: kind, header place, place, payload words, the used length before it.
 fn record_numbers(r: &Record) -> [u64; 5] {
     [r.kind, r.header.unwrap_or(TOP), r.place, r.payload, r.used_before()]
+}
+
+/// How many elements the extent at a place has.
+fn elements_of(state: &State, place: u64) -> u64 {
+    let (starts, _) = scan(state.used_file());
+    let end = starts.iter().find(|s| s.place == place).map_or(place, |s| s.end);
+    starts.iter().filter(|s| (place..end).contains(&s.place)).count() as u64
 }
 
 impl Runs {
@@ -41,7 +49,7 @@ impl Runs {
             (edit, Ok(())) => {
                 let record = self.record(&after.journal, after.jused).expect("an edit leaves a record");
                 let (kind, header, place, payload) = match edit {
-                    Call::Mark { place, .. } => (1, TOP, *place, 0),
+                    Call::Mark { place, .. } => (1, TOP, *place, elements_of(after, *place).div_ceil(16)),
                     Call::Rename { place, .. } => (2, TOP, *place, 2),
                     Call::Insert { header, place, .. } => (3, header.unwrap_or(TOP), *place, 0),
                     // the header of what was removed stands in the record alone

@@ -474,11 +474,11 @@ pub fn short_answers(file: &[u8]) {
             assert!(refused.iter().all(Result::is_err));
         });
         // a journal whose last record is in order
-        let journal = [1, 0, 255, 255, 255, 255, 0, 0, 0, 0, 0, 0];
-        assert_eq!(record(&journal, 12), Ok([1, TOP, 0, 0, 0]));
+        let journal = [0, 0, 1, 0, 255, 255, 255, 255, 0, 0, 0, 0, 1, 0];
+        assert_eq!(record(&journal, 14), Ok([1, TOP, 0, 1, 0]));
         lent(l, &l.journal, &journal, |j| {
-            assert!(short::<_, 4>(l, |o| raw::record(j, 12, o)).is_err());
-            assert!(short::<_, 0>(l, |o| raw::record(j, 12, o)).is_err());
+            assert!(short::<_, 4>(l, |o| raw::record(j, 14, o)).is_err());
+            assert!(short::<_, 0>(l, |o| raw::record(j, 14, o)).is_err());
         });
     });
 }

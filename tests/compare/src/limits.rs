@@ -30,8 +30,8 @@ pub fn records(runs: &mut Runs) {
     let piece = words_of(&raw(5, true));
     let top = words_of(&raw(5, false));
     let over: Vec<u16> = piece.iter().copied().chain([1, 2]).collect();
-    let payloads: [&[u16]; 10] =
-        [&[], &[7], &[49_234, 51_080], &[64_000, 0], &[0, 64_000], &[1, 2, 3], &piece, &top, &over, &[65_535]];
+    let payloads: [&[u16]; 13] =
+        [&[], &[0], &[1], &[3], &[7], &[49_234, 51_080], &[64_000, 0], &[0, 64_000], &[1, 2, 3], &piece, &top, &over, &[65_535]];
     for kind in [0, 1, 2, 3, 4, 5, 6, 256, 257, 65_535] {
         for header in [u32::MAX, u32::MAX - 1, 1 << 31, 0, 1, 46, 56, 59, 60] {
             for place in [0, 1, 46, 47, 56, 58, 59, 60, 1 << 16, 1 << 31, u32::MAX] {
@@ -62,9 +62,10 @@ pub fn records(runs: &mut Runs) {
 }
 
 /// One call of each kind that is made on `small`, with the words of its record.
-fn good_calls() -> [(Call, usize); 5] {
+fn good_calls() -> [(Call, usize); 6] {
     [
-        (Call::Mark { place: 46, deleted: true }, 6),
+        (Call::Mark { place: 46, deleted: true }, 7),
+        (Call::Mark { place: 0, deleted: true }, 7),
         (Call::Rename { place: 0, text: b"00417".to_vec() }, 8),
         (Call::Insert { header: Some(0), place: 56, piece: raw(9, true) }, 6),
         (Call::Insert { header: None, place: 59, piece: raw(9, false) }, 6),

@@ -72,12 +72,19 @@ impl Book {
 fn apply(words: &mut Vec<u16>, edit: &Call) -> Option<()> {
     match edit {
         Call::Mark { place, deleted } => {
-            let word = words.get_mut(index(*place)?)?;
-            *word = if *deleted {
-                *word | 0x8000
-            } else {
-                *word & 0x7FFF
-            };
+            // Each element of the extent begins where the one before it ends.
+            let mut next = index(*place)?;
+            let end = next.checked_add(span(words, next)?)?;
+            while next < end {
+                let size = usize::from(*words.get(next.checked_add(1)?)?) + 2;
+                let word = words.get_mut(next)?;
+                *word = if *deleted {
+                    *word | 0x8000
+                } else {
+                    *word & 0x7FFF
+                };
+                next += size;
+            }
         }
         Call::Rename { place, text } => {
             let cell = index(*place)?;

@@ -1,12 +1,13 @@
 //! The four edits. Each gives the new used lengths of file and journal, in
 //! bytes. A refusal changes no byte.
 
+use crate::flags;
 use crate::layout::{self, LIMIT};
 use crate::names::pack;
 use crate::record;
 use crate::refusal::{self, plain, Refusal};
 use crate::session::{open, SeekElement, SeekGap, Standing};
-use crate::words::{put, word};
+use crate::words::{count, put};
 
 /// The named element of an open session.
 fn named(
@@ -31,7 +32,7 @@ fn journal_room(journal: &[u8], jused: u64, payload: u64) -> Result<(), Refusal>
     }
 }
 
-/// Marks the named element deleted, or live.
+/// Marks the named element and all of its extent deleted, or live.
 pub fn mark(
     file: &mut [u8],
     used: u64,
@@ -43,15 +44,17 @@ pub fn mark(
 ) -> Result<(u64, u64), Refusal> {
     let standing = named(file, used, journal, jused, dim, place)?;
     let place = standing.element.place;
-    let first = word(file, place);
-    if (first >> 15 == 1) == deleted {
+    if flags::is_deleted(file, place) == deleted {
         return plain(refusal::ALREADY);
     }
-    journal_room(journal, jused, 0)?;
-    put(file, place, first ^ 1 << 15);
+    let earlier = flags::kept(file, &standing.extent);
+    journal_room(journal, jused, count(&earlier))?;
+    for &each in &standing.extent {
+        flags::set(file, each, deleted);
+    }
     Ok((
         used,
-        record::append(journal, jused, record::FLAG, None, place, &[]),
+        record::append(journal, jused, record::FLAG, None, place, &earlier),
     ))
 }
 

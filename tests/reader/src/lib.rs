@@ -10,6 +10,7 @@ pub mod calls;
 pub mod celllist;
 pub mod edits;
 pub mod find;
+mod flags;
 pub mod generate;
 pub mod judge;
 pub mod layout;

@@ -100,7 +100,8 @@ fn last(journal: &[u8], jused: u64) -> Option<Record> {
         Some(u64::from(header))
     };
     let good = match kind {
-        FLAG => payload == 0 && header.is_none(),
+        // A bit for the element itself at least.
+        FLAG => payload >= 1 && header.is_none(),
         RENAME => payload == 2 && header.is_none(),
         INSERT => payload == 0,
         REMOVE => true,

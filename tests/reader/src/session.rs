@@ -57,10 +57,12 @@ impl Trail {
     }
 }
 
-/// An element and the headers above it, outermost first.
+/// An element, the headers above it, outermost first, and the places of all
+/// elements of its extent in file order, itself first.
 pub(crate) struct Standing {
     pub element: Seen,
     pub headers: Vec<u64>,
+    pub extent: Vec<u64>,
 }
 
 /// Looks for the element that starts at a place.
@@ -85,7 +87,13 @@ impl SeekElement {
             self.found = Some(Standing {
                 element: seen.clone(),
                 headers: above.to_vec(),
+                extent: Vec::new(),
             });
+        }
+        if let Some(found) = &mut self.found {
+            if seen.place < found.element.end {
+                found.extent.push(seen.place);
+            }
         }
     }
 
@@ -111,7 +119,8 @@ pub(crate) struct SeekGap {
     header: Option<u64>,
     place: u64,
     trail: Trail,
-    named: Option<Standing>,
+    /// The named header and those above it.
+    named: Option<(Seen, Vec<u64>)>,
     starts: bool,
 }
 
@@ -129,10 +138,7 @@ impl SeekGap {
     pub fn see(&mut self, seen: &Seen) {
         let above = self.trail.pass(seen);
         if Some(seen.place) == self.header && layout::is_header(seen.kind) {
-            self.named = Some(Standing {
-                element: seen.clone(),
-                headers: above.to_vec(),
-            });
+            self.named = Some((seen.clone(), above.to_vec()));
         }
         if seen.place == self.place && seen.header == self.header {
             self.starts = true;
@@ -143,9 +149,9 @@ impl SeekGap {
     pub fn found(self, marker: u64) -> Result<Gap, Refusal> {
         let (list_end, headers, above) = match (self.header, self.named) {
             (None, _) => (marker, Vec::new(), None),
-            (Some(place), Some(mut named)) => {
-                named.headers.push(place);
-                (named.element.end, named.headers, Some(named.element.kind))
+            (Some(place), Some((named, mut headers))) => {
+                headers.push(place);
+                (named.end, headers, Some(named.kind))
             }
             (Some(_), None) => return plain(refusal::NO_SUCH),
         };

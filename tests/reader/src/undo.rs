@@ -1,5 +1,6 @@
 //! Undo: takes off the last record and reverses it. The journal's bytes stay.
 
+use crate::flags;
 use crate::judge::judge_seeing;
 use crate::layout;
 use crate::names::unpack;
@@ -20,7 +21,7 @@ pub fn undo(
     open(file, used, journal, jused, dim, |_| {})?;
     let record = last_record(journal, jused)?;
     let used = match record.kind {
-        record::FLAG => unmark(file, used, dim, &record)?,
+        record::FLAG => unmark(file, used, dim, &record, journal)?,
         record::RENAME => rename_back(file, used, dim, &record, journal)?,
         record::INSERT => take_out(file, used, dim, &record)?,
         _ => put_back(file, used, dim, &record, journal)?,
@@ -35,11 +36,25 @@ fn recorded(file: &[u8], used: u64, dim: u64, record: &Record) -> Result<Standin
     seek.found().or_else(|_| plain(refusal::BAD_JOURNAL))
 }
 
-/// The opposite of a mark turns the bit over, whichever way it stands.
-fn unmark(file: &mut [u8], used: u64, dim: u64, record: &Record) -> Result<u64, Refusal> {
-    let place = recorded(file, used, dim, record)?.element.place;
-    let first = word(file, place);
-    put(file, place, first ^ 1 << 15);
+/// The opposite of a mark writes the earlier bits back, whatever stands there
+/// now: one for each element of the extent.
+fn unmark(
+    file: &mut [u8],
+    used: u64,
+    dim: u64,
+    record: &Record,
+    journal: &[u8],
+) -> Result<u64, Refusal> {
+    let extent = recorded(file, used, dim, record)?.extent;
+    let from = record.start as usize * 2;
+    let payload = &journal[from..from + record.payload as usize * 2];
+    let earlier = match flags::read(payload, extent.len()) {
+        Some(earlier) => earlier,
+        None => return plain(refusal::BAD_JOURNAL),
+    };
+    for (&each, deleted) in extent.iter().zip(earlier) {
+        flags::set(file, each, deleted);
+    }
     Ok(used)
 }
 

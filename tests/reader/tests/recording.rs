@@ -46,22 +46,20 @@ fn the_record_of_each_edit() {
     };
     let remove = Call::Remove { place: 46 };
     let examples = [
-        (mark, 1, None, 46, vec![]),
+        (mark, 1, None, 46, vec![0]),
         (rename, 2, None, 0, vec![49234, 51080]),
         (under, 3, Some(0), 72, vec![]),
         (top, 3, None, 72, vec![]),
         (remove, 4, Some(0), 46, line(true)),
     ];
     for (edit, kind, header, place, payload) in examples {
-        // The second record of the journal, a mark before it.
+        // The second record of the journal, a rename before it.
         let mut state = start();
-        for call in [
-            &Call::Mark {
-                place: 0,
-                deleted: true,
-            },
-            &edit,
-        ] {
+        let same = Call::Rename {
+            place: 0,
+            text: b"00417".to_vec(),
+        };
+        for call in [&same, &edit] {
             assert_eq!(state.run(call), Ok(()));
         }
         let record = last_record(&state.journal, state.jused).unwrap();
@@ -69,13 +67,13 @@ fn the_record_of_each_edit() {
             kind,
             header,
             place,
-            start: 6,
+            start: 8,
             payload: payload.len() as u64,
         };
         assert_eq!(record, wanted, "{edit:?}");
-        assert_eq!(record.used_before(), 12);
+        assert_eq!(record.used_before(), 16);
         let words = words_of(&state.journal[..state.jused as usize]);
-        assert_eq!(words[6..6 + payload.len()], payload);
+        assert_eq!(words[8..8 + payload.len()], payload);
     }
 }
 
@@ -111,15 +109,16 @@ fn ill_formed() {
         bad(&record(kind, TOP, 0, &[]));
     }
     for header in [0, 46, 1 << 31, TOP - 1] {
-        bad(&record(1, header, 0, &[]));
+        bad(&record(1, header, 0, &[1]));
         bad(&record(2, header, 0, &[1600, 0]));
     }
     for payload in [&[7][..], &[1600, 0, 0]] {
-        for kind in 1..4 {
+        for kind in 2..4 {
             bad(&record(kind, TOP, 0, payload));
         }
     }
-    bad(&record(1, TOP, 0, &[7, 7]));
+    // A flag record of the old form.
+    bad(&record(1, TOP, 0, &[]));
     bad(&record(2, TOP, 0, &[]));
     bad(&record(3, TOP, 0, &[7, 7]));
     // More payload than the journal has.
@@ -134,12 +133,13 @@ fn ill_formed() {
     bad(&longest);
 }
 
-// What depends on the file is left to undo: a place that starts nothing, an
-// old name that is none, a payload that is no extent.
+// What depends on the file is left to undo: a place that starts nothing, bits
+// for another extent, an old name that is none, a payload that is no extent.
 #[test]
 fn no_file_is_asked() {
     for (kind, header, payload) in [
-        (1, TOP, &[][..]),
+        (1, TOP, &[0][..]),
+        (1, TOP, &[65535; 40]),
         (2, TOP, &[64000, 64000]),
         (3, TOP - 1, &[]),
         (3, 1, &[]),

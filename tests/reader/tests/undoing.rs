@@ -111,10 +111,10 @@ fn ill_formed_records() {
         bad(&record(kind, TOP, 0, &[]));
     }
     for header in [0, 46, 1 << 31, TOP - 1] {
-        bad(&record(1, header, 0, &[]));
+        bad(&record(1, header, 66, &[0]));
         bad(&record(2, header, 0, &[1600, 0]));
     }
-    bad(&record(1, TOP, 0, &[7]));
+    bad(&record(1, TOP, 66, &[]));
     bad(&record(3, TOP, 0, &[7]));
     for payload in [&[][..], &[1600], &[1600, 0, 0]] {
         bad(&record(2, TOP, 0, payload));
@@ -141,10 +141,11 @@ fn reversals_not_allowed() {
         assert!(judge(state.used_file(), 2).is_ok());
         assert_eq!(state.jused, 0);
     };
-    // A flag: the bit is turned over, whichever way it stands.
-    good(&record(1, TOP, 66, &[]));
+    // A flag: the bit is written, whichever way it stands.
+    good(&record(1, TOP, 66, &[0]));
+    good(&record(1, TOP, 66, &[1]));
     for place in [1, 148, 149, 1 << 31, TOP] {
-        bad(&record(1, TOP, place, &[]));
+        bad(&record(1, TOP, place, &[0]));
         bad(&record(2, TOP, place, &[1600, 0]));
         bad(&record(3, TOP, place, &[]));
     }

@@ -130,7 +130,7 @@ fn total_too_large() {
 // "Marking twice: 14."
 #[test]
 fn marking_twice() {
-    let mut state = session(&file(&[line(false)]), 0, 24);
+    let mut state = session(&file(&[line(false)]), 0, 28);
     let marked = Call::Mark {
         place: 0,
         deleted: true,

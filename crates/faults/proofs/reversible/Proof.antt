@@ -7,12 +7,12 @@ use borrow.Author.Needs.{needs}
 use Rattle.faults.proofs.reversible.Statement.{statement}
 use Rattle.faults.proofs.reversible.Tie as tie
 
-is-at-requires : tie.Need-is-at-requires
-is-at-requires c κs = search needs
+flags-fit-requires : tie.Need-flags-fit-requires
+flags-fit-requires c κs = search needs
 
 returns : tie.Need-returns
 unfolding reversesAt
-returns c = rw (eq-eqb _ _ (c .before .if1 .taken)) (c .is-at .ensures)
+returns c = rw (eq-eqb _ _ (c .before .if1 .taken)) (c .flags-fit .ensures)
 
 word-requires : tie.Need-word-requires
 word-requires c κs = search needs
@@ -79,7 +79,7 @@ pub reversible-spec : {M : Type 1} → statement M
 reversible-spec =
     tie.close
     (tie.spec
-    is-at-requires
+    flags-fit-requires
     returns
     word-requires
     word-requires-2

@@ -9,7 +9,7 @@ use Rattle.undoing.proofs.Ways.{open-file}
 use Rattle.opening.proofs.OpenSession.{journal-most}
 use Rattle.opening.proofs.Steps.{answered}
 use Rattle.undoing.proofs.Ways.{undo-nothing}
-use Rattle.undoing.proofs.Reversals.{read-bad, read-flag, read-name, read-renamed, read-inserted, read-within, read-even, read-removed}
+use Rattle.undoing.proofs.Reversals.{read-bad, read-flags, read-flag, read-name, read-renamed, read-inserted, read-within, read-even, read-removed}
 use borrow.Author.Needs.{needs}
 use Rattle.undoing.proofs.undo_opened.Statement.{statement}
 use Rattle.undoing.proofs.undo_opened.Tie as tie
@@ -29,10 +29,48 @@ refused-requires-2 c κs = search needs
 enum-known-last : tie.Need-enum-known-last
 enum-known-last c = search needs
 
+mul-undo-flag : tie.Need-mul-undo-flag
+mul-undo-flag c =
+    let at-if1 = c .before .before .before .before in
+    let start = at-if1 .before .before .before in
+    omega (
+      arith,
+      read-flags _ _ _ _ _ (start .pre .0 .ready) (at-if1 .if1 .left) _ (start .pre .1 .1) _ _ _
+          (c .before .before .last .given .1),
+      journal-most (start .pre .0),
+    )
+
+add-undo-flag : tie.Need-add-undo-flag
+add-undo-flag c =
+    let at-if1 = c .before .before .before .before in
+    let start = at-if1 .before .before .before in
+    omega (
+      arith,
+      read-flags _ _ _ _ _ (start .pre .0 .ready) (at-if1 .if1 .left) _ (start .pre .1 .1) _ _ _
+          (c .before .before .last .given .1),
+      journal-most (start .pre .0),
+    )
+
+sub-undo-flag : tie.Need-sub-undo-flag
+sub-undo-flag c = search needs
+
+part-undo-flag-start : tie.Need-part-undo-flag-start
+part-undo-flag-start c = search needs
+
+part-undo-flag-end : tie.Need-part-undo-flag-end
+part-undo-flag-end c =
+    let at-if1 = c .before .before .before .before in
+    let start = at-if1 .before .before .before in
+    read-flags _ _ _ _ _ (start .pre .0 .ready) (at-if1 .if1 .left) _ (start .pre .1 .1) _ _ _
+    (c .before .before .last .given .1)
+
 undo-flag-requires : tie.Need-undo-flag-requires
 undo-flag-requires c κs =
-    let start = c .before .before .before .before .before .before .before in
-    (open-file (start .args .dim) (start .args .file .now) (start .args .used) (start .args .journal .now) (start .args .jused) _ _ _ (ap placeIn (c .before .before .last .given .1)) (start .pre .0), (start .pre .1 .0))
+    let at-last = c .before .before .before in
+    let start = at-last .before .before .before .before .before in (
+      open-file (start .args .dim) (start .args .file .now) (start .args .used) (start .args .journal .now) (start .args .jused) _ _ _ (ap placeIn (at-last .last .given .1)) (start .pre .0),
+      start .pre .1 .0,
+    )
 
 enum-known-last-2 : tie.Need-enum-known-last-2
 enum-known-last-2 c = search needs
@@ -113,11 +151,11 @@ same-length c = search needs
 
 returns-3 : tie.Need-returns-3
 returns-3 c =
-    let at-last = c .before .before .before .before .before in
+    let at-last = c .before .before .before .before .before .before in
     let at-if1 = at-last .before .before in
     let start = at-if1 .before .before .before in
-    read-flag _ _ _ _ _ (start .pre .0 .ready) (at-if1 .if1 .left) _ (start .pre .1 .1) _ _ (at-last .last .given .1) _
-    _ (c .before .before .undo-flag .ensures)
+    read-flag _ _ _ _ _ (start .pre .0 .ready) (at-if1 .if1 .left) _ (start .pre .1 .1) _ _ _
+    (at-last .last .given .1) _ _ (c .before .before .undo-flag .ensures)
 
 same-length-2 : tie.Need-same-length-2
 same-length-2 c = search needs
@@ -161,6 +199,11 @@ undo-opened-spec =
     enum-told
     refused-requires-2
     enum-known-last
+    mul-undo-flag
+    add-undo-flag
+    sub-undo-flag
+    part-undo-flag-start
+    part-undo-flag-end
     undo-flag-requires
     enum-known-last-2
     cast-undo-renamed

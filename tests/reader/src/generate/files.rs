@@ -53,6 +53,10 @@ pub fn nodes(random: &mut Random, dim: u64) -> Vec<Node> {
     while budget > 0 {
         nodes.push(elements::tree(random, dim, 0, None, &mut budget));
     }
+    // More elements in one extent than a word has bits.
+    if random.one_in(12) {
+        nodes.push(wide(random, dim));
+    }
     // A text in nearly every file, alone or with others under a node.
     if !random.one_in(8) {
         let kind = random.pick(&[17, 17, 7]);
@@ -62,6 +66,22 @@ pub fn nodes(random: &mut Random, dim: u64) -> Vec<Node> {
         nodes.insert(at, text);
     }
     nodes
+}
+
+/// A cell, alone or in another, of some tens of elements.
+fn wide(random: &mut Random, dim: u64) -> Node {
+    let inner = random.one_in(2);
+    let mut cell = Node::new(elements::single(random, dim, 2, inner));
+    let number = random.pick(&[14, 15, 16, 17, 20, 30, 31, 32, 33, 40]);
+    for _ in 0..number {
+        let kind = random.pick(&[0, 5, 9, 66]);
+        cell.under
+            .push(Node::new(elements::raw(random, kind, true)));
+    }
+    if inner {
+        cell = elements::under(random, dim, 2, 0, cell);
+    }
+    cell
 }
 
 /// A nest down to depth 8, or nearly.

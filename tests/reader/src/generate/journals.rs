@@ -1,7 +1,7 @@
 //! Journals, well formed and damaged, for undo.
 
 use super::changes;
-use super::places::{self, scan};
+use super::places::{self, scan, Start};
 use super::random::Random;
 use super::sessions;
 use super::texts;
@@ -105,6 +105,7 @@ fn made_up(random: &mut Random, state: &State) -> Vec<u16> {
         _ => 1 + random.below(4) as u16,
     };
     let payload = match kind {
+        1 => old_flags(random, &starts, u64::from(place)),
         2 => old_name(random),
         3 => {
             // Mostly the true header of what stands at the place.
@@ -133,7 +134,7 @@ fn made_up(random: &mut Random, state: &State) -> Vec<u16> {
         _ => Vec::new(),
     };
     let mut all = if random.one_in(3) {
-        record(1, u32::MAX, 0, &[])
+        record(1, u32::MAX, 0, &[1])
     } else {
         Vec::new()
     };
@@ -144,6 +145,32 @@ fn made_up(random: &mut Random, state: &State) -> Vec<u16> {
         all[last] = all[last].wrapping_add(random.pick(&[1, 100, 65535]));
     }
     all
+}
+
+/// The payload of a mark: a bit for each element of the extent at a place, or
+/// nearly so.
+fn old_flags(random: &mut Random, starts: &[Start], place: u64) -> Vec<u16> {
+    let end = starts
+        .iter()
+        .find(|start| start.place == place)
+        .map_or(place + 1, |start| start.end);
+    let within = |start: &&Start| (place..end).contains(&start.place);
+    let bits = starts.iter().filter(within).count().max(1);
+    let mut payload = random.words(bits.div_ceil(16));
+    if bits % 16 != 0 && !random.one_in(5) {
+        // Spare bits are zero.
+        let last = payload.len() - 1;
+        payload[last] &= (1 << (bits % 16)) - 1;
+    }
+    match random.below(10) {
+        0 => payload.push(0),
+        1 => payload.insert(0, 0),
+        2 => {
+            payload.pop();
+        }
+        _ => {}
+    }
+    payload
 }
 
 /// The payload of a rename: two name words, or nearly so.

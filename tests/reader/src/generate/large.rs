@@ -31,6 +31,22 @@ pub fn cell_of(extent: usize) -> Node {
     Node::with(own, under)
 }
 
+/// A library cell of that many raw elements of two words, every third of them
+/// deleted. With 32,750 its extent has 65,535 words: none has more elements.
+pub fn cell_of_many(number: usize) -> Node {
+    let mut own = vec![0; 35];
+    own[0] = 1 << 8;
+    own[1] = 33;
+    let under = (0..number)
+        .map(|k| {
+            let mut raw = raw_of(2, true);
+            raw[0] |= u16::from(k % 3 == 0) << 15;
+            Node::new(raw)
+        })
+        .collect();
+    Node::with(own, under)
+}
+
 /// A 2D cell with an extent of 65,535 words.
 pub fn largest_extent() -> Valid {
     finish(&[cell_of(65_535)], 2, &[])

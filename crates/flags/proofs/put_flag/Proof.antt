@@ -1,9 +1,9 @@
 -- The word that is read, with its flag set or clear, is stored in its place (`flag-put`).
 use mathlib.Core.Bool.{true, false}
 use borrow.Author.Needs.{needs}
-use Rattle.changes.proofs.Steps.{flag-put}
-use Rattle.changes.proofs.mark_element.Statement.{statement}
-use Rattle.changes.proofs.mark_element.Tie as tie
+use Rattle.flags.proofs.Stores.{flag-put}
+use Rattle.flags.proofs.put_flag.Statement.{statement}
+use Rattle.flags.proofs.put_flag.Tie as tie
 
 word-requires : tie.Need-word-requires
 word-requires c κs = search needs
@@ -39,8 +39,8 @@ returns-2 c =
     let put = c .before .before in
     flag-put false _ _ _ _ _ (put .before .before .if1 .left) (put .before .before .before .word .ensures .is) (put .put-word2 .ensures)
 
-pub mark-element-spec : {M : Type 1} → statement M
-mark-element-spec =
+pub put-flag-spec : {M : Type 1} → statement M
+put-flag-spec =
     tie.close
     (tie.spec
     word-requires
