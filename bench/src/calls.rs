@@ -36,6 +36,8 @@ extern "C" {
     fn hop_totals(file: *const u8) -> usize;
     fn hop_extent(file: *const u8, at: usize, end: usize) -> usize;
     fn move_bytes(file: *mut u8, from: usize, to: usize, n: usize);
+    fn gdal_found() -> i32;
+    fn gdal_texts(file: *mut u8, len: usize) -> usize;
 }
 
 /// An answer, or the refusal that the returned number says.
@@ -145,6 +147,16 @@ pub fn by_totals(file: &[u8]) -> u64 {
 pub fn in_extent(file: &[u8], at: usize, end: usize) -> usize {
     assert!(2 * end <= file.len());
     unsafe { hop_extent(file.as_ptr(), at, end) }
+}
+
+/// Whether GDAL's shared library is installed; only then its reader may be called.
+pub fn has_gdal() -> bool {
+    unsafe { gdal_found() != 0 }
+}
+
+/// The number of texts that GDAL's reader finds.
+pub fn texts_by_gdal(file: &mut [u8]) -> usize {
+    unsafe { gdal_texts(file.as_mut_ptr(), file.len()) }
 }
 
 /// One call of a session, which takes over the new used lengths. Renames are not measured.

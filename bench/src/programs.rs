@@ -6,6 +6,7 @@ use crate::inputs::{make, make_after, Kind, KIB, KINDS};
 use crate::tables::{heading, row};
 use crate::timing::{measure, Measured};
 use crate::ROOT;
+use dgn::raw;
 use reader::words::{bytes_of, words_of};
 use std::fs::File;
 use std::process::{Command, Stdio};
@@ -100,6 +101,32 @@ pub fn beside_gdal(folder: &str, rounds: usize) {
     beside(folder, rounds, front, Kind::Lines, "celllist", "judge", judged);
     let read = |file: &[u8]| assert!(calls::texts(file, 2, 0, &mut numbers).is_ok());
     beside(folder, rounds, front, Kind::Texts, "textlist", "all texts", read);
+    texts_in_memory(front, 10 * rounds);
+}
+
+/// All texts of a file in memory, by `dgn_texts` and by GDAL's own reader, which has no judging to do.
+fn texts_in_memory(front: &[u16], rounds: usize) {
+    if !calls::has_gdal() {
+        println!("\nGDAL's shared library is not found: no figures beside its reader.");
+        return;
+    }
+    let input = make_after(front, Kind::Texts, 1024 * KIB, 1);
+    let mut numbers = vec![0; 18 * 17_476];
+    let (_, read) = calls::texts(&input.file, 2, 0, &mut numbers).expect("all texts");
+    let texts = read / raw::TEXTS_NUMBERS;
+    let mut lent = input.file.clone();
+    assert!(calls::texts_by_gdal(&mut lent) == texts, "the texts that GDAL's reader finds");
+    let (file, numbers) = (&input.file, &mut numbers);
+    let times = measure(
+        &mut [
+            Box::new(|| assert!(calls::texts(file, 2, 0, numbers).is_ok())),
+            Box::new(|| assert!(calls::texts_by_gdal(&mut lent) == texts)),
+        ],
+        rounds,
+    );
+    heading(&["all texts in memory, 1 MiB", "texts", "µs", "µs of GDAL's reader", "to it"]);
+    let cell = |who: usize| format!("{:.0}", times.time(who) * 1e6);
+    row(&["`dgn_texts`".to_string(), texts.to_string(), cell(0), cell(1), times.ratio(0, 1).to_string()]);
 }
 
 /// A table of one kind of element: ogrinfo, a program of the repository and a call of the library.
