@@ -1,6 +1,6 @@
 -- Each case of the answer: refused at once, no room for the first text, done.
 use Prim.Native.Nat.{ℕ, _-_, _/_, _≤_, _<_}
-use mathlib.Core.Path.{_≡_, ap, subst}
+use mathlib.Core.Path.{_≡_, ap, subst, _∙_}
 use mathlib.Core.Bool.{true, false}
 use mathlib.Core.List.{List}
 use lib.IntN.{ℤ}
@@ -34,10 +34,11 @@ module _ (dim : ℕ) (s : List ℕ) (k : ℕ) (numbers : List ℤ) (out : List �
     unfolding textsReply
     texts-full f = let g = taken-full dim s part (length (part .given) / 18) numbers out e on t r put-part f in record { replied = g .0; given = g .1 }
 
-    pub texts-done : false ≡ noneFits (r .used) (r .next) e → TextsGiven dim s k numbers out 0 t (set (set out 0 (r .next)) 1 (r .used / 18))
+    pub texts-done : false ≡ noneFits (r .used) (r .next) e → (n : ℕ) → n ≡ r .used / 18 →
+        TextsGiven dim s k numbers out 0 t (set (set out 0 (r .next)) 1 n)
     unfolding textsReply
-    texts-done f =
-        let g = taken-done dim s part (length (part .given) / 18) numbers out e on t r put-part f (r .used / 18) (ap (λ n. n / 18) (put-part .used)) in
+    texts-done f n q =
+        let g = taken-done dim s part (length (part .given) / 18) numbers out e on t r put-part f n (q ∙ ap (λ m. m / 18) (put-part .used)) in
         record { replied = g .0; given = g .1 }
 
 -- what is handed on: the file is small, and each element is in it

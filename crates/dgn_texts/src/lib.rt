@@ -1,7 +1,7 @@
 // The C interface of the texts of a whole file, as in include/dgn.h: the file is judged once, and then one walk goes over its
 // elements. Definitions: specs/Texts, specs/Answers.
 ghost use mathlib.Core.Path.{_≡_};
-ghost use Prim.Native.Nat.{ℕ, _+_, _-_, _≤_, _<_};
+ghost use Prim.Native.Nat.{ℕ, _+_, _-_, _/_, _≤_, _<_};
 ghost use lib.ListN.{length};
 ghost use lib.Seq.{sets};
 ghost use Rattle.words.specs.Words.{words};
@@ -109,6 +109,14 @@ fn put_texts(file: &[u8], dim: usize, elements: usize, k: usize, numbers: &mut [
     Part { next: i, used }
 }
 
+// How many texts so many numbers are of.
+fn entries(used: usize) -> usize
+    ensures { λ r. ⌜ r ≡ used / 18 ⌝ }
+{
+    let sixth = thirds::third(used / 2);
+    thirds::third(sixth)
+}
+
 #[no_mangle]
 pub extern "C" fn dgn_texts(
     file: &[u8],
@@ -128,8 +136,9 @@ pub extern "C" fn dgn_texts(
             if order::none_fits(used, next, elements) {
                 return 15;
             }
+            let texts = entries(used);
             out[0] = next;
-            out[1] = used / 18;
+            out[1] = texts;
             0
         }
     }

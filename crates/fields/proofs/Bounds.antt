@@ -1,6 +1,6 @@
 -- What the tests of a call say of its numbers, and back: each field's bound, and how many words the fixed part has.
-use Prim.Native.Nat.{ℕ, _+_, _*_, _/_, _%_, _≤_}
-use mathlib.Core.Path.{_≡_, refl}
+use Prim.Native.Nat.{ℕ, _+_, _-_, _*_, _/_, _%_, _≤_}
+use mathlib.Core.Path.{_≡_, refl, subst⁻¹}
 use mathlib.Core.Bool.{Bool, true, false, cond, _&&_, and-eq-true-iff}
 use mathlib.Core.List.{List, [], _∷_}
 use native.Mathlib.Omega.{arith}
@@ -118,9 +118,15 @@ called-ok {dim} {f} {points} {tail} c =
 pub by-kinds : (P : ℕ → Type 0) (kind : ℕ) → isWritten kind ≡ true → P 3 → P 4 → P 6 → P 11 → P kind
 by-kinds P kind k p q r s = each-named P (3 ∷ 4 ∷ 6 ∷ 11 ∷ []) kind (p, (q, (r, (s, tt)))) k
 
--- a dimension is above 0
-pub dim-some : {dim : ℕ} {f : Fields} {points tail : ℕ} → Called dim f points tail → 2 ≤ dim
-dim-some {dim} c = by-dims (λ d. 2 ≤ d) dim (c .dims) (omega arith) (omega arith)
+-- the number of points, for a dimension
+pub counted : (dim n : ℕ) {r : ℕ} → dimOk dim ≡ true → r ≡ cond (dimOk dim) (n / dim) 0 → r ≡ n / dim
+counted dim n d e = rw d at e
+
+-- their coordinates, and what is left of all
+pub counted-left : (dim n : ℕ) {r : ℕ} → dimOk dim ≡ true → r ≡ cond (dimOk dim) (n / dim) 0 → (dim * r ≤ n) × (n - dim * r ≡ n % dim)
+counted-left dim n d e =
+    subst⁻¹ (λ m. (dim * m ≤ n) × (n - dim * m ≡ n % dim)) (counted dim n d e)
+    (by-dims (λ m. (m * (n / m) ≤ n) × (n - m * (n / m) ≡ n % m)) dim d (omega arith, omega arith) (omega arith, omega arith))
 
 length-count : (kind n : ℕ) → length (countWords kind n) ≤ 1
 length-count kind n = go (isPointed kind)

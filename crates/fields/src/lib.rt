@@ -1,9 +1,11 @@
 // The header fields of an element of type 3, 4, 6 or 11, and the checks of what is handed to the writer, in their
 // order. The definitions are in specs/: Words (an element's words), Faults (the checks).
 ghost use mathlib.Core.Path.{_≡_};
-ghost use mathlib.Core.Bool.{true};
+ghost use Prim.Native.Nat.{_/_};
+ghost use mathlib.Core.Bool.{true, cond};
 ghost use lib.ListN.{length};
 ghost use Rattle.limits.specs.Limits.{dimOk};
+ghost use Rattle.kinds.specs.Kinds.{fixedPart};
 ghost use Rattle.elements.specs.Attributes.{linkagesOk};
 ghost use Rattle.fields.specs.Words.{rangeLongs, pointsIn, sizeOf, elementWords};
 ghost use Rattle.fields.specs.Faults.{eachAtMost, isWritten, wordsOk, symbologyOk, fieldsOk, pointsFit, argumentsOk, pointNumberOk, tailOk, writeFault};
@@ -112,6 +114,19 @@ pub fn fields_ok(fields: Fields) -> bool
     symbology_ok(fields)
 }
 
+// How many points so many coordinates are; 0 for what is no dimension.
+pub fn point_count(dim: usize, n: usize) -> usize
+    ensures { λ r. ⌜ r ≡ cond (dimOk dim) (n / dim) 0 ⌝ }
+{
+    if dim == 2 {
+        return n / 2;
+    }
+    if dim == 3 {
+        return thirds::third(n);
+    }
+    0
+}
+
 // 1: the number of coordinates.
 fn points_fit(dim: usize, kind: usize, n: usize) -> bool
     requires { ⌜ dimOk dim ≡ true ⌝ }
@@ -120,7 +135,8 @@ fn points_fit(dim: usize, kind: usize, n: usize) -> bool
     if kind == 3 {
         return n == 2 * dim;
     }
-    n % dim == 0
+    let count = point_count(dim, n);
+    n - dim * count == 0
 }
 
 // 1: everything that is handed in, by its numbers.
@@ -142,17 +158,29 @@ fn arguments_ok(dim: usize, fields: Fields, points: usize, tail: usize) -> bool
     tail % 2 == 0
 }
 
-// 7: N.
-fn point_number_ok(kind: usize, n: usize) -> bool
-    ensures { λ r. ⌜ r ≡ pointNumberOk kind n ⌝ }
+// 7: N, of so many coordinates.
+fn point_number_ok(dim: usize, kind: usize, points: usize) -> bool
+    requires { ⌜ dimOk dim ≡ true ⌝ }
+    ensures { λ r. ⌜ r ≡ pointNumberOk kind (points / dim) ⌝ }
 {
     if !kinds::is_pointed(kind) {
         return true;
     }
+    let n = point_count(dim, points);
     if n < 2 {
         return false;
     }
     n <= 101
+}
+
+// The size of the fixed part, in words, with so many coordinates.
+fn fixed_words(dim: usize, kind: usize, points: usize) -> usize
+    requires { ⌜ (dimOk dim ≡ true) × ((isWritten kind ≡ true) × (pointsFit dim kind points ≡ true)) ⌝ }
+    requires { ⌜ pointNumberOk kind (points / dim) ≡ true ⌝ }
+    ensures { λ r. ⌜ r ≡ fixedPart dim kind (points / dim) ⌝ }
+{
+    let n = point_count(dim, points);
+    kinds::fixed_part(dim, kind, n as u16)
 }
 
 // The size, in words.
@@ -161,8 +189,7 @@ fn size_of(dim: usize, fields: Fields, points: &[i32], tail: &[u8]) -> usize
     requires { ⌜ pointNumberOk (fields .kind) (pointsIn dim (now points)) ≡ true ⌝ }
     ensures { λ r. ⌜ r ≡ sizeOf dim fields (now (points .entry)) (now (tail .entry)) ⌝ }
 {
-    let n = points.len() / dim;
-    kinds::fixed_part(dim, fields.kind, n as u16) + tail.len() / 2
+    fixed_words(dim, fields.kind, points.len()) + tail.len() / 2
 }
 
 // 11: the attribute part of a tail whose first word has the attribute index `first`, where A is set. It begins not before the
@@ -189,12 +216,8 @@ fn linkages_ok(dim: usize, fields: Fields, points: &[i32], tail: &[u8]) -> bool
     requires { ⌜ pointNumberOk (fields .kind) (pointsIn dim (now points)) ≡ true ⌝ }
     ensures { λ r. ⌜ r ≡ linkagesOk dim (elementWords dim fields (now (points .entry)) (now (tail .entry))) 0 ⌝ }
 {
-    let n = points.len() / dim;
-    tail_ok(
-        fields,
-        kinds::fixed_part(dim, fields.kind, n as u16) - 16,
-        tail,
-    )
+    let first = fixed_words(dim, fields.kind, points.len()) - 16;
+    tail_ok(fields, first, tail)
 }
 
 // The number of the first fault, 0 where there is none, with a buffer of `room` bytes.
@@ -204,7 +227,7 @@ pub fn write_fault(dim: usize, fields: Fields, points: &[i32], tail: &[u8], room
     if !arguments_ok(dim, fields, points.len(), tail.len()) {
         return 1;
     }
-    if !point_number_ok(fields.kind, points.len() / dim) {
+    if !point_number_ok(dim, fields.kind, points.len()) {
         return 7;
     }
     let size = size_of(dim, fields, points, tail);

@@ -1,5 +1,5 @@
 -- The words of a stored name: the codes of a word are those that it was made of.
-use Prim.Native.Nat.{ℕ, _<_, _≤_, _/_, _%_}
+use Prim.Native.Nat.{ℕ, _*_, _-_, _<_, _≤_, _/_, _%_}
 use mathlib.Core.Path.{_≡_, sym, ap, _∙_}
 use mathlib.Core.Bool.{Bool, true, not, _&&_, and-eq-true-iff}
 use mathlib.Core.List.{List, _∷_}
@@ -16,6 +16,13 @@ letters-word x y z hy hz =
     let q : wordOf x y z / 40 % 40 ≡ y = omega arith in
     let r : wordOf x y z % 40 ≡ z = omega arith in
     λ i. record { a = p i; b = q i; c = r i }
+
+-- the codes of a word: the first letter's, and the two of what is left after it
+pub letters-left : (w x y z : ℕ) → x ≡ w / 1600 → y ≡ (w - x * 1600) / 40 → z ≡ (w - x * 1600) % 40 → record { a = x; b = y; c = z } ≡ lettersOf w
+letters-left w x y z p q r =
+    let whole : wordOf x y z ≡ w = omega arith in
+    let left : w - x * 1600 < 1600 = omega arith in
+    sym (letters-word x y z (omega arith) (omega arith)) ∙ ap lettersOf whole
 
 -- a word of three letters' codes is part of a stored name
 pub word-ok : (x y z : ℕ) → IsCode x → IsCode y → IsCode z → wordOk (wordOf x y z) ≡ true

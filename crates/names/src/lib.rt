@@ -1,10 +1,13 @@
 // Radix-50 names: texts of at most six letters, and the two words that store them. The definitions are in specs/Names.
+mod pairs;
+
 ghost use mathlib.Core.Path.{_≡_};
-ghost use Prim.Native.Nat.{_≤_};
-ghost use mathlib.Core.Bool.{cond};
+ghost use Prim.Native.Nat.{_/_, _<_, _≤_};
+ghost use mathlib.Core.Bool.{true, cond};
 ghost use lib.Dec.{ltb};
 ghost use lib.ListN.{length};
-ghost use Rattle.names.specs.Names.{codeOf, letterOf, lettersOf, allLetters, endsInSpace, goodText, codeAt, wordFrom, packed, wordOk, nameOk, textIn, textAnswer, unpacked};
+ghost use Rattle.names.specs.Names.{codeOf, letterOf, lettersOf, allLetters, endsInSpace, goodText, codeAt, wordFrom, packed, wordOk, nameOk, textIn, textOf, textAnswer, unpacked};
+ghost use Rattle.names.specs.Pairs.{isTable};
 
 // What packing a text answers.
 pub enum Packed {
@@ -59,15 +62,56 @@ fn letter_of(code: usize) -> u8
     }
 }
 
-// The codes of a word. No other function takes a word apart.
+// An entry of the table as a number.
+fn wide(entry: u16) -> usize
+    ensures { λ r. ⌜ r ≡ entry ⌝ }
+{
+    entry as usize
+}
+
+// The code of the first letter of a word.
+fn first_code(word: usize) -> usize
+    requires { ⌜ word ≤ 63999 ⌝ }
+    ensures { λ r. ⌜ r ≡ word / 1600 ⌝ }
+{
+    word * 83887 / 134217728
+}
+
+// The code of the second letter of a word that is k after its first letter.
+fn second_code(k: usize) -> usize
+    requires { ⌜ k < 1600 ⌝ }
+    ensures { λ r. ⌜ r ≡ k / 40 ⌝ }
+{
+    k * 1639 / 65536
+}
+
+// The codes of a word, for judging it.
 fn letters(word: usize) -> Codes
     requires { ⌜ word ≤ 63999 ⌝ }
     ensures { λ r. ⌜ r ≡ lettersOf word ⌝ }
 {
+    let a = first_code(word);
+    let k = word - a * 1600;
+    let b = second_code(k);
     Codes {
-        a: word / 1600,
-        b: word / 40 % 40,
-        c: word % 40,
+        a,
+        b,
+        c: k - b * 40,
+    }
+}
+
+// The codes of a word, the last two by the table.
+fn letters_by(table: &[u16; 1600], word: usize) -> Codes
+    requires { ⌜ word ≤ 63999 ⌝ }
+    requires { ⌜ isTable (now table) ≡ true ⌝ }
+    ensures { λ r. ⌜ r ≡ lettersOf word ⌝ }
+{
+    let a = first_code(word);
+    let pair = wide(table[word - a * 1600]);
+    Codes {
+        a,
+        b: pair / 256,
+        c: pair % 256,
     }
 }
 
@@ -223,12 +267,24 @@ fn text_of(l: Codes, m: Codes) -> Unpacked
     Unpacked { answer, letters }
 }
 
+// The text of a stored name. No other function reads the table: each call copies it.
+fn name_text(first: usize, second: usize) -> Unpacked
+    requires { ⌜ first ≤ 63999 ⌝ }
+    requires { ⌜ second ≤ 63999 ⌝ }
+    ensures { λ r. ⌜ r ≡ textAnswer (textOf first second) ⌝ }
+{
+    let table = pairs::PAIRS;
+    let l = letters_by(&table, first);
+    let m = letters_by(&table, second);
+    text_of(l, m)
+}
+
 // The text of two words; 12 where they are no stored name.
 pub fn unpack(first: usize, second: usize) -> Unpacked
     ensures { λ r. ⌜ r ≡ unpacked first second ⌝ }
 {
     if name_ok(first, second) {
-        text_of(letters(first), letters(second))
+        name_text(first, second)
     } else {
         let answer = Answer::Refused {
             number: 12,

@@ -1,6 +1,8 @@
 // The numbers of a text (type 17), and the checks of what is handed to the writer of a text, in their order. The definitions
 // are in specs/: Words (a text's words), Faults (the checks).
 ghost use mathlib.Core.Path.{_≡_};
+ghost use Prim.Native.Nat.{_+_, _*_, _/_, _≤_};
+ghost use Rattle.texts.specs.Texts.{textPart};
 ghost use Rattle.fields.specs.Faults.{eachAtMost};
 ghost use Rattle.text_fields.specs.Faults.{byteNumbers, longNumbers, numbersOk, flatOk, listsOk, oddOk, textArgumentsOk, triplesOk, textFault};
 
@@ -99,7 +101,8 @@ fn lists_ok(characters: usize, triples: usize) -> bool
     if 255 < characters {
         return false;
     }
-    if triples % 3 != 0 {
+    let n = thirds::third(triples);
+    if triples - 3 * n != 0 {
         return false;
     }
     triples <= 765
@@ -154,7 +157,7 @@ fn arguments_ok(
 fn triples_ok(c: usize, triples: &[u8]) -> bool
     ensures { λ r. ⌜ r ≡ triplesOk c (now (triples .entry)) ⌝ }
 {
-    let n = triples.len() / 3;
+    let n = thirds::third(triples.len());
     let mut k = 0;
     while k < n {
         let at = 3 * k;
@@ -169,6 +172,15 @@ fn triples_ok(c: usize, triples: &[u8]) -> bool
         k += 1;
     }
     true
+}
+
+// The words before the tail.
+fn words_before_tail(dim: usize, characters: usize, triples: usize) -> usize
+    requires { ⌜ (characters ≤ 255) × (triples ≤ 765) ⌝ }
+    ensures { λ r. ⌜ r ≡ textPart dim (characters + 256 * (triples / 3)) ⌝ }
+{
+    let n = thirds::third(triples);
+    texts::text_part(dim, characters + 256 * n)
 }
 
 // The number of the first fault, 0 where there is none, with a buffer of `room` bytes. The attribute index counts from word 16.
@@ -196,7 +208,7 @@ pub fn text_fault(
     if !triples_ok(characters.len(), triples) {
         return 20;
     }
-    let part = texts::text_part(dim, characters.len() + 256 * (triples.len() / 3));
+    let part = words_before_tail(dim, characters.len(), triples.len());
     let size = part + tail.len() / 2;
     if 65535 < size {
         return 8;

@@ -89,7 +89,8 @@ fn put_text(
     ensures size { λ r. ⌜ r ≡ textSize dim (now (characters .entry)) (now (triples .entry)) (now (tail .entry)) ⌝ }
     ensures bytes { λ _. ⌜ now (out .exit) ≡ laid (now (out .entry)) 0 (textWords dim fields text (now (characters .entry)) (now (triples .entry)) (now (tail .entry))) ⌝ }
 {
-    let counts = characters.len() + 256 * (triples.len() / 3);
+    let n = thirds::third(triples.len());
+    let counts = characters.len() + 256 * n;
     let place = texts::counts_word(dim);
     let part = texts::text_part(dim, counts);
     let size = part + tail.len() / 2;

@@ -7,6 +7,7 @@ ghost use Prim.Native.Nat.{_+_, _*_, _/_, _<_, _≤_};
 ghost use lib.ListN.{length};
 ghost use Rattle.words.specs.Words.{unsigned};
 ghost use Rattle.kinds.specs.Kinds.{isPointed};
+ghost use Rattle.limits.specs.Limits.{dimOk};
 ghost use Rattle.fields.specs.Words.{longs, firstWord, rangeLongs, displayWords, headerWords, countWords, sizeOf, elementWords};
 ghost use Rattle.fields.specs.Faults.{fieldsOk, writeFault};
 ghost use Rattle.writer.specs.Writing.{laid, Writes, headerFits, headerLaid};
@@ -100,12 +101,14 @@ fn points_place(kind: usize) -> usize
     if kinds::is_pointed(kind) { 19 } else { 18 }
 }
 
-// Word 18 of the types with N.
-fn put_count(out: &mut [u8], kind: usize, n: usize)
-    requires { ⌜ (38 ≤ length (now out)) × (n < 65536) ⌝ }
-    ensures { λ _. ⌜ now (out .exit) ≡ laid (now (out .entry)) 18 (countWords kind n) ⌝ }
+// Word 18 of the types with N, with so many coordinates.
+fn put_count(out: &mut [u8], kind: usize, dim: usize, points: usize)
+    requires { ⌜ (38 ≤ length (now out)) × (points / dim < 65536) ⌝ }
+    requires { ⌜ dimOk dim ≡ true ⌝ }
+    ensures { λ _. ⌜ now (out .exit) ≡ laid (now (out .entry)) 18 (countWords kind (points / dim)) ⌝ }
 {
     if kinds::is_pointed(kind) {
+        let n = fields::point_count(dim, points);
         words::put_word(out, 18, n as u16);
     }
 }
@@ -138,7 +141,7 @@ fn put_element(
     let end = start + 2 * points.len();
     let size = end + tail.len() / 2;
     put_header_words(out, fields, size);
-    put_count(out, fields.kind, points.len() / dim);
+    put_count(out, fields.kind, dim, points.len());
     put_points(out, start, points);
     copies::copy_in(out, 2 * end, tail);
     size

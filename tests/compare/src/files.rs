@@ -149,12 +149,30 @@ pub fn limits(random: &mut Random, runs: &mut Runs) {
     }
 }
 
-/// Texts and word pairs: every word as either word of a name, every text of two bytes or fewer, and any others.
+/// Every word as either word of a name: unpacked beside nothing, three letters, itself and any other word, and judged in a
+/// cell whose other word is nothing.
+pub fn name_words(runs: &mut Runs) {
+    let cell = files::finish(&[large::cell_of(48)], 2, &[]).file;
+    let mut accepted = [0; 2];
+    for w in 0..=u16::MAX {
+        for other in [0, 51_080, w, w.rotate_left(7)] {
+            runs.unpack(w, other);
+            runs.unpack(other, w);
+        }
+        for (half, count) in accepted.iter_mut().enumerate() {
+            let mut file = cell.clone();
+            let at = 2 * (19 + half);
+            file[at..at + 2].copy_from_slice(&w.to_le_bytes());
+            *count += u32::from(runs.judge(&file, 2).is_ok());
+        }
+    }
+    // 39 letters at each of three places
+    assert_eq!(accepted, [39 * 39 * 39; 2]);
+}
+
+/// Texts and word pairs: every text of two bytes or fewer, and any others.
 pub fn names(random: &mut Random, runs: &mut Runs, times: u64) {
     for w in 0..=u16::MAX {
-        runs.unpack(w, 0);
-        runs.unpack(0, w);
-        runs.unpack(w, w.rotate_left(7));
         let [a, b] = w.to_le_bytes();
         runs.pack(&[a, b]);
         runs.pack(&[b'A', a, b]);

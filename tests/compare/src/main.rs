@@ -38,6 +38,7 @@ const STEPS: &[Step] = &[
     }),
     ("files cut at a page", |random, runs, _| damage::cut_at_a_page(random, runs, 100)),
     ("exact limits", |random, runs, _| files::limits(random, runs)),
+    ("every word as either word of a name", |_, runs, _| files::name_words(runs)),
     ("names", |random, runs, _| files::names(random, runs, 20_000)),
     ("limits of the writer", |random, runs, _| writes::limits(random, runs)),
     ("written elements", |random, runs, wanted| writes::calls(random, runs, wanted / 4)),

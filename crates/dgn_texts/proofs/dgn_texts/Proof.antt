@@ -39,14 +39,17 @@ returns c =
     texts-full _ _ _ _ _ _ (goes (at-put-texts .before .before .before)) _ _ (at-put-texts .put-texts .ensures)
     (sym (c .if1 .taken) ∙ (c .before .none-fits .ensures))
 
+entries-requires : tie.Need-entries-requires
+entries-requires c κs = search needs
+
 slice-write-out : tie.Need-slice-write-out
 slice-write-out c =
-    let at-put-texts = c .before .before .before in
+    let at-put-texts = c .before .before .before .before in
     omega (arith, goes (at-put-texts .before .before .before) .room)
 
 slice-write-out-2 : tie.Need-slice-write-out-2
 slice-write-out-2 c =
-    let at-put-texts = c .before .before .before in
+    let at-put-texts = c .before .before .before .before in
     simp length-set (omega (arith, goes (at-put-texts .before .before .before) .room))
 
 returns-2 : tie.Need-returns-2
@@ -60,9 +63,10 @@ same-length-3 c = search needs
 
 returns-3 : tie.Need-returns-3
 returns-3 c =
-    let at-put-texts = c .before .before .before in
+    let at-if1 = c .before in
+    let at-put-texts = at-if1 .before .before .before in
     texts-done _ _ _ _ _ _ (goes (at-put-texts .before .before .before)) _ _ (at-put-texts .put-texts .ensures)
-    (sym (c .if1 .left) ∙ (c .before .none-fits .ensures))
+    (sym (at-if1 .if1 .left) ∙ (at-if1 .before .none-fits .ensures)) _ (c .entries .ensures)
 
 pub dgn-texts-spec : {M : Type 1} → statement M
 dgn-texts-spec =
@@ -75,6 +79,7 @@ dgn-texts-spec =
     none-fits-requires
     same-length
     returns
+    entries-requires
     slice-write-out
     slice-write-out-2
     returns-2

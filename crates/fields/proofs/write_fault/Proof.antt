@@ -7,7 +7,7 @@ use borrow.Author.Tests.{le-leb, lt-leb}
 use Rattle.headers.specs.Checks.{Check}
 use Rattle.headers.proofs.Checks.{refused, accepted, pass, stop, tail, first}
 use Rattle.fields.specs.Faults.{writeChecks, writeFault}
-use Rattle.fields.proofs.Bounds.{called, dim-some}
+use Rattle.fields.proofs.Bounds.{called}
 use borrow.Author.Needs.{needs}
 use Rattle.fields.proofs.write_fault.Statement.{statement}
 use Rattle.fields.proofs.write_fault.Tie as tie
@@ -23,11 +23,8 @@ returns : tie.Need-returns
 unfolding writeFault
 returns c = first (of ((c .before .before .before))) (stop (refused ((c .before .arguments-ok .ensures)) ((c .if1 .taken))))
 
-div-point-number-ok : tie.Need-div-point-number-ok
-div-point-number-ok c = omega (arith, dim-some (called (accepted ((c .before .arguments-ok .ensures)) ((c .if1 .left)))))
-
 point-number-ok-requires : tie.Need-point-number-ok-requires
-point-number-ok-requires c κs = search needs
+point-number-ok-requires c κs = called (accepted (c .before .arguments-ok .ensures) (c .if1 .left)) .dims
 
 returns-2 : tie.Need-returns-2
 unfolding writeFault
@@ -118,7 +115,6 @@ write-fault-spec =
     (tie.spec
     arguments-ok-requires
     returns
-    div-point-number-ok
     point-number-ok-requires
     returns-2
     size-of-requires

@@ -39,23 +39,16 @@ returns-2 c =
     (pass (accepted (at-arguments-ok .arguments-ok .ensures) (c .before .before .if1 .left))
     (stop (refused (c .before .triples-ok .ensures) (c .if2 .taken))))
 
-mul-text-part : tie.Need-mul-text-part
-mul-text-part c =
-    let k = called (accepted (c .before .before .before .arguments-ok .ensures) (c .before .before .if1 .left)) in omega (arith, k .lists .short)
-
-add-text-part : tie.Need-add-text-part
-add-text-part c =
-    let k = called (accepted (c .before .before .before .arguments-ok .ensures) (c .before .before .if1 .left)) in omega (arith, k .lists .short, k .lists .few)
-
-text-part-requires : tie.Need-text-part-requires
-text-part-requires c κs = search needs
+words-before-tail-requires : tie.Need-words-before-tail-requires
+words-before-tail-requires c κs =
+    let k = called (accepted (c .before .before .before .arguments-ok .ensures) (c .before .before .if1 .left)) in (k .lists .few, k .lists .short)
 
 add-size : tie.Need-add-size
 add-size c =
     let at-if1 = c .before .before .before in
     let at-arguments-ok = at-if1 .before in
     let start = at-arguments-ok .before .before .before .before in
-    let b = part-bounds _ _ _ (start .args .characters .now) (start .args .triples .now) (start .args .tail .now) (called (accepted (at-arguments-ok .arguments-ok .ensures) (at-if1 .if1 .left))) in omega (arith, (c .text-part .ensures), b .1)
+    let b = part-bounds _ _ _ (start .args .characters .now) (start .args .triples .now) (start .args .tail .now) (called (accepted (at-arguments-ok .arguments-ok .ensures) (at-if1 .if1 .left))) in omega (arith, (c .words-before-tail .ensures), b .1)
 
 returns-3 : tie.Need-returns-3
 unfolding textFault textSize
@@ -67,14 +60,14 @@ returns-3 c =
     first (of start)
     (pass (accepted (at-arguments-ok .arguments-ok .ensures) (at-if1 .if1 .left))
     (pass (accepted (at-triples-ok .triples-ok .ensures) (c .before .before .if2 .left))
-    (stop (rw (c .before .text-part .ensures) at (lt-leb _ _ (c .if3 .taken))))))
+    (stop (rw (c .before .words-before-tail .ensures) at (lt-leb _ _ (c .if3 .taken))))))
 
 sub-tail-ok : tie.Need-sub-tail-ok
 sub-tail-ok c =
     let at-if1 = c .before .before .before .before in
     let at-arguments-ok = at-if1 .before in
     let start = at-arguments-ok .before .before .before .before in
-    let b = part-bounds _ _ _ (start .args .characters .now) (start .args .triples .now) (start .args .tail .now) (called (accepted (at-arguments-ok .arguments-ok .ensures) (at-if1 .if1 .left))) in omega (arith, (c .before .text-part .ensures), b .0)
+    let b = part-bounds _ _ _ (start .args .characters .now) (start .args .triples .now) (start .args .tail .now) (called (accepted (at-arguments-ok .arguments-ok .ensures) (at-if1 .if1 .left))) in omega (arith, (c .before .words-before-tail .ensures), b .0)
 
 tail-ok-requires : tie.Need-tail-ok-requires
 tail-ok-requires c κs = search needs
@@ -82,8 +75,8 @@ tail-ok-requires c κs = search needs
 returns-4 : tie.Need-returns-4
 unfolding textFault textSize
 returns-4 c =
-    let at-text-part = c .before .before .before in
-    let at-if2 = at-text-part .before in
+    let at-part = c .before .before .before in
+    let at-if2 = at-part .before in
     let at-triples-ok = at-if2 .before in
     let at-if1 = at-triples-ok .before in
     let at-arguments-ok = at-if1 .before in
@@ -91,8 +84,8 @@ returns-4 c =
     first (of start)
     (pass (accepted (at-arguments-ok .arguments-ok .ensures) (at-if1 .if1 .left))
     (pass (accepted (at-triples-ok .triples-ok .ensures) (at-if2 .if2 .left))
-    (pass (rw (at-text-part .text-part .ensures) at (le-leb _ _ (c .before .before .if3 .left)))
-    (stop (sym (text-linkages _ _ _ _ _ _ (called (accepted (at-arguments-ok .arguments-ok .ensures) (at-if1 .if1 .left)))) ∙ refused (rw (at-text-part .text-part .ensures) at (c .before .tail-ok .ensures)) (c .if4 .taken))))))
+    (pass (rw (at-part .words-before-tail .ensures) at (le-leb _ _ (c .before .before .if3 .left)))
+    (stop (sym (text-linkages _ _ _ _ _ _ (called (accepted (at-arguments-ok .arguments-ok .ensures) (at-if1 .if1 .left)))) ∙ refused (rw (at-part .words-before-tail .ensures) at (c .before .tail-ok .ensures)) (c .if4 .taken))))))
 
 mul-if5 : tie.Need-mul-if5
 mul-if5 c = search needs
@@ -101,8 +94,8 @@ returns-5 : tie.Need-returns-5
 unfolding textFault textSize
 returns-5 c =
     let at-if3 = c .before .before .before in
-    let at-text-part = at-if3 .before in
-    let at-if2 = at-text-part .before in
+    let at-part = at-if3 .before in
+    let at-if2 = at-part .before in
     let at-triples-ok = at-if2 .before in
     let at-if1 = at-triples-ok .before in
     let at-arguments-ok = at-if1 .before in
@@ -110,16 +103,16 @@ returns-5 c =
     first (of start)
     (pass (accepted (at-arguments-ok .arguments-ok .ensures) (at-if1 .if1 .left))
     (pass (accepted (at-triples-ok .triples-ok .ensures) (at-if2 .if2 .left))
-    (pass (rw (at-text-part .text-part .ensures) at (le-leb _ _ (at-if3 .if3 .left)))
-    (pass (sym (text-linkages _ _ _ _ _ _ (called (accepted (at-arguments-ok .arguments-ok .ensures) (at-if1 .if1 .left)))) ∙ accepted (rw (at-text-part .text-part .ensures) at (c .before .before .tail-ok .ensures)) (c .before .if4 .left))
-    (stop (rw (at-text-part .text-part .ensures) at (lt-leb _ _ (c .if5 .taken))))))))
+    (pass (rw (at-part .words-before-tail .ensures) at (le-leb _ _ (at-if3 .if3 .left)))
+    (pass (sym (text-linkages _ _ _ _ _ _ (called (accepted (at-arguments-ok .arguments-ok .ensures) (at-if1 .if1 .left)))) ∙ accepted (rw (at-part .words-before-tail .ensures) at (c .before .before .tail-ok .ensures)) (c .before .if4 .left))
+    (stop (rw (at-part .words-before-tail .ensures) at (lt-leb _ _ (c .if5 .taken))))))))
 
 returns-6 : tie.Need-returns-6
 unfolding textFault textSize
 returns-6 c =
     let at-if3 = c .before .before .before in
-    let at-text-part = at-if3 .before in
-    let at-if2 = at-text-part .before in
+    let at-part = at-if3 .before in
+    let at-if2 = at-part .before in
     let at-triples-ok = at-if2 .before in
     let at-if1 = at-triples-ok .before in
     let at-arguments-ok = at-if1 .before in
@@ -127,9 +120,9 @@ returns-6 c =
     first (of start)
     (pass (accepted (at-arguments-ok .arguments-ok .ensures) (at-if1 .if1 .left))
     (pass (accepted (at-triples-ok .triples-ok .ensures) (at-if2 .if2 .left))
-    (pass (rw (at-text-part .text-part .ensures) at (le-leb _ _ (at-if3 .if3 .left)))
-    (pass (sym (text-linkages _ _ _ _ _ _ (called (accepted (at-arguments-ok .arguments-ok .ensures) (at-if1 .if1 .left)))) ∙ accepted (rw (at-text-part .text-part .ensures) at (c .before .before .tail-ok .ensures)) (c .before .if4 .left))
-    (pass (rw (at-text-part .text-part .ensures) at (le-leb _ _ (c .if5 .left)))
+    (pass (rw (at-part .words-before-tail .ensures) at (le-leb _ _ (at-if3 .if3 .left)))
+    (pass (sym (text-linkages _ _ _ _ _ _ (called (accepted (at-arguments-ok .arguments-ok .ensures) (at-if1 .if1 .left)))) ∙ accepted (rw (at-part .words-before-tail .ensures) at (c .before .before .tail-ok .ensures)) (c .before .if4 .left))
+    (pass (rw (at-part .words-before-tail .ensures) at (le-leb _ _ (c .if5 .left)))
     (tail [] refl))))))
 
 pub text-fault-spec : {M : Type 1} → statement M
@@ -140,9 +133,7 @@ text-fault-spec =
     returns
     triples-ok-requires
     returns-2
-    mul-text-part
-    add-text-part
-    text-part-requires
+    words-before-tail-requires
     add-size
     returns-3
     sub-tail-ok

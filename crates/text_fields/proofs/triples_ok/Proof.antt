@@ -17,6 +17,9 @@ Inv-loop c triples n k₀ k = (k ≤ n) × (triplesOk c triples ≡ triplesOk c 
 abbrev μ-loop : tie.MeasureT-loop
 μ-loop c triples n k₀ k = n - k
 
+third-requires : tie.Need-third-requires Inv-loop μ-loop
+third-requires c κs = search needs
+
 loop-holds : tie.Need-loop-holds Inv-loop μ-loop
 loop-holds c = (omega arith, refl)
 
@@ -54,7 +57,7 @@ returns : tie.Need-returns Inv-loop μ-loop
 returns c =
     let at-loop-test = c .before .before .before .before .before in
     let at-loop = at-loop-test .before in
-    and-no _ (refused (c .before .field-ok .ensures) (c .if1 .taken)) ∙ sym ((at-loop .loop .inv .1) ∙ triple-next _ _ _ (at-loop-test .loop-test .taken))
+    and-no _ (refused (c .before .field-ok .ensures) (c .if1 .taken)) ∙ sym ((at-loop .loop .inv .1) ∙ triple-next _ _ _ (rw (at-loop .before .third .ensures) at (at-loop-test .loop-test .taken)))
 
 add-k : tie.Need-add-k Inv-loop μ-loop
 add-k c = search needs
@@ -66,10 +69,10 @@ loop-again : tie.Need-loop-again Inv-loop μ-loop
 loop-again c =
     let at-loop-test = c .before .before .before .before .before in
     let at-loop = at-loop-test .before in
-    (omega (arith, (at-loop-test .loop-test .taken)), (at-loop .loop .inv .1) ∙ triple-next _ _ _ (at-loop-test .loop-test .taken) ∙ sym (and-on (accepted (c .before .field-ok .ensures) (c .if1 .left)) refl))
+    (omega (arith, (at-loop-test .loop-test .taken)), (at-loop .loop .inv .1) ∙ triple-next _ _ _ (rw (at-loop .before .third .ensures) at (at-loop-test .loop-test .taken)) ∙ sym (and-on (accepted (c .before .field-ok .ensures) (c .if1 .left)) refl))
 
 returns-2 : tie.Need-returns-2 Inv-loop μ-loop
-returns-2 c = sym ((c .before .loop .inv .1) ∙ triples-end _ _ _ (c .loop-test .left))
+returns-2 c = sym ((c .before .loop .inv .1) ∙ triples-end _ _ _ (rw (c .before .before .third .ensures) at (c .loop-test .left)))
 
 pub triples-ok-spec : {M : Type 1} → statement M
 triples-ok-spec =
@@ -77,6 +80,7 @@ triples-ok-spec =
     (tie.spec
     Inv-loop
     μ-loop
+    third-requires
     loop-holds
     mul-at
     shared-slice-read-field-ok

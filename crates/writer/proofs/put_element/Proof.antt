@@ -8,7 +8,6 @@ use Rattle.words.specs.Words.{unsigned}
 use Rattle.words.proofs.Laws.{lent-below}
 use Rattle.copies.specs.Copies.{copied}
 use Rattle.fields.specs.Words.{longs, headerWords, countWords, pointsIn}
-use Rattle.fields.proofs.Bounds.{dim-some}
 use Rattle.fields.proofs.Element.{kind-small}
 use Rattle.fields.proofs.Writable.{writable}
 use Rattle.writer.specs.Writing.{laid}
@@ -38,17 +37,12 @@ put-header-words-requires c κs =
     let e = points-end w (c .before .points-place .result) (c .before .points-place .ensures) in
     ((omega (arith, w .fits), (omega arith, omega (arith, w .size))), (kind-small _ (w .call .kind), w .call .fields))
 
-div-put-count : tie.Need-div-put-count
-div-put-count c =
-    let start = c .before .before .before .before .before .before .before .before in
-    let w = writable (start .pre) in omega (arith, dim-some (w .call))
-
 put-count-requires : tie.Need-put-count-requires
 put-count-requires c κs =
     let at-put-header-words = c .before .before .before in
     let start = at-put-header-words .before .before .before .before .before in
     let w = writable (start .pre) in
-    (omega (arith, (at-put-header-words .put-header-words .kept), count-room w .0, w .fits), omega (arith, count-room w .1))
+    ((omega (arith, (at-put-header-words .put-header-words .kept), count-room w .0, w .fits), omega (arith, count-room w .1)), w .call .dims)
 
 put-points-requires : tie.Need-put-points-requires
 put-points-requires c κs =
@@ -99,7 +93,6 @@ put-element-spec =
     add-end
     add-size
     put-header-words-requires
-    div-put-count
     put-count-requires
     put-points-requires
     mul-copy-in
