@@ -24,6 +24,8 @@ static const char *const texts[][2] = {
     {"BAD JOURNAL", "The journal's last record is damaged, or cannot be reversed in the file as it is."},
     {"FIELD", "An enter-data field of a text lies outside its characters or has an unknown justification."},
     {"UNKNOWN", "This number is no refusal."},
+    {"BLOCK", "A block of a stored journal has a wrong check, count or rest, or is cut off."},
+    {"UNKNOWN", "This number is no refusal."},
 };
 
 /* the row of a number; the last one is of those that are none */

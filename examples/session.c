@@ -1,5 +1,5 @@
-/* A small session in memory: a 2D cell with one line is edited, what was done is shown, then all is undone. Every answer is
- * held to the one that is due. Status: 0 all as due, 1 another answer of an edit or undo, 2 what is to be edited cannot be
+/* A small session in memory: a 2D cell with one line is edited, what was done is shown, the journal goes to blocks for a disk and
+ * comes back, then all is undone. Every answer is held to the one that is due. Status: 0 all as due, 1 another answer of an edit or undo, 2 what is to be edited cannot be
  * made, 3 a record of the journal cannot be read, 4 other bytes than at the start, 5 standard output cannot be written.
  */
 #include <stdio.h>
@@ -63,6 +63,24 @@ static void history(void)
     hold("the record before", r, DGN_NOTHING, 3);
 }
 
+/* the journal in blocks, where a changed byte is seen, and taken back from them */
+static void rest(void)
+{
+    uint8_t blocks[DGN_BLOCK_BYTES];
+    size_t out[1], r;
+    hold("to blocks", dgn_journal_to_blocks(journal, s.jused, blocks, sizeof blocks, out, 1), DGN_DONE, 1);
+    printf("the journal in blocks: %zu bytes\n", out[0]);
+    blocks[100] ^= 4;
+    r = dgn_journal_from_blocks(blocks, sizeof blocks, journal, sizeof journal, out, 1);
+    hold("a damaged block", r, DGN_BLOCK, 1);
+    printf("with a byte changed: refused %zu %s at %zu\n", DGN_NUMBER(r), dgn_refusal_name(r), DGN_PLACE(r));
+    blocks[100] ^= 4;
+    memset(journal, 0, sizeof journal);
+    hold("from blocks", dgn_journal_from_blocks(blocks, sizeof blocks, journal, sizeof journal, out, 1), DGN_DONE, 1);
+    s.jused = out[0];
+    printf("taken back: %zu bytes\n", s.jused);
+}
+
 int main(void)
 {
     uint8_t line[52], original[sizeof file];
@@ -95,6 +113,7 @@ int main(void)
     show("insert a line at the top", dgn_session_insert(&s, DGN_TOP, 0, line, sizeof line), DGN_DONE);
     show("remove the cell", dgn_session_remove(&s, 26), DGN_DONE);
     history();
+    rest();
     while (s.jused > 0)
         show("undo", dgn_session_undo(&s), DGN_DONE);
     show("undo", dgn_session_undo(&s), DGN_NOTHING);

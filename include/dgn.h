@@ -8,7 +8,7 @@
  * What comes back. Every function returns one number r: 0 where it is done, else a refusal, of which
  *   DGN_NUMBER(r)  is its number, one of enum dgn_refusal,
  *   DGN_PLACE(r)   its place: the word where the element at fault begins, of words left over after a piece the first
- *                  of them, for DGN_NO_END the end of the file, else 0,
+ *                  of them, for DGN_NO_END the end of the file, for DGN_BLOCK the number of the block, else 0,
  *   DGN_COUNT(r)   for DGN_NO_SUCH of dgn_find how many elements the file has, else 0.
  * A REFUSAL CHANGES NO BYTE OF ANY SLICE, `out` AMONG THEM. Where a function is done, its answer stands at the front of
  * `out`; each says how many numbers that needs, and what stands behind them stays. With fewer it returns 1.
@@ -76,8 +76,8 @@ extern "C" {
 
 /* ---- refusals ---- */
 
-/* 2 to 12 and 20 are of a file, a piece or what is handed to a writer, 14 and 16 to 19 of editing. The names of 5 and 9 are
- * PLACE and COUNT; DGN_PLACE and DGN_COUNT take an answer apart. */
+/* 2 to 12 and 20 are of a file, a piece or what is handed to a writer, 14 and 16 to 19 of editing, 22 of a stored journal; 21 is
+ * none. The names of 5 and 9 are PLACE and COUNT; DGN_PLACE and DGN_COUNT take an answer apart. */
 enum dgn_refusal {
     DGN_DONE = 0,
     DGN_CALL = 1,         /* dimension, a length, a field out of its range, a used file without its end, a short `out` */
@@ -99,7 +99,8 @@ enum dgn_refusal {
     DGN_NOTHING = 17,     /* the journal is empty */
     DGN_NOT_A_CELL = 18,  /* rename of another type */
     DGN_BAD_JOURNAL = 19, /* the last record is ill-formed, or may not be reversed in this file */
-    DGN_FIELD = 20        /* an enter-data field of a text is wrong */
+    DGN_FIELD = 20,       /* an enter-data field of a text is wrong */
+    DGN_BLOCK = 22        /* a block of a stored journal is wrong */
 };
 
 /* The name of a refusal, as "NO END", and a plain sentence on it. r is its number or all that a function returned; 0 is
@@ -395,6 +396,33 @@ enum { DGN_RECORD_KIND, DGN_RECORD_HEADER, DGN_RECORD_PLACE, DGN_RECORD_PAYLOAD,
 #define DGN_RECORD_NUMBERS 5
 enum dgn_record_kind { DGN_MARK = 1, DGN_RENAME = 2, DGN_INSERT = 3, DGN_REMOVE = 4 };
 size_t dgn_record(const uint8_t *journal, size_t journal_len, size_t jused, size_t *out, size_t out_len);
+
+/* ---- stored journals: a journal that is kept on a disk, in blocks that each have a check ----
+ *
+ * A block is 512 bytes: 508 of the journal, a word that says how many of them are used, even and not 0, and a word by which
+ * the block's 256 words, added in 16 bits, give 0. Only the last block may be part full, and its other bytes are 0. An empty
+ * journal is no block. Both functions write to the front of a buffer of any length, whose bytes behind that stay. out needs 1:
+ * how many bytes were written. Each undoes the other on what it accepts, with room enough.
+ *
+ * Always seen: one changed word in a block, an end inside a block, anything behind a block that is part full, such a block moved
+ * forward, a journal that becomes longer than DGN_FILE_BYTES. Not seen: full blocks that are missing, in another order, replaced
+ * by other good ones, or doubled where the journal does not become too long; and blocks missing at the end, even all of them,
+ * which is an empty journal. Two changed words of a block may not be seen. A length kept beside the journal shows blocks that
+ * are missing or doubled, and no other damage of these. */
+
+#define DGN_BLOCK_BYTES 512
+#define DGN_BLOCK_JOURNAL 508
+#define DGN_STORED_BYTES 1057280
+
+/* A journal to blocks: `journal` is the used bytes of a session's journal, whose records are not looked at. Refusals, in this
+ * order: 1 (odd, above DGN_FILE_BYTES), 15 where the buffer has fewer than 512 bytes for each 508 bytes of the journal, the last
+ * ones, if fewer, counted whole. */
+size_t dgn_journal_to_blocks(const uint8_t *journal, size_t journal_len, uint8_t *buffer, size_t buffer_len, size_t *out, size_t out_len);
+
+/* Blocks to the journal. Refusals, in this order: 1 (odd, above DGN_STORED_BYTES), 22 with DGN_PLACE(r) the number of the
+ * first bad block, from 0 (its check, its count, also one that makes more than DGN_FILE_BYTES of journal, its rest, or a short
+ * end), 15. */
+size_t dgn_journal_from_blocks(const uint8_t *stored, size_t stored_len, uint8_t *journal, size_t journal_len, size_t *out, size_t out_len);
 
 #ifdef __cplusplus
 }

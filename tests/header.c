@@ -341,17 +341,73 @@ static void session(void)
     check(dgn_session_remove(&s, 46) == 0 && s.used == 94 && s.jused == 64, "remove");
 }
 
+/* a journal to blocks and back: the bytes of a block, each fault of one, short buffers, the longest journal */
+static void stored(void)
+{
+    static uint8_t journal[DGN_FILE_BYTES], blocks[DGN_STORED_BYTES], back[DGN_FILE_BYTES];
+    uint8_t short_block[DGN_BLOCK_BYTES], two[2 * DGN_BLOCK_BYTES + 2];
+    const uint8_t ends[] = {2, 0, 253, 253};
+    memset(blocks, 9, sizeof blocks);
+    memset(two, 0, sizeof two);
+    fresh_numbers();
+    check(dgn_journal_to_blocks(NULL, 0, NULL, 0, fresh(), 1) == 0 && ARE(0), "an empty journal is no block");
+    check(dgn_journal_from_blocks(NULL, 0, NULL, 0, fresh(), 1) == 0 && ARE(0), "and back");
+    journal[0] = 1;
+    journal[1] = 2;
+    check(dgn_journal_to_blocks(journal, 2, blocks, 600, fresh(), 1) == 0 && ARE(512), "two bytes");
+    check(blocks[0] == 1 && blocks[1] == 2 && blocks[2] == 0 && blocks[507] == 0 && memcmp(blocks + 508, ends, 4) == 0 && blocks[512] == 9, "their block");
+    check(dgn_journal_from_blocks(blocks, 512, back, 3, fresh(), 1) == 0 && ARE(2) && memcmp(back, journal, 2) == 0 && back[2] == 0, "and back");
+    check(refused(dgn_journal_to_blocks(journal, 3, blocks, 600, fresh(), 1), DGN_CALL, 0), "an odd journal");
+    check(refused(dgn_journal_to_blocks(journal, DGN_FILE_BYTES + 2, blocks, 600, fresh(), 1), DGN_CALL, 0), "a longer one");
+    check(refused(dgn_journal_to_blocks(journal, 510, blocks, 1023, fresh(), 1), DGN_ROOM, 0), "no room for blocks");
+    check(refused(dgn_journal_to_blocks(journal, 2, blocks, 512, fresh(), 0), DGN_CALL, 0), "no number for one");
+    check(refused(dgn_journal_from_blocks(blocks, 511, back, 2, fresh(), 1), DGN_CALL, 0), "odd blocks");
+    check(refused(dgn_journal_from_blocks(blocks, DGN_STORED_BYTES + 2, back, 2, fresh(), 1), DGN_CALL, 0), "too many");
+    check(refused(dgn_journal_from_blocks(blocks, 510, back, 2, fresh(), 1), DGN_BLOCK, 0), "a short end");
+    check(refused(dgn_journal_from_blocks(blocks, 512, back, 1, fresh(), 1), DGN_ROOM, 0), "no room for the journal");
+    check(refused(dgn_journal_from_blocks(blocks, 512, back, 2, fresh(), 0), DGN_CALL, 0), "no number for one");
+    memcpy(short_block, blocks, sizeof short_block);
+    int seen = 1;
+    for (size_t i = 0; i < sizeof short_block; i++) {
+        short_block[i] ^= 64;
+        seen = seen && refused(dgn_journal_from_blocks(short_block, 512, back, 0, fresh(), 1), DGN_BLOCK, 0);
+        short_block[i] ^= 64;
+    }
+    check(seen, "each byte changed, before 15");
+    memcpy(two, blocks, 512);
+    memcpy(two + 512, blocks, 512);
+    check(refused(dgn_journal_from_blocks(two, 1024, back, 600, fresh(), 1), DGN_BLOCK, 0), "part full and not the last");
+
+    for (size_t i = 0; i < sizeof journal; i++)
+        journal[i] = (uint8_t)(i * i / 7 + i / 508);
+    check(dgn_journal_to_blocks(journal, 1018, two, sizeof two, fresh(), 1) == DGN_ROOM, "three blocks do not fit");
+    check(dgn_journal_to_blocks(journal, 1016, two, sizeof two, fresh(), 1) == 0 && ARE(1024), "two full blocks");
+    check(refused(dgn_journal_from_blocks(two, 1026, back, 1016, fresh(), 1), DGN_BLOCK, 2), "two bytes behind them");
+    memcpy(short_block, two, 512);
+    memmove(two, two + 512, 512);
+    memcpy(two + 512, short_block, 512);
+    check(dgn_journal_from_blocks(two, 1024, back, 1016, fresh(), 1) == 0 && ARE(1016) && memcmp(back, journal + 508, 508) == 0, "swapped they are taken");
+    check(dgn_journal_to_blocks(journal, DGN_FILE_BYTES, blocks, DGN_STORED_BYTES, fresh(), 1) == 0 && ARE(DGN_STORED_BYTES), "the longest journal");
+    check(dgn_journal_from_blocks(blocks, DGN_STORED_BYTES, back, DGN_FILE_BYTES, fresh(), 1) == 0 && ARE(DGN_FILE_BYTES), "and back");
+    check(memcmp(back, journal, DGN_FILE_BYTES) == 0, "the same bytes");
+    /* 66 bytes used in the 2,065th, with a check that is right */
+    blocks[2064 * 512 + 508] += 2;
+    blocks[2064 * 512 + 510] -= 2;
+    check(refused(dgn_journal_from_blocks(blocks, DGN_STORED_BYTES, back, DGN_FILE_BYTES, fresh(), 1), DGN_BLOCK, 2064), "two bytes above the limit");
+}
+
 /* a name and a sentence for each number, and one for those that are none */
 static void refusals(void)
 {
     static const char *const all[] = {"DONE", "CALL", "NO END", "CUT", "RESERVED", "PLACE", "KIND", "SHORT", "TOTAL", "COUNT", "DEEP", "LINKAGE", "NAME",
-                                      "NO SUCH", "ALREADY", "ROOM", "JOURNAL", "NOTHING", "NOT A CELL", "BAD JOURNAL", "FIELD"};
-    for (size_t n = 0; n <= DGN_FIELD; n++) {
+                                      "NO SUCH", "ALREADY", "ROOM", "JOURNAL", "NOTHING", "NOT A CELL", "BAD JOURNAL", "FIELD", "UNKNOWN", "BLOCK"};
+    const size_t none = DGN_BLOCK + 1;
+    for (size_t n = 0; n <= DGN_BLOCK; n++) {
         check(strcmp(dgn_refusal_name(n), all[n]) == 0, all[n]);
-        check(strlen(dgn_refusal_text(n)) > 10 && strcmp(dgn_refusal_text(n), dgn_refusal_text(DGN_FIELD + 1)) != 0, all[n]);
+        check(strlen(dgn_refusal_text(n)) > 10 && (strcmp(dgn_refusal_text(n), dgn_refusal_text(none)) != 0) == (n != 21), all[n]);
         check(dgn_refusal_name(n + 256 * 1100) == dgn_refusal_name(n), all[n]);
     }
-    check(strcmp(dgn_refusal_name(DGN_FIELD + 1), "UNKNOWN") == 0 && strcmp(dgn_refusal_name(DGN_TOP), "UNKNOWN") == 0, "no refusal");
+    check(strcmp(dgn_refusal_name(none), "UNKNOWN") == 0 && strcmp(dgn_refusal_name(DGN_TOP), "UNKNOWN") == 0, "no refusal");
     check(DGN_VERSION == 0x000200 && strcmp(DGN_VERSION_TEXT, "0.2.0") == 0, "the version");
 }
 
@@ -367,6 +423,7 @@ int main(void)
     names();
     editing();
     session();
+    stored();
     refusals();
     printf("%zu passed, %zu failed\n", passed, failed);
     return failed != 0;

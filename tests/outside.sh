@@ -129,7 +129,7 @@ other() {
 }
 
 # every answer that an example gets is looked at
-called() { gcc -std=c99 -Iinclude -c -o "$work/called.o" "examples/$1.c" && nm -u "$work/called.o" | sed -nE 's/^ *U (dgn_[a-z]+)$/\1/p'; }
+called() { gcc -std=c99 -Iinclude -c -o "$work/called.o" "examples/$1.c" && nm -u "$work/called.o" | sed -nE '/ dgn_refusal_/d; s/^ *U (dgn_[a-z_]+)$/\1/p'; }
 for name in host session parts; do
     case $name in
     host) arguments=(tests/real/a11_cells_2d.dgn 00417) ;;

@@ -1,6 +1,7 @@
 //! The bench: checks that all answer alike, measures them in turn and prints tables of ratios.
 //! `bench FOLDER [ROUNDS]`: FOLDER takes the files that the programs read and write.
 
+mod blocks;
 mod calls;
 mod checks;
 mod edits;
@@ -37,6 +38,7 @@ fn main() {
     whole::points(&all, 1 + rounds / 6);
     whole::texts(&all, 1 + rounds / 6);
     edits::table(rounds);
+    blocks::table(rounds);
     programs::listing(&folder, rounds);
     reading::growth(1 + rounds / 3);
     programs::beside_gdal(&folder, 1 + rounds / 10);

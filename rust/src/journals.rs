@@ -1,8 +1,9 @@
-//! The records of a journal, newest first.
+//! The records of a journal, newest first; and a journal stored in blocks.
 
 use crate::numbered::numbered;
 use crate::raw;
 use crate::refusals::{done, Number, Refusal};
+use crate::{BLOCK_BYTES, BLOCK_JOURNAL};
 
 numbered! {
     /// The kinds of edits.
@@ -71,4 +72,29 @@ impl<'j> Iterator for History<'j> {
             answer => Some(answer),
         }
     }
+}
+
+/// The blocks of a journal's used bytes, to be kept on a disk: 512 bytes for each 508 bytes of the journal, the last ones, if fewer,
+/// counted whole; each block has a check. Refusal: 1 where the journal is odd or more than [`FILE_BYTES`](crate::FILE_BYTES). Records
+/// are not looked at.
+pub fn blocks_of_journal(journal: &[u8]) -> Result<Vec<u8>, Refusal> {
+    moved(raw::journal_to_blocks, journal, journal.len().div_ceil(BLOCK_JOURNAL) * BLOCK_BYTES)
+}
+
+/// The journal that blocks hold. Refusals: 1 where they are odd or more than [`STORED_BYTES`](crate::STORED_BYTES), 22 with the
+/// number of the first bad block, from 0. One changed word in a block, an end inside a block and anything behind a block that is part
+/// full are always seen. Full blocks that are missing, in another order, replaced by other good ones, or doubled where the journal does
+/// not become too long are not, nor are blocks missing at the end; two changed words of a block may not be.
+pub fn journal_of_blocks(blocks: &[u8]) -> Result<Vec<u8>, Refusal> {
+    moved(raw::journal_from_blocks, blocks, blocks.len() / BLOCK_BYTES * BLOCK_JOURNAL)
+}
+
+/// What one of the two writes of these bytes, which is no more than `most`.
+fn moved(by: fn(&[u8], &mut [u8], &mut [usize]) -> usize, bytes: &[u8], most: usize) -> Result<Vec<u8>, Refusal> {
+    // more bytes than are allowed are refused before there is need of room
+    let mut written = vec![0; most.min(crate::STORED_BYTES)];
+    let mut out = [0];
+    done(by(bytes, &mut written, &mut out))?;
+    written.truncate(out[0]);
+    Ok(written)
 }

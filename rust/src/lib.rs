@@ -51,7 +51,7 @@ mod whole;
 mod writing;
 
 pub use elements::{Bounds, Dimension, DisplayHeader, Linkage, LinkageKind, Point, Type, View};
-pub use journals::{record, Edit, History, Record};
+pub use journals::{blocks_of_journal, journal_of_blocks, record, Edit, History, Record};
 pub use names::{pack, unpack, Name};
 pub use reading::{extent, find, judge, linkage, point, view, Found, Judged};
 pub use refusals::{Number, Refusal};
@@ -64,3 +64,12 @@ pub use writing::{write, Fields};
 
 /// The most bytes of a file, of a session's buffer and of a piece to insert.
 pub const FILE_BYTES: usize = 1_048_576;
+
+/// The bytes of a block of a stored journal.
+pub const BLOCK_BYTES: usize = 512;
+
+/// The bytes of the journal that a full block holds.
+pub const BLOCK_JOURNAL: usize = 508;
+
+/// The most bytes of a stored journal.
+pub const STORED_BYTES: usize = 1_057_280;

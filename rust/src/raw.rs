@@ -137,4 +137,10 @@ functions! {
 
     /// out: kind, header's place or [`TOP`], place, payload words, the used length before the record.
     pub fn record(journal: &[u8], jused: usize, out: &mut [usize]) = dgn_record;
+
+    /// out: the bytes written to the front of `buffer`.
+    pub fn journal_to_blocks(journal: &[u8], buffer: &mut [u8], out: &mut [usize]) = dgn_journal_to_blocks;
+
+    /// out: the bytes written to the front of `journal`.
+    pub fn journal_from_blocks(stored: &[u8], journal: &mut [u8], out: &mut [usize]) = dgn_journal_from_blocks;
 }

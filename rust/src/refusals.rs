@@ -53,6 +53,8 @@ numbered! {
         BadJournal = 19,
         /// An enter-data field of a text is wrong.
         Field = 20,
+        /// A block of a stored journal is wrong.
+        Block = 22,
     }
 }
 
@@ -79,7 +81,7 @@ impl Number {
 pub struct Refusal {
     /// Which one.
     pub number: Number,
-    /// The word where the element at fault begins; 0 where the refusal names none.
+    /// The word where the element at fault begins; of [`Number::Block`] the number of the block; 0 where the refusal names none.
     pub place: usize,
     /// The count of all elements where [`find`](crate::find) found no such name, else 0.
     pub count: usize,

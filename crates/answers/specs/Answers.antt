@@ -39,7 +39,7 @@ pub record Replied {A : Type 0} (needed : ℕ) (r : Reply A) (s : List A) (n : �
 
 -- a refusal that a caller can take apart: its number is one of the table's, its detail at most the words of the longest file
 abbrev pub Small : ℕ → ℕ → Type 0
-Small number detail = (1 ≤ number) × (number ≤ 20) × (detail ≤ 524288)
+Small number detail = (1 ≤ number) × (number ≤ 22) × (detail ≤ 524288)
 
 abbrev pub SmallReply : {A : Type 0} → Reply A → Type 0
 SmallReply (done given) = Unit {0}

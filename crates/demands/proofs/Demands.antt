@@ -137,6 +137,20 @@ use Rattle.dgn_linkages.specs.LinkageNumbers.{linkageReply}
 use Rattle.dgn_linkages.proofs.Small as dgn-linkages
 use Rattle.dgn_names.specs.PackUnpack.{packReply, unpackReply}
 use Rattle.dgn_names.proofs.Small as dgn-names
+use Rattle.blocks.specs.Calls.{toBlocks, fromBlocks}
+use Rattle.blocks.specs.Promises.{ToRefused, FromRefused, AcceptedExactly, StoredWithRoom, GivenWithRoom, JournalBack, BlocksBack, StoredExactly}
+use Rattle.blocks.specs.Promises.{JournalMovedBack, BlocksMovedBack, WordChanged, WordOfBlockChanged, CutInside, BehindPartFull, PartFullMoved}
+use Rattle.blocks.specs.Promises.{AboveLimit, JoinedTooLong, CutBetween, FullBlocks, Swapped}
+use Rattle.blocks.specs.declared.Moved.the-variants as moved
+use Rattle.blocks.proofs.Refusals as blocks-refused
+use Rattle.blocks.proofs.Journal as stored
+use Rattle.blocks.proofs.Back as there
+use Rattle.blocks.proofs.Changed as changed
+use Rattle.blocks.proofs.Damage as damage
+use Rattle.blocks.proofs.Joined as joined
+use Rattle.blocks.proofs.Limit as limit
+use Rattle.dgn_blocks.specs.Moves.{movedReply}
+use Rattle.dgn_blocks.proofs.Small as small-blocks
 use Rattle.write_answers.specs.Writing.{writeReply}
 use Rattle.dgn_writer.specs.Writing.{givenFault}
 use Rattle.dgn_writer.proofs.Small as dgn-writer
@@ -241,6 +255,13 @@ pub write-text-refused : (dim : ℕ) (f : Fields) (t : Text) (characters triples
     WritesText dim f t characters triples tail out r last → r ≡ written.Refused n p → (oneOf (1 ∷ 20 ∷ 8 ∷ 11 ∷ 15 ∷ []) n ≡ true) × (p ≡ 0) × (last ≡ out)
 write-text-refused = writes-text.write-text-refused
 
+-- a journal to blocks with 1 or 15 at 0; blocks to a journal also with 22 at one of the blocks; and the buffer stays as it was
+pub to-blocks-refused : ToRefused
+to-blocks-refused = blocks-refused.to-refused
+
+pub from-blocks-refused : FromRefused
+from-blocks-refused = blocks-refused.from-refused
+
 ---- demand 1: the functions for C
 
 -- of the functions for C, whose contracts are `Replied`: a refusal changes no number of the lent slice
@@ -252,7 +273,7 @@ refusal-leaves = answers.refusal-leaves
 pub read-as : {A : Type 0} (needed : ℕ) (q : Reply A) (s t : List A) (n : ℕ) → SmallReply q → Replied needed q s n t → ReadAs (withRoom needed q s) s n t
 read-as = answers.read-as
 
--- as each is: its number is one from 1 to 20, its detail, a place or a count, at most 524,288
+-- as each is: its number is one from 1 to 22, its detail, a place or a count, at most 524,288
 pub judge-small : (dim : ℕ) (s : List ℕ) → SmallReply (judgeReply (judgeOf dim s))
 judge-small = dgn.judge-small
 
@@ -304,6 +325,12 @@ texts-small = small-texts.texts-small
 
 pub record-small : (journal : List ℕ) (used : ℕ) → SmallReply (recordReply journal used)
 record-small = small-record.record-small
+
+pub to-blocks-small : (j : List ℕ) (room : ℕ) → SmallReply (movedReply (toBlocks j room))
+to-blocks-small = small-blocks.to-small
+
+pub from-blocks-small : (s : List ℕ) (room : ℕ) → SmallReply (movedReply (fromBlocks s room))
+from-blocks-small = small-blocks.from-small
 
 -- the numbers that these three put into their slices
 pub views-within : ViewsWithin
@@ -484,7 +511,7 @@ pub every-given : EveryGiven
 every-given = given.every-given
 
 ---- demand 2 and demand 3: the worked cases that RULES.md marks with *, its table of fixed parts, and cases of its rules, of
----- its orders of checks and of sessions, as one list
+---- its orders of checks, of sessions and of stored journals, as one list
 
 pub starred-hold : allHold starred ≡ true
 starred-hold = worked.starred-hold
@@ -512,6 +539,16 @@ longer-edited = lengths.longer-edited
 pub longer-piece : (dim : ℕ) (s : Session) (h : Option ℕ) (p : ℕ) (piece : List ℕ) → 1048576 < length piece →
     step dim s (insert-call h p piece) .answer ≡ edit.Refused 1 0
 longer-piece = lengths.longer-piece
+
+-- a journal of 1,048,576 bytes may be stored, in 1,057,280 bytes; more of either is refused with 1
+pub longest-stored : (j : List ℕ) → length j ≡ 1048576 → toBlocks j 1057280 ≡ moved.Written 1057280
+longest-stored = lengths.longest-stored
+
+pub longer-stored : (j : List ℕ) (room : ℕ) → 1048576 < length j → toBlocks j room ≡ moved.Refused 1 0
+longer-stored = lengths.longer-stored
+
+pub longer-blocks : (s : List ℕ) (room : ℕ) → 1057280 < length s → fromBlocks s room ≡ moved.Refused 1 0
+longer-blocks = lengths.longer-blocks
 
 ---- demand 2: texts and stored names match one to one
 
@@ -613,6 +650,73 @@ mark-undone = marks.mark-undone
 
 pub flags-back : FlagsBack
 flags-back = marks.flags-back
+
+---- stored journals: a journal in blocks, each with a check
+
+-- the blocks of every journal that may be stored are accepted and give the journal; all accepted bytes are the blocks of the journal that
+-- they give; so what is accepted is exactly what is the blocks of some journal
+pub journal-back : JournalBack
+journal-back = stored.journal-back
+
+pub blocks-back : BlocksBack
+blocks-back = stored.blocks-back
+
+pub stored-exactly : StoredExactly
+stored-exactly = stored.stored-exactly
+
+-- accepted are the bytes for which from blocks answers by the room alone
+pub blocks-accepted-exactly : AcceptedExactly
+blocks-accepted-exactly = blocks-refused.accepted-exactly
+
+-- a journal that may be stored is written as blocks where there is room for them, and its blocks as the journal where there is room for it
+pub stored-with-room : StoredWithRoom
+stored-with-room = there.stored-with-room
+
+pub given-with-room : GivenWithRoom
+given-with-room = there.given-with-room
+
+-- with any answers and bytes that the contracts of the two calls allow: what the first one wrote is handed to the second
+pub journal-moved-back : JournalMovedBack
+journal-moved-back = there.journal-moved-back
+
+pub blocks-moved-back : BlocksMovedBack
+blocks-moved-back = there.blocks-moved-back
+
+-- damage that is always seen, with the block that is named: one changed word, an end inside a block, and anything behind a last block that is
+-- part full, also that block a second time; such a block moved forward
+pub word-changed : WordChanged
+word-changed = changed.word-changed
+
+pub cut-inside : CutInside
+cut-inside = damage.cut-inside
+
+pub behind-part-full : BehindPartFull
+behind-part-full = damage.behind-part-full
+
+pub part-full-moved : PartFullMoved
+part-full-moved = joined.part-full-moved
+
+-- and exactly one changed word of some block, whatever the other blocks are: at that block or before it
+pub word-of-block-changed : WordOfBlockChanged
+word-of-block-changed = changed.word-of-block-changed
+
+-- blocks that are too long together: a 2,065th that uses more than 64 bytes is named, more blocks are refused with 1
+pub above-limit : AboveLimit
+above-limit = limit.above-limit
+
+pub joined-too-long : JoinedTooLong
+joined-too-long = limit.joined-too-long
+
+-- and damage that is not seen, since what is left is the blocks of another journal that may be stored: blocks missing at the end, and full
+-- blocks that are missing, replaced, in another order, or doubled where the journal is then not too long
+pub cut-between : CutBetween
+cut-between = joined.cut-between
+
+pub full-blocks : FullBlocks
+full-blocks = joined.full-blocks
+
+pub swapped : Swapped
+swapped = joined.swapped
 
 ---- words and signed longs: what is stored is read back, and every other word stays
 

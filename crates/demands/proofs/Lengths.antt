@@ -1,4 +1,4 @@
--- The longest that may be lent: 1,048,576 bytes are judged and edited, more are refused with 1.
+-- The longest that may be lent: 1,048,576 bytes are judged, edited and stored in blocks, more are refused with 1.
 use Prim.Native.Nat.{ℕ, _%_, _<_}
 use mathlib.Core.Path.{_≡_, refl}
 use mathlib.Core.Logic.{_⊎_, inl, inr}
@@ -16,6 +16,9 @@ use Rattle.grammar.proofs.Exact.{judged-after-marker}
 use Rattle.edits.specs.Allowed.{fault, orElse, unless}
 use Rattle.edits.specs.Calls.{Session, Call, insert-call, undo-call, pieceOk, sessionOk, sessionFault, openFault, undone, step}
 use Rattle.edits.specs.declared.Edited.the-variants as edit
+use Rattle.blocks.specs.Blocks.{blocksFor}
+use Rattle.blocks.specs.Calls.{toBlocks, fromBlocks}
+use Rattle.blocks.specs.declared.Moved.the-variants as moved
 
 -- the marker first, then anything
 abbrev opened : List ℕ → List ℕ
@@ -64,3 +67,14 @@ pub longer-piece : (dim : ℕ) (s : Session) (h : Option ℕ) (p : ℕ) (piece :
     step dim s (insert-call h p piece) .answer ≡ edit.Refused 1 0
 unfolding step openFault
 longer-piece dim s h p piece l = rw (too-long (length piece) l) refl
+
+-- a journal of 1,048,576 bytes has 2,065 blocks, 1,057,280 bytes; a longer one, and more bytes of blocks, are refused with 1
+pub longest-stored : (j : List ℕ) → length j ≡ 1048576 → toBlocks j 1057280 ≡ moved.Written 1057280
+unfolding blocksFor
+longest-stored j h = rw h refl
+
+pub longer-stored : (j : List ℕ) (room : ℕ) → 1048576 < length j → toBlocks j room ≡ moved.Refused 1 0
+longer-stored j room h = rw (lt-leb (length j) 1048576 h, and-false (eqb (length j % 2) 0)) refl
+
+pub longer-blocks : (s : List ℕ) (room : ℕ) → 1057280 < length s → fromBlocks s room ≡ moved.Refused 1 0
+longer-blocks s room h = rw (lt-leb (length s) 1057280 h, and-false (eqb (length s % 2) 0)) refl

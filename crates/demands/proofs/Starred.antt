@@ -1,7 +1,7 @@
 -- The worked cases hold: each is computed from the definitions.
 use mathlib.Core.Path.{_≡_, refl}
 use mathlib.Core.Bool.{true}
-use Rattle.words.specs.Words.{over}
+use Rattle.words.specs.Words.{over, putWord}
 use Rattle.names.specs.Names.{codeOf, letterOf, wordFrom, packed, wordOk, nameOk, textIn, textAnswer, unpacked}
 use Rattle.linkages.specs.Linkages.{linkageWords, fillFrom, linkagesFill}
 use Rattle.texts.specs.Texts.{byteAt, textPart, eachFieldOk, fieldsOk}
@@ -21,12 +21,14 @@ use Rattle.edits.specs.Edits.{extentPlaces, corrected, splice, cut, apply}
 use Rattle.edits.specs.Allowed.{markFault, renameFault, gapOk, pieceFault, insertFault, removeFault, restoreFault, editFault}
 use Rattle.edits.specs.Records.{recordOf, recordWords, lastRecord, reversal, reversible}
 use Rattle.edits.specs.Calls.{sessionOk, sessionFault, openFault, stored, editMade, editWithin, edited, undoMade, undone, step}
+use Rattle.blocks.specs.Blocks.{completing, padded, closed, block, blocksFor, stored as storedAs, used, chunk, rest, sound, fewest, most, good, blocksIn, firstBad, flatOf}
 use Rattle.demands.specs.Starred.{allHold, starred}
 
 pub starred-hold : allHold starred ≡ true
-unfolding over codeOf letterOf wordFrom packed wordOk nameOk textIn textAnswer unpacked linkageWords fillFrom linkagesFill
+unfolding over putWord codeOf letterOf wordFrom packed wordOk nameOk textIn textAnswer unpacked linkageWords fillFrom linkagesFill
     byteAt textPart eachFieldOk fieldsOk fixedPart mayStand attributesOk linkagesOk reservedOk placeOk fixedOk textFieldsOk extentOk storedNameOk faultOf headOf countOk stopOf
     listFrom elementFrom elementOf topOf callOk judgeOf spotsFrom spotsOf spottedAt pointOf turnAt originAt oddAt textAt fieldAt textRead charactersAt fieldIn textOf charactersOf fieldOf flagWords wordFlags flagsOk extentPlaces corrected splice cut apply markFault renameFault
     gapOk pieceFault insertFault removeFault restoreFault editFault recordOf recordWords lastRecord reversal reversible sessionOk
-    sessionFault openFault stored editMade editWithin edited undoMade undone step
+    sessionFault openFault stored editMade editWithin edited undoMade undone step completing padded closed block blocksFor storedAs used
+    chunk rest sound fewest most good blocksIn firstBad flatOf
 starred-hold = refl

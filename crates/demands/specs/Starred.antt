@@ -35,6 +35,7 @@ use Rattle.text_views.specs.declared.FieldView.the-variants as field
 use Rattle.demands.specs.Cases.{Case, case, holds}
 use Rattle.demands.specs.Elements.{firstWord, live, plain, attributed, raw, line, deadLine, text, texted, flatText, solidText, cell, namedCell, libraryCell, chain, counting, inCells, text00417, text417}
 use Rattle.demands.specs.SessionCases.{sessionCases}
+use Rattle.demands.specs.BlockCases.{blockCases}
 
 -- whether each case of a list holds
 abbrev pub allHold : List Case → Bool
@@ -494,4 +495,4 @@ abbrev pub starred : List Case
 starred =
     longCases ++ nameCases ++ fileCases ++ lineCases ++ pointCases ++ cellCases ++ tableCases ++ placeCases ++ ruleCases
     ++ lengthCases ++ givenCases ++ codeCases ++ depthCases ++ totalCases ++ countCases ++ attributeCases ++ textCases
-    ++ readCases ++ orderCases ++ sessionCases
+    ++ readCases ++ orderCases ++ sessionCases ++ blockCases

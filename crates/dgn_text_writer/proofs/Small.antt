@@ -19,7 +19,7 @@ use Rattle.dgn_text_writer.specs.Writing.{textGiven, textIn, givenFault}
 
 pub fault-table : (dim : ℕ) (f : Fields) (t : Text) (characters triples tail : List ℕ) (room : ℕ) → Table (textFault dim f t characters triples tail room)
 unfolding textFault
-fault-table dim f t characters triples tail room h = leb-true _ 20 (first-in (λ k. leb k 20) (textChecks dim f t characters triples tail room) refl h)
+fault-table dim f t characters triples tail room h = leb-true _ 22 (first-in (λ k. leb k 22) (textChecks dim f t characters triples tail room) refl h)
 
 module _ (dim : ℕ) (f : List ℕ) (l : List ℤ) (characters triples tail : List ℕ) (room : ℕ) where
   -- the first fault, by the two slices of numbers

@@ -18,7 +18,7 @@ use Rattle.dgn_writer.specs.Writing.{givenFault}
 
 pub fault-table : (dim : ℕ) (f : Fields) (points : List ℤ) (tail : List ℕ) (room : ℕ) → Table (writeFault dim f points tail room)
 unfolding writeFault
-fault-table dim f points tail room h = leb-true _ 20 (first-in (λ k. leb k 20) (writeChecks dim f points tail room) refl h)
+fault-table dim f points tail room h = leb-true _ 22 (first-in (λ k. leb k 22) (writeChecks dim f points tail room) refl h)
 
 module _ (dim : ℕ) (f : List ℕ) (points : List ℤ) (tail : List ℕ) (room : ℕ) where
   -- the first fault, by the slice of fields

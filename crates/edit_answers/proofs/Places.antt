@@ -132,4 +132,4 @@ call-place dim s undo-call n p e = plain-place dim s undo-call n p (λ x. x) e
 
 -- and its number is one of the table's
 pub edit-small : (dim : ℕ) (s : Session) (c : Call) (n p : ℕ) → step dim s c .answer ≡ Refused n p → Small n p
-edit-small dim s c n p e = let h = call-number dim s c n p e in (h .0, h .1, call-place dim s c n p e)
+edit-small dim s c n p e = let h = call-number dim s c n p e in (h .0, omega (arith, h .1), call-place dim s c n p e)

@@ -45,7 +45,7 @@ given-not f e = go (fieldsGiven f) refl e
 
 -- the number of a fault is one of the table's
 abbrev pub Table : ℕ → Type 0
-Table k = (k ≡ 0 → ⊥) → k ≤ 20
+Table k = (k ≡ 0 → ⊥) → k ≤ 22
 
 pub by-table : (k size : ℕ) → Table k → SmallReply (writeReply (writtenBy k size))
 by-table k size h = go (eqb k 0) refl

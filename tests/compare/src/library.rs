@@ -5,6 +5,7 @@
 
 use crate::guard::{Guard, Side};
 use dgn::raw;
+use reader::generate::moves::Way;
 use reader::{Call, Field, FindRefusal, Found, Judged, Linkage, LinkageKind, Refusal, State};
 use std::cell::Cell;
 use std::hint::black_box;
@@ -15,6 +16,9 @@ pub const TOP: u64 = raw::TOP as u64;
 
 /// The longest file that is handed over, one word above the limit.
 pub const LONGEST: usize = 1_048_578;
+
+/// The longest stored journal, or buffer for one, that is handed over.
+pub const LONGEST_STORED: usize = 1_060_864;
 
 /// The longest list of coordinates that is handed over.
 pub const MOST_COORDINATES: usize = 70_000;
@@ -33,6 +37,8 @@ struct Lending {
     tail: Guard,
     buffer: Guard,
     journal: Guard,
+    moved_from: Guard,
+    moved_to: Guard,
     numbers: Guard,
     out: Guard,
     side: Cell<Side>,
@@ -51,6 +57,8 @@ thread_local! {
         tail: Guard::new(LONGEST),
         buffer: Guard::new(LONGEST),
         journal: Guard::new(LONGEST),
+        moved_from: Guard::new(LONGEST_STORED),
+        moved_to: Guard::new(LONGEST_STORED),
         numbers: Guard::new(8 * MOST_NUMBERS),
         out: Guard::new(4096),
         side: const { Cell::new(Side::Behind) },
@@ -135,7 +143,7 @@ fn returned(r: usize) -> Result<(), Refused> {
         return Ok(());
     }
     let (number, detail) = (r % 256, r / 256);
-    assert!((1..=20).contains(&number), "{r} is no refusal");
+    assert!((1..=20).contains(&number) || number == 22, "{r} is no refusal");
     Err(Refused { number: number as u32, detail: detail as u64 })
 }
 
@@ -270,6 +278,23 @@ pub fn record(journal: &[u8], jused: u64) -> Result<[u64; 5], Refusal> {
     let out: [usize; 5] =
         LENDING.with(|l| lent(l, &l.journal, journal, |j| answer(l, |o| raw::record(j, jused as usize, o))))?;
     Ok(out.map(|number| number as u64))
+}
+
+/// Moves a journal to blocks, or back, into a copy of the buffer, which is copied back: the bytes written.
+pub fn moved(way: Way, input: &[u8], buffer: &mut [u8]) -> Result<u64, Refusal> {
+    let call = by(way);
+    let out: [usize; 1] = LENDING.with(|l| {
+        lent_to_write(l, &l.moved_to, buffer, |b| lent(l, &l.moved_from, input, |i| answer(l, |o| call(i, b, o))))
+    })?;
+    Ok(out[0] as u64)
+}
+
+/// The function of a way.
+fn by(way: Way) -> fn(&[u8], &mut [u8], &mut [usize]) -> usize {
+    match way {
+        Way::ToBlocks => raw::journal_to_blocks,
+        Way::FromBlocks => raw::journal_from_blocks,
+    }
 }
 
 pub fn pack(text: &[u8]) -> Result<(u16, u16), Refusal> {
@@ -480,5 +505,10 @@ pub fn short_answers(file: &[u8]) {
             assert!(short::<_, 4>(l, |o| raw::record(j, 14, o)).is_err());
             assert!(short::<_, 0>(l, |o| raw::record(j, 14, o)).is_err());
         });
+        // an empty journal, which is no block
+        for way in [Way::ToBlocks, Way::FromBlocks] {
+            assert_eq!(moved(way, &[], &mut [7; 512]), Ok(0));
+            assert!(lent_to_write(l, &l.moved_to, &mut [7; 512], |b| short::<_, 0>(l, |o| by(way)(&[], b, o))).is_err());
+        }
     });
 }

@@ -14,6 +14,7 @@ mod real;
 mod runs;
 mod seen;
 mod sessions;
+mod stored;
 mod text_writes;
 mod whole;
 mod writes;
@@ -60,6 +61,9 @@ const STEPS: &[Step] = &[
     }),
     ("sessions on real files, every edit at every place", |random, runs, _| real::sessions(random, runs)),
     ("the last record of journals in order and damaged", |random, runs, _| history::journals(random, runs, 20_000)),
+    ("small journals to blocks and back, with every damage", |random, runs, _| stored::small(random, runs)),
+    ("journals of sizes around the ends of blocks, and at the limits", |random, runs, _| stored::sizes(random, runs)),
+    ("journals to blocks and back, any calls", |random, runs, wanted| stored::calls(random, runs, wanted / 6)),
     ("journal records of every kind", |_, runs, _| limits::records(runs)),
     ("exact room in both buffers of a session", |_, runs, _| limits::room(runs)),
     ("calls of a session made wrongly, between pages that may not be touched", |_, runs, _| {

@@ -5,6 +5,7 @@
 
 #![forbid(unsafe_code)]
 
+pub mod blocks;
 pub mod book;
 pub mod calls;
 pub mod celllist;
@@ -27,6 +28,7 @@ pub mod words;
 pub mod write;
 pub mod write_text;
 
+pub use blocks::{from_blocks, to_blocks};
 pub use book::Book;
 pub use calls::{Call, State};
 pub use celllist::celllist;

@@ -1,6 +1,7 @@
 //! The numbers that a call can answer, and the place beside them.
 
-/// A refusal: its number, and the place of the element at fault.
+/// A refusal: its number, and the place of the element at fault; beside 22 the
+/// number of the block at fault.
 #[derive(Debug, Clone, PartialEq, Eq)]
 pub struct Refusal {
     pub number: u32,
@@ -36,6 +37,7 @@ pub const NOTHING: u32 = 17;
 pub const NOT_A_CELL: u32 = 18;
 pub const BAD_JOURNAL: u32 = 19;
 pub const FIELD: u32 = 20;
+pub const BLOCK: u32 = 22;
 
 /// A refusal at a place.
 pub(crate) fn at<T>(number: u32, place: u64) -> Result<T, Refusal> {

@@ -3,12 +3,14 @@
 //! The same seed always gives the same inputs. Files are small unless a
 //! function of `large` is asked.
 
+pub mod blocks;
 pub mod changes;
 pub mod elements;
 pub mod faults;
 pub mod files;
 pub mod journals;
 pub mod large;
+pub mod moves;
 pub mod places;
 pub mod random;
 pub mod sessions;

@@ -1,0 +1,14 @@
+pub mod Block
+pub mod Journal
+pub mod Answers
+pub mod Refusals
+pub mod Back
+pub mod Changed
+pub mod Zeros
+pub mod Turns
+pub mod Damage
+pub mod Joined
+pub mod Limit
+pub mod Loops
+pub mod Flat
+pub mod Ways
