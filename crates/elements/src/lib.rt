@@ -191,6 +191,17 @@ fn stored_name_ok(s: &[u8], at: usize, t: usize) -> bool
     true
 }
 
+// The fixed part of a header. All are worked out and one is picked: which type it is alternates.
+fn header_part(dim: usize, t: usize) -> usize
+    requires { ⌜ isHeader t ≡ true ⌝ }
+    ensures { λ r. ⌜ r ≡ fixedPart dim t 0 ⌝ }
+{
+    let cell = kinds::pick(dim == 2, 46, 62);
+    let node = kinds::pick(dim == 2, 35, 43);
+    let early = kinds::pick(t == 1, 35, kinds::pick(t == 2, cell, node));
+    kinds::pick(t < 12, early, kinds::pick(t < 18, 20, 21))
+}
+
 // The number of the first fault of a header, 0 where there is none.
 fn header_fault(
     s: &[u8],
@@ -212,7 +223,7 @@ fn header_fault(
     if size < 20 {
         return 7;
     }
-    let fixed = kinds::fixed_part(dim, t, 0);
+    let fixed = header_part(dim, t);
     if size < fixed {
         return 7;
     }

@@ -73,29 +73,21 @@ pub fn pick(first: bool, a: usize, b: usize) -> usize
     if first { a } else { b }
 }
 
-// The fixed part of a header. All are worked out and one is picked: which type it is alternates.
-fn header_part(dim: usize, t: usize) -> usize
-    requires { ⌜ isHeader t ≡ true ⌝ }
-    ensures { λ r. ⌜ r ≡ fixedPart dim t 0 ⌝ }
-{
-    let cell = pick(dim == 2, 46, 62);
-    let node = pick(dim == 2, 35, 43);
-    let early = pick(t == 1, 35, pick(t == 2, cell, node));
-    pick(t < 12, early, pick(t < 18, 20, 21))
-}
-
 // The fixed part of a type, in words, where n is the word that sizes it.
 pub fn fixed_part(dim: usize, t: usize, n: u16) -> usize
     ensures { λ r. ⌜ r ≡ fixedPart dim t n ⌝ }
 {
-    if is_header(t) {
-        return header_part(dim, t);
-    }
     let n = n as usize;
     match t {
+        1 => 35,
+        2 => pick(dim == 2, 46, 62),
         3 => pick(dim == 2, 26, 30),
         4 | 6 | 11 | 21 => pick(dim == 2, 19 + 4 * n, 19 + 6 * n),
+        7 => pick(dim == 2, 35, 43),
+        12 | 14 => 20,
         17 => texts::text_part(dim, n),
+        18 => 21,
+        19 => 21,
         _ => 2,
     }
 }

@@ -1,7 +1,9 @@
 // The own rules of a text: how long its fixed part is and whether its enter-data fields are right. Reads are total: what
 // stands beyond the slice is 0. The definitions are in specs/Texts.
 ghost use mathlib.Core.Path.{_≡_};
-ghost use Prim.Native.Nat.{_+_, _*_, _<_, _^_};
+ghost use mathlib.Core.Bool.{true};
+ghost use Prim.Native.Nat.{_+_, _*_, _/_, _<_, _^_};
+ghost use lib.ListN.{length};
 ghost use Rattle.words.specs.Words.{words};
 ghost use Rattle.texts.specs.Texts.{byteAt, countsWord, textPart, charactersIn, fieldsIn, fieldByte, fieldOk, eachFieldOk, fieldsOk};
 
@@ -49,15 +51,31 @@ pub fn field_ok(c: usize, first: usize, size: usize, justification: usize) -> bo
     justification < 2
 }
 
-// n fields of a text of c characters, from byte j of the slice on.
+// Byte k of the slice's words. Where `known` holds it is there, and is not tested for.
+fn known_byte(s: &[u8], k: usize, known: bool) -> usize
+    requires { ⌜ (known ≡ true → k / 2 < length (now s) / 2) ⌝ }
+    ensures { λ r. ⌜ r ≡ byteAt (words (now (s .entry))) 0 k ⌝ }
+{
+    if known {
+        return s[k] as usize;
+    }
+    byte(s, k)
+}
+
+// n fields of a text of c characters, from byte j of the slice on. Whether all bytes are there is asked once: the compiler
+// then makes a loop without that test.
 fn each_field_ok(s: &[u8], n: usize, c: usize, j: usize) -> bool
     requires { ⌜ j + 3 * n < 2 ^ 64 ⌝ }
     ensures { λ r. ⌜ r ≡ eachFieldOk n c (words (now (s .entry))) 0 j ⌝ }
 {
+    let known = j + 3 * n <= s.len() / 2 * 2;
     let mut left = n;
     let mut here = j;
     while left != 0 {
-        if !field_ok(c, byte(s, here), byte(s, here + 1), byte(s, here + 2)) {
+        let first = known_byte(s, here, known);
+        let size = known_byte(s, here + 1, known);
+        let justification = known_byte(s, here + 2, known);
+        if !field_ok(c, first, size, justification) {
             return false;
         }
         here += 3;

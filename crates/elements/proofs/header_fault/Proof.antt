@@ -40,7 +40,7 @@ from-5 c = from-4 (c .before .before)
 sized : (c : tie.Else3) → fixedOk (from-3 c .args .dim) (words (from-3 c .args .s .now)) (from-3 c .args .at) ≡ true
 sized c =
     let a = from-3 c in
-    header-fixed (a .args .dim) (words (a .args .s .now)) (a .args .at) (a .args .t) (a .args .size) (a .pre .0 .0) (a .pre .0 .1) _ (c .before .fixed-part .ensures) (a .pre .1 .0) (c .if3 .left)
+    header-fixed (a .args .dim) (words (a .args .s .now)) (a .args .at) (a .args .t) (a .args .size) (a .pre .0 .0) (a .pre .0 .1) _ (c .before .header-part .ensures) (a .pre .1 .0) (c .if3 .left)
 
 -- what extent_ok and linkages_ok answer are the checks 8 and 11
 extended : (c : tie.After-extent-ok) → c .extent-ok .result ≡ extentOk (words (from-3 (c .before) .args .s .now)) (from-3 (c .before) .args .at) (from-3 (c .before) .args .room)
@@ -53,7 +53,7 @@ linked : (c : tie.After-linkages-ok) → c .linkages-ok .result ≡ linkagesOk (
 linked c =
     let a = from-4 (c .before) in
     c .linkages-ok .ensures (a .args .dim)
-    (header-part (a .args .dim) (words (a .args .s .now)) (a .args .at) (a .args .t) (a .args .size) (a .pre .0 .0) (a .pre .0 .1) _ (c .before .before .before .before .fixed-part .ensures) (a .pre .1 .0))
+    (header-part (a .args .dim) (words (a .args .s .now)) (a .args .at) (a .args .t) (a .args .size) (a .pre .0 .0) (a .pre .0 .1) _ (c .before .before .before .before .header-part .ensures) (a .pre .1 .0))
 
 -- to-k: the first fault is that of the checks after the first k, once these passed
 to-1 : (c : tie.Else1) {n : ℕ} → First (drop 1 (of (from-1 c))) n → First (of (from-1 c)) n
@@ -83,13 +83,13 @@ returns-2 c =
     let least = header-long (a .args .dim) (a .args .t) 0 (a .pre .1 .0) in
     first (of a) (to-1 (c .before) (stop (header-short (a .args .dim) (words (a .args .s .now)) (a .args .at) (a .args .t) (a .args .size) (a .pre .0 .0) (a .pre .0 .1) _ refl (a .pre .1 .0) (omega arith))))
 
-fixed-part-requires : tie.Need-fixed-part-requires
-fixed-part-requires c κs = tt
+header-part-requires : tie.Need-header-part-requires
+header-part-requires c κs = from-2 c .pre .1 .0
 
 returns-3 : tie.Need-returns-3
 returns-3 c =
     let a = from-2 (c .before .before) in
-    first (of a) (to-1 (c .before .before .before) (stop (header-short (a .args .dim) (words (a .args .s .now)) (a .args .at) (a .args .t) (a .args .size) (a .pre .0 .0) (a .pre .0 .1) _ (c .before .fixed-part .ensures) (a .pre .1 .0) (c .if3 .taken))))
+    first (of a) (to-1 (c .before .before .before) (stop (header-short (a .args .dim) (words (a .args .s .now)) (a .args .at) (a .args .t) (a .args .size) (a .pre .0 .0) (a .pre .0 .1) _ (c .before .header-part .ensures) (a .pre .1 .0) (c .if3 .taken))))
 
 extent-ok-requires : tie.Need-extent-ok-requires
 extent-ok-requires c κs = let n = c .before .before .if2 .left in let b = from-3 c .pre .1 .1 in omega arith
@@ -124,7 +124,7 @@ header-fault-spec =
     may-stand-requires
     returns
     returns-2
-    fixed-part-requires
+    header-part-requires
     returns-3
     extent-ok-requires
     returns-4

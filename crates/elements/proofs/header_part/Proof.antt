@@ -1,8 +1,8 @@
 -- What is picked is `header-fixed`.
 use mathlib.Core.Path.{_∙_}
 use Rattle.kinds.proofs.Types.{header-fixed}
-use Rattle.kinds.proofs.header_part.Statement.{statement}
-use Rattle.kinds.proofs.header_part.Tie as tie
+use Rattle.elements.proofs.header_part.Statement.{statement}
+use Rattle.elements.proofs.header_part.Tie as tie
 
 pick-requires : tie.Need-pick-requires
 pick-requires c κs = tt
