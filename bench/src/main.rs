@@ -1,11 +1,12 @@
 //! The bench: checks that all answer alike, measures them in turn and prints tables of ratios.
-//! `bench FOLDER [ROUNDS]`: FOLDER takes the files that the programs read and write.
+//! `bench FOLDER [ROUNDS [many]]`: FOLDER takes the files that the programs read and write; with `many` the table of many files alone.
 
 mod blocks;
 mod calls;
 mod checks;
 mod edits;
 mod inputs;
+mod many;
 mod programs;
 mod reading;
 mod tables;
@@ -18,9 +19,12 @@ const ROOT: &str = concat!(env!("CARGO_MANIFEST_DIR"), "/..");
 
 fn main() {
     let mut arguments = std::env::args().skip(1);
-    let folder = arguments.next().expect("bench FOLDER [ROUNDS]");
+    let folder = arguments.next().expect("bench FOLDER [ROUNDS [many]]");
     let rounds: usize = arguments.next().map_or(301, |n| n.parse().expect("a number of rounds"));
 
+    if arguments.next().as_deref() == Some("many") {
+        return many::table(&folder, rounds);
+    }
     let all: Vec<Input> = KINDS.iter().map(|&kind| make(kind, 1024 * KIB, 1)).collect();
     let mut checked = checks::Checked::default();
     for input in &all {
@@ -42,4 +46,5 @@ fn main() {
     programs::listing(&folder, rounds);
     reading::growth(1 + rounds / 3);
     programs::beside_gdal(&folder, 1 + rounds / 10);
+    many::table(&folder, 1 + rounds / 30);
 }

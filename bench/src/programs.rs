@@ -12,7 +12,7 @@ use std::fs::File;
 use std::process::{Command, Stdio};
 
 /// A process that reads one file as its standard input and writes another.
-struct Program {
+pub struct Program {
     path: String,
     arguments: Vec<String>,
     input: String,
@@ -27,7 +27,7 @@ impl Program {
     }
 
     /// What it writes.
-    fn listed(&self) -> Vec<u8> {
+    pub fn listed(&self) -> Vec<u8> {
         let output = self.command().output().expect("a program");
         assert!(output.status.success(), "{}", self.path);
         output.stdout
@@ -48,7 +48,7 @@ impl Measured for Program {
 }
 
 /// A program by its path and arguments, the folder of its files and its input.
-fn program(path: &str, arguments: &[&str], folder: &str, input: &str) -> Program {
+pub fn program(path: &str, arguments: &[&str], folder: &str, input: &str) -> Program {
     Program {
         path: path.to_string(),
         arguments: arguments.iter().map(|a| a.to_string()).collect(),

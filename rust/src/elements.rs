@@ -82,6 +82,13 @@ pub struct Bounds {
     pub high: [i64; 3],
 }
 
+impl Bounds {
+    /// Both corners in the coordinates of points, where the range is right.
+    pub fn corners(&self) -> [[i64; 3]; 2] {
+        [self.low, self.high].map(|corner| corner.map(|number| number - 0x8000_0000))
+    }
+}
+
 /// Words 14 to 17 of the known types other than 1.
 #[derive(Clone, Copy, PartialEq, Eq, Hash, Debug, Default)]
 pub struct DisplayHeader {

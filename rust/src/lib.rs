@@ -46,6 +46,8 @@ pub mod raw;
 mod reading;
 mod refusals;
 mod sessions;
+#[cfg(target_os = "linux")]
+pub mod system;
 mod texts;
 mod whole;
 mod writing;
@@ -73,3 +75,6 @@ pub const BLOCK_JOURNAL: usize = 508;
 
 /// The most bytes of a stored journal.
 pub const STORED_BYTES: usize = 1_057_280;
+
+/// The end marker, as it stands in a file.
+pub const END_MARKER: [u8; 2] = [0xff, 0xff];

@@ -63,6 +63,11 @@ fn one_element() {
     assert_eq!(dgn::point(&file, TWO, 46, 1), Ok(Point { x: 65538, y: 7, z: 0 }));
     assert_eq!(dgn::point(&file, TWO, 46, 2), Err(refused(Number::NoSuch, 0)));
     assert_eq!(dgn::linkage(&file, TWO, 46, 0), Err(refused(Number::NoSuch, 0)));
+    // its range is that of its two points
+    let file = sample("nested.dgn");
+    let corners = dgn::view(&file, TWO, 284).unwrap().bounds.unwrap().corners();
+    let [low, high] = [0, 1].map(|k| dgn::point(&file, TWO, 284, k).unwrap());
+    assert_eq!(corners, [low, high].map(|point| [point.x, point.y, point.z].map(i64::from)));
     // the line of samples/nested.dgn with a linkage of four words
     let Linkage { kind, place, size, .. } = dgn::linkage(&sample("nested.dgn"), TWO, 284, 0).unwrap();
     assert_eq!((kind, place, size), (LinkageKind::User, 310, 4));
@@ -88,6 +93,10 @@ fn views_in_parts() {
         }
         assert_eq!(got, all);
     }
+    let mut numbers = vec![0; 32 * all.len()];
+    let cells: Vec<_> = dgn::views(&file, TWO, 0, &mut numbers).unwrap().cells().collect();
+    let named: Vec<_> = all.iter().filter_map(|view| view.name.map(|name| (view.place, name))).collect();
+    assert_eq!(cells, named);
     let room = |k: usize, room: usize| dgn::views(&file, TWO, k, &mut vec![7; room]).map(|part| part.len());
     assert_eq!(room(8, 31), Err(refused(Number::Room, 0)));
     assert_eq!(room(9, 31), Ok(0));

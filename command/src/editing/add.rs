@@ -1,0 +1,78 @@
+//! `add`: a part copied from another library.
+
+use crate::arguments::Arguments;
+use crate::disk::place::Stop as Halt;
+use crate::editing::{self, insert, Edit, Target, ALLOW_DOUBLE, DRY_RUN, NEW_HISTORY, WAIT};
+use crate::files;
+use crate::help::{Choice, Subcommand};
+use crate::output::{self, Output, Stop};
+use crate::parts::{self, Which};
+use std::ffi::OsStr;
+
+/// The subcommand.
+pub const SUBCOMMAND: Subcommand = Subcommand {
+    name: "add",
+    usages: &["FILE --from OTHER CODE|PLACE"],
+    about: "copy a part from another library",
+    text: "\
+The part is copied from OTHER, with all beneath it, to the end of FILE; OTHER stays as it is and is read with FILE's dimension. A \
+code that FILE has already is refused with its places.
+
+With --tsv: file, 2D or 3D, number of the step, made or would be made, words of the command.",
+    choices: &[
+        Choice { long: "from", short: None, value: Some("OTHER"), text: "The library to copy from." },
+        ALLOW_DOUBLE,
+        DRY_RUN,
+        NEW_HISTORY,
+        WAIT,
+    ],
+    words: (2, 2),
+    instead: None,
+    run,
+};
+
+/// The words of the part in the other library, and what they are.
+fn part(
+    target: &Target,
+    name: &OsStr,
+    bytes: &[u8],
+    which: &Which,
+    output: &mut Output,
+) -> Result<(Vec<u8>, Option<String>, String), Halt> {
+    let from = output::name(name);
+    let dimension = target.dimension;
+    let judged = dgn::judge(bytes, dimension);
+    let judged = judged.map_err(|refusal| {
+        let (taken, numbers) = (files::shown(dimension), editing::numbers(refusal));
+        Halt::Refused(format!(
+            "{from}: refused as {taken}, which the file to be edited is ({numbers}); dgn check says more"
+        ))
+    })?;
+    let other = Target { bytes, dimension, marker: judged.marker };
+    let place =
+        parts::one(bytes, dimension, judged.marker, which).map_err(|why| Halt::Refused(format!("{from}: {why}")))?;
+    let extent = dgn::extent(bytes, dimension, place).map_err(|refusal| Halt::Refused(format!("{from}: {refusal}")))?;
+    let cell = other.parts().into_iter().find(|part| part.place == place);
+    if cell.as_ref().is_some_and(|part| part.deleted) {
+        output.warning(format_args!("{from}: the part is marked deleted, and is so in the copy"));
+    }
+    let piece = bytes[2 * extent.start..2 * extent.end].to_vec();
+    Ok((piece, cell.map(|part| part.code), other.named(place)))
+}
+
+fn run(arguments: &Arguments, output: &mut Output) -> Result<(), Stop> {
+    let [_, named] = &arguments.words[..] else { return Err(Stop::usage("two words")) };
+    let Some(from) = arguments.value("from") else { return Err(Stop::of(&SUBCOMMAND, "--from OTHER is missing")) };
+    let which = parts::which(named)?;
+    let Some(bytes) = insert::read(from, output) else { return Ok(()) };
+    let words = editing::words("add", &["--from".as_ref(), from, named]);
+    editing::edit(arguments, output, words, |target, output| {
+        let (piece, code, about) = part(target, from, &bytes, &which, output)?;
+        if let Some(code) = code {
+            target.single(&code, arguments)?;
+        }
+        let marker = target.marker;
+        let about = format!("{about} of {} added at @{marker}", output::name(from));
+        Ok(Edit::new(about, move |session| session.insert(None, marker, &piece)))
+    })
+}

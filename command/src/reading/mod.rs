@@ -1,0 +1,14 @@
+//! The subcommands that read.
+
+pub mod check;
+pub mod checked;
+pub mod compare;
+pub mod differences;
+pub mod extract;
+pub mod find;
+pub mod list;
+pub mod names;
+pub mod parts;
+pub mod show;
+pub mod text;
+pub mod tree;
