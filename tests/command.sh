@@ -176,7 +176,18 @@ check "no permission is told" prints "^secret.cel: cannot be read: Permission de
 check "no permission: a file to list" ends 3 "${as[@]}" list secret.cel
 check "no permission: a folder" ends 3 "${as[@]}" check closed samples/seals.cel
 check "no permission: a folder is told" prints "^closed: cannot be read: Permission denied$"
-mkdir shut && chmod 555 shut
+mkdir shut owned && cp samples/seals.cel shut && cp samples/seals.cel owned && chmod 666 owned/seals.cel && chmod 777 owned
+if [ "$(id -u)" -eq 0 ]; then
+    chown 65534:65534 shut/seals.cel
+    for option in --dry-run --quiet; do
+        check "another's file, $option" ends 3 "${as[@]}" rename owned/seals.cel 417 418 $option
+        check "another's file, $option: who may edit it is told" says "belongs to the user root .*its owner edits it"
+    done
+    check "another's file: a name is left" test "$(ls owned)" = seals.cel
+fi
+chmod 555 shut
+check "no permission: a folder, dry run" ends 3 "${as[@]}" rename shut/seals.cel 417 418 --dry-run
+check "no permission: a folder, dry run, is told" says "cannot write the folder of shut/seals.cel: Permission denied"
 check "no permission: a file to write" ends 3 "${as[@]}" extract samples/seals.cel 417 -o shut/out
 
 # extract never writes over a file, and leaves none where it fails

@@ -2,13 +2,14 @@
 
 use crate::arguments::Arguments;
 use crate::faults;
-use crate::output::{self, Output};
+use crate::output::{self, Output, Stop};
 use crate::parts::{self, Part, Which};
 use crate::words::{self, Refused};
 use dgn::{Dimension, Judged, Refusal, Type, FILE_BYTES};
 use std::ffi::OsStr;
 use std::fs::{File as Opened, Metadata, OpenOptions};
 use std::io::{self, Read};
+use std::os::unix::ffi::OsStrExt;
 use std::os::unix::fs::{MetadataExt, OpenOptionsExt};
 
 /// Why a file cannot be read.
@@ -100,6 +101,20 @@ impl Buffer {
         }
         Ok(())
     }
+}
+
+/// Refuses a name to write to that the log of a file has, or would have.
+pub fn free_of_logs(out: &OsStr) -> Result<(), Stop> {
+    match has_log_name(out) {
+        true => Err(Stop::Usage(format!("{}: this name is that of a log; give another", output::name(out)))),
+        false => Ok(()),
+    }
+}
+
+/// Whether a name is one that a log, or what a step writes, has.
+pub fn has_log_name(path: &OsStr) -> bool {
+    let name = std::path::Path::new(path).file_name().unwrap_or_default();
+    name.as_bytes().windows(7).any(|part| part == b".dgnlog")
 }
 
 /// Why a dimension was taken.

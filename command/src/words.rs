@@ -41,13 +41,15 @@ impl Refused<'_> {
             Number::Place if beneath => "an element in a cell or other header is not marked as belonging to one",
             Number::Place => "an element that is marked as belonging to a cell or other header stands in none",
             Number::Kind => "an element of this type may not stand here or cannot be read",
-            Number::Short => "an element is too short for its type, or its number of points is not 2 to 101",
+            Number::Short => "an element is too short for what it holds, or its number of points is not 2 to 101",
             Number::Total => "a length does not fit the element or what is around it, or is above 65,535 words",
             Number::Count => "an element counts other components than it has",
             Number::Deep => "cells stand in each other deeper than 8",
             Number::Linkage => "the attributes of an element are damaged",
             Number::Name => "the name of a cell has a letter that no part code can have",
-            Number::Field => "an enter-data field of a text is not within its characters",
+            Number::Field => {
+                "an enter-data field of a text is not within its characters, or its justification is wrong"
+            }
             other => other.text(),
         }
     }
@@ -69,7 +71,7 @@ impl Refused<'_> {
             Number::Reserved => "it is damaged from here on: fetch it again, or return it to its maker",
             Number::Place => "return it to its maker: the part before has a wrong length, or the element a wrong mark",
             Number::Kind => "ask its maker for a file without B-splines and rasters",
-            Number::Short => "return it to its maker, who splits a line string of more than 101 points",
+            Number::Short => "return it to its maker, who saves this element anew; a line string of more than 101 points is to be split",
             Number::Total => "fetch it again; still refused: its maker divides a part that is too large, or saves it anew",
             Number::Count => "a component was lost or added: return it to its maker",
             Number::Deep => "have its maker dissolve the innermost cells",

@@ -67,11 +67,18 @@ fn two_parts_that_take_each_others_names() {
 
 #[test]
 fn a_part_deleted() {
-    let (seen, _) = seen("samples/seals.cel", |session| session.mark(286, true).expect("an element"));
-    let gone = |place| (Relation::OnlyA, Some(place), None);
-    let come = |place| (Relation::OnlyB, None, Some(place));
     let changed = (Relation::Changed, Some(286), Some(286));
-    assert_eq!(seen, [changed, gone(321), gone(360), come(321), come(360)]);
+    let (whole, _) = seen("samples/seals.cel", |session| session.mark(286, true).expect("an element"));
+    assert_eq!(whole, [changed]);
+    let (one, _) = seen("samples/seals.cel", |session| session.mark(321, true).expect("an element"));
+    assert_eq!(one, [changed]);
+    // a mark and something else: what is beneath is compared
+    let (both, _) = seen("samples/seals.cel", |session| {
+        session.mark(321, true).expect("an element");
+        session.remove(360).expect("an element");
+    });
+    let gone = |place| (Relation::OnlyA, Some(place), None);
+    assert_eq!(both, [changed, gone(321), gone(360), (Relation::OnlyB, None, Some(321))]);
 }
 
 #[test]

@@ -73,3 +73,13 @@ fn another_dimension_does_not_follow() {
     let next = Log { dimension: Dimension::Three, ..next(&log, &[b"x"], |session| session.mark(0, true)) };
     assert!(!log.followed_by(&next));
 }
+
+#[test]
+fn beginnings() {
+    let bytes = Log::new(Dimension::Two, sample()).encode().unwrap();
+    for length in [0, 1, 7, 8, 9, 512, bytes.len()] {
+        assert!(Log::begins(&bytes[..length]));
+    }
+    assert!(Log::begins(&[0; 3]) && Log::begins(&[&[0; 512][..], b"behind"].concat()));
+    assert!(!Log::begins(b"precious") && !Log::begins(b"DGNLOG 2") && !Log::begins(&[&[0; 511][..], b"x"].concat()));
+}

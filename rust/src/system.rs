@@ -1,5 +1,5 @@
-//! Calls of Linux that the standard library does not have: two names exchanged, extended attributes, the user. None of
-//! them has to do with design files; they stand here so that a program over these bindings needs no unsafe code.
+//! Calls of Linux that the standard library does not have: two names exchanged, the right to write, extended attributes, the
+//! user. None of them has to do with design files; they stand here so that a program over these bindings needs no unsafe code.
 
 use std::ffi::{c_char, c_int, c_uint, c_void, CStr, CString, OsStr, OsString};
 use std::fs::File;
@@ -38,9 +38,13 @@ extern "C" {
     fn fgetxattr(file: c_int, name: *const c_char, value: *mut c_void, size: usize) -> isize;
     fn fsetxattr(file: c_int, name: *const c_char, value: *const c_void, size: usize, flags: c_int) -> c_int;
     fn fremovexattr(file: c_int, name: *const c_char) -> c_int;
+    fn access(path: *const c_char, mode: c_int) -> c_int;
     fn getuid() -> c_uint;
     fn getpwuid_r(user: c_uint, entry: *mut Entry, room: *mut c_char, size: usize, found: *mut *mut Entry) -> c_int;
 }
+
+/// The rights to write and to enter, which a new name in a folder needs.
+const WRITE_AND_ENTER: c_int = 2 + 1;
 
 fn text(of: &OsStr) -> io::Result<CString> {
     CString::new(of.as_bytes()).map_err(|_| io::ErrorKind::InvalidInput.into())
@@ -52,6 +56,13 @@ fn made(answer: c_int) -> io::Result<()> {
         0 => Ok(()),
         _ => Err(io::Error::last_os_error()),
     }
+}
+
+/// Whether this user may make and remove names in a folder; else why not.
+pub fn may_write(folder: &Path) -> io::Result<()> {
+    let folder = text(folder.as_os_str())?;
+    // SAFETY: the text ends with a zero, and the call only reads it
+    made(unsafe { access(folder.as_ptr(), WRITE_AND_ENTER) })
 }
 
 /// Exchanges two names: what was called `a` is then called `b`, and what was `b` is `a`. Both have to be there. At no

@@ -1,4 +1,4 @@
-//! The calls of Linux: names exchanged, extended attributes, the user.
+//! The calls of Linux: names exchanged, the right to write, extended attributes, the user.
 
 use dgn::system;
 use std::ffi::OsStr;
@@ -43,6 +43,15 @@ fn attributes_kept() {
     }
     assert!(!system::attributes(&file).unwrap().iter().any(|found| found == name));
     assert!(system::attribute(&file, name).is_err() && system::remove_attribute(&file, name).is_err());
+    fs::remove_dir_all(&folder).unwrap();
+}
+
+#[test]
+fn folders_to_write() {
+    let folder = folder("write");
+    system::may_write(&folder).unwrap();
+    assert_eq!(system::may_write(&folder.join("none")).unwrap_err().kind(), std::io::ErrorKind::NotFound);
+    assert!(system::may_write(&folder.join("with\0zero")).is_err());
     fs::remove_dir_all(&folder).unwrap();
 }
 

@@ -113,6 +113,12 @@ impl Log {
         Some([front, behind].concat())
     }
 
+    /// Whether bytes begin as a log does, or a part of one that was cut off: with nothing, or with a sector not yet written.
+    pub fn begins(bytes: &[u8]) -> bool {
+        let first = &bytes[..bytes.len().min(MAGIC.len())];
+        MAGIC.starts_with(first) || bytes.iter().take(BLOCK).all(|&byte| byte == 0)
+    }
+
     /// The log of its bytes, or what is damaged.
     pub fn decode(bytes: &[u8]) -> Result<Log, String> {
         let all = bytes.len() / BLOCK;

@@ -1,11 +1,11 @@
 //! A folder that is locked, and in it a file with the names of its log.
 
+use crate::files::{has_log_name, Unread};
 use crate::output::{self, Output};
 use dgn::{system, FILE_BYTES};
 use std::ffi::{OsStr, OsString};
 use std::fs::{self, File, Metadata, OpenOptions, Permissions, TryLockError};
 use std::io::{self, ErrorKind, Read, Write};
-use std::os::unix::ffi::OsStrExt;
 use std::os::unix::fs::{fchown, MetadataExt, OpenOptionsExt, PermissionsExt};
 use std::path::{Path, PathBuf};
 use std::time::{Duration, Instant};
@@ -13,6 +13,9 @@ use std::time::{Duration, Instant};
 // of Linux on x86-64, for which the archive is made: a link is not followed, and a pipe is not waited for
 const NO_FOLLOW: i32 = 0o400000;
 const NO_WAIT: i32 = 0o4000;
+
+/// The most bytes of a name.
+const NAME_BYTES: usize = 255;
 
 /// The most bytes of a log: five parts in blocks.
 const LOG_BYTES: u64 = 8 * FILE_BYTES as u64;
@@ -112,6 +115,28 @@ fn attributes(file: &File) -> io::Result<Vec<(OsString, Vec<u8>)>> {
     names.into_iter().map(|name| system::attribute(file, &name).map(|value| (name, value))).collect()
 }
 
+/// The whole name of a file that is not there, in a folder that is.
+fn absent(path: &OsStr) -> Option<PathBuf> {
+    let whole = std::path::absolute(path).ok()?;
+    Some(fs::canonicalize(whole.parent()?).ok()?.join(whole.file_name()?))
+}
+
+/// Whether this process may give a file to the owner and the group of another: by the rights that the system tells of it. Where
+/// it tells none it is tried.
+fn may_give(like: &Metadata, folder: &Metadata) -> bool {
+    let Ok(status) = fs::read_to_string("/proc/self/status") else { return true };
+    let numbers = |name: &str| -> Vec<u32> {
+        let line = status.lines().find_map(|line| line.strip_prefix(name)).unwrap_or("");
+        line.split_whitespace().filter_map(|word| word.parse().ok()).collect()
+    };
+    let rights = status.lines().find_map(|line| line.strip_prefix("CapEff:")).unwrap_or("0").trim();
+    let may_all = u64::from_str_radix(rights, 16).is_ok_and(|rights| rights & 1 == 1);
+    let (users, groups) = (numbers("Uid:"), [numbers("Gid:"), numbers("Groups:")].concat());
+    // a folder with the bit for it gives its own group to a new file
+    let given = folder.mode() & 0o2000 != 0 && folder.gid() == like.gid();
+    may_all || (users.get(1) == Some(&like.uid()) && (given || groups.contains(&like.gid())))
+}
+
 /// The name with more behind it.
 fn longer(name: &OsStr, end: &str) -> OsString {
     let mut longer = name.to_os_string();
@@ -120,13 +145,22 @@ fn longer(name: &OsStr, end: &str) -> OsString {
 }
 
 impl Place {
-    /// Follows symbolic links, once, and locks the folder of the file that they lead to, for which it waits so long.
-    pub fn open(path: &OsStr, wait: Duration, output: &mut Output) -> Result<Place, Stop> {
-        let real = fs::canonicalize(path).map_err(system("find", path))?;
-        let (Some(above), Some(file)) = (real.parent(), real.file_name()) else {
-            return Err(Stop::Refused(format!("{} is a folder", output::name(path))));
+    /// Follows symbolic links, once, and locks the folder of the file that they lead to, for which it waits so long. With
+    /// `missing` the file need not be there.
+    pub fn open(path: &OsStr, wait: Duration, missing: bool, output: &mut Output) -> Result<Place, Stop> {
+        let real = match fs::canonicalize(path) {
+            Err(why) if missing && why.kind() == ErrorKind::NotFound => absent(path).ok_or(why),
+            found => found,
         };
-        if file.as_bytes().windows(7).any(|part| part == b".dgnlog") {
+        let real = real.map_err(system("find", path))?;
+        let unread = |why: Unread| Stop::System(format!("{} cannot be read: {why}", output::name(path)));
+        match fs::metadata(&real) {
+            Ok(data) if data.is_dir() => return Err(unread(Unread::Folder)),
+            Ok(data) if !data.is_file() => return Err(unread(Unread::Special)),
+            _ => {}
+        }
+        let (Some(above), Some(file)) = (real.parent(), real.file_name()) else { return Err(unread(Unread::Folder)) };
+        if has_log_name(file) {
             return Err(Stop::Usage(format!("{} belongs to a log; name the file beside it", output::name(path))));
         }
         let is_link = fs::symlink_metadata(path).is_ok_and(|data| data.is_symlink());
@@ -142,6 +176,13 @@ impl Place {
         lock(&folder, path, wait)?;
         let log = longer(file, ".dgnlog");
         let path = if is_link { real.clone() } else { path.into() };
+        if log.len() + ".next".len() > NAME_BYTES {
+            let most = NAME_BYTES - ".dgnlog.next".len();
+            return Err(Stop::Refused(format!(
+                "the name of {} is too long for a log beside it: rename the file, to at most {most} bytes",
+                output::name(&path)
+            )));
+        }
         Ok(Place { folder, path, file: file.into(), next: longer(&log, ".next"), new: longer(&log, ".new"), log })
     }
 
@@ -218,6 +259,36 @@ impl Place {
         }
     }
 
+    /// Refuses a step on a file that cannot be replaced by a new one of the same owner, as far as that can be seen before.
+    pub fn may_replace(&self, seen: &Seen) -> Result<(), Stop> {
+        let name = self.shown(&self.file);
+        // a second name that a step left, which the next one takes away, is none
+        let own = fs::symlink_metadata(&self.new).is_ok_and(|new| (new.dev(), new.ino()) == seen.number());
+        let names = seen.data.nlink().saturating_sub(own.into());
+        if names != 1 {
+            return Err(Stop::Refused(format!(
+                "{name} has {names} names (hard links), which a step would part: edit a copy of it, or remove its other names"
+            )));
+        }
+        system::may_write(Path::new(".")).map_err(self.system("write the folder of", &self.file))?;
+        let folder = self.folder.metadata().map_err(self.system("read the folder of", &self.file))?;
+        if !may_give(&seen.data, &folder) {
+            return Err(Stop::System(self.told_owner(seen)));
+        }
+        Ok(())
+    }
+
+    /// That the file's owner cannot be kept, and who may edit it.
+    fn told_owner(&self, seen: &Seen) -> String {
+        let (user, group) = (seen.data.uid(), seen.data.gid());
+        let owner = system::user_name(user).map_or(user.to_string(), |owner| output::name(&owner));
+        format!(
+            "{} belongs to the user {owner} (group {group}), and a step could not keep that: its owner edits it, where the owner is in \
+            that group, or root; or edit a copy of your own",
+            self.shown(&self.file)
+        )
+    }
+
     /// Writes a new file with the mode, the owner and the extended attributes of the one that was seen, and makes it durable.
     pub(super) fn put(&self, name: &OsStr, bytes: &[u8], like: &Seen) -> Result<(), Stop> {
         let created = OpenOptions::new().write(true).create_new(true).mode(0o600).open(name);
@@ -226,7 +297,7 @@ impl Place {
         let own = file.metadata().map_err(self.system("read", name))?;
         if (own.uid(), own.gid()) != (like.data.uid(), like.data.gid()) {
             fchown(&file, Some(like.data.uid()), Some(like.data.gid()))
-                .map_err(self.system("give the file's owner to", name))?;
+                .map_err(|why| Stop::System(format!("{} ({})", self.told_owner(like), output::reason(&why))))?;
         }
         dress(&file, like).map_err(self.system("give the file's extended attributes to", name))?;
         // last: a change of the owner or of an access list changes the mode too

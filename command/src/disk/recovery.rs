@@ -5,6 +5,7 @@ use crate::disk::place::{Place, Seen, Stop};
 use crate::disk::session::undone;
 use crate::output::Output;
 use dgn::system::exchange;
+use std::ffi::{OsStr, OsString};
 use std::fs;
 
 /// A file and its log.
@@ -15,6 +16,16 @@ pub struct Session {
     pub log: Option<Log>,
     /// What is wrong where the file is not as the last step left it: another program changed it.
     pub changed: Option<String>,
+}
+
+/// A log without its file.
+pub struct Alone {
+    /// The log; none where there is none yet.
+    pub log: Option<Log>,
+    /// What is wrong where the file is not as the last step left it.
+    pub changed: Option<String>,
+    /// Whether the file is there.
+    pub is_there: bool,
 }
 
 /// What stands there.
@@ -33,6 +44,24 @@ enum Verdict {
     Changed(String),
 }
 
+/// What is left under the names of a step.
+struct Left {
+    /// The bytes of the next log, where it begins as one.
+    next: Option<Vec<u8>>,
+    /// Whether there is a new file, and it is a step's: it stands beside a next log, or has bytes that a step leaves.
+    new: bool,
+    /// Names that are there and not known as a step's.
+    others: Vec<OsString>,
+}
+
+/// All that stands there.
+struct Looked {
+    seen: Seen,
+    log: Option<Log>,
+    left: Left,
+    verdict: Verdict,
+}
+
 impl Place {
     /// The log's content.
     fn log_of(&self) -> Result<Option<(Vec<u8>, Log)>, Stop> {
@@ -46,25 +75,48 @@ impl Place {
         }
     }
 
+    /// What stands under the two names of a step, and which of it is a step's.
+    fn left(&self, seen: &Seen, log: Option<&Log>) -> Result<Left, Stop> {
+        let own = |name: &OsStr| fs::symlink_metadata(name).is_ok_and(|data| data.is_file());
+        let next = if own(&self.next) { self.read_log(&self.next)?.filter(|bytes| Log::begins(bytes)) } else { None };
+        let new = own(&self.new)
+            && (next.is_some()
+                || match self.read(&self.new, false) {
+                    Ok(new) => new.number() == seen.number() || known(&new.bytes, seen, log),
+                    Err(Stop::Refused(_)) => false,
+                    Err(stop) => return Err(stop),
+                });
+        let mut others = Vec::new();
+        for (name, is_own) in [(&self.new, new), (&self.next, next.is_some())] {
+            if Place::has(name) && !is_own {
+                others.push(name.clone());
+            }
+        }
+        Ok(Left { next, new, others })
+    }
+
     /// Looks at what stands there and judges it; touches nothing.
-    fn look(&self, to_write: bool) -> Result<(Seen, Option<Log>, Verdict), Stop> {
+    fn look(&self, to_write: bool) -> Result<Looked, Stop> {
         let seen = self.read(&self.file, to_write)?;
         let found = self.log_of()?;
+        let left = self.left(&seen, found.as_ref().map(|(_, log)| log))?;
         let Some((bytes, log)) = found else {
-            let left = Place::has(&self.next) || Place::has(&self.new);
-            let verdict = if left { Verdict::Dropped("the first one".into()) } else { Verdict::InStep };
-            return Ok((seen, None, verdict));
+            let verdict = match left.next.is_some() || left.new {
+                true => Verdict::Dropped("the first one".into()),
+                false => Verdict::InStep,
+            };
+            return Ok(Looked { seen, log: None, left, verdict });
         };
-        let next = self.read_log(&self.next)?;
-        let following = next.as_deref().and_then(|next| Log::decode(next).ok()).filter(|next| log.followed_by(next));
+        let decoded = left.next.as_deref().and_then(|next| Log::decode(next).ok());
+        let following = decoded.filter(|next| log.followed_by(next));
         let words = |log: &Log| log.steps.last().map_or(String::new(), |step| step.shown());
         let verdict = if seen.bytes == log.image {
-            match (&next, &following) {
+            match (&left.next, &following) {
                 // a second name of the log is what is left of its rename
                 (Some(next), _) if *next == bytes => Verdict::Left,
                 (Some(_), Some(next)) => Verdict::Dropped(words(next)),
                 (Some(_), None) => Verdict::Dropped("not yet written down".into()),
-                (None, _) if Place::has(&self.new) => Verdict::Left,
+                (None, _) if left.new => Verdict::Left,
                 (None, _) => Verdict::InStep,
             }
         } else {
@@ -80,7 +132,7 @@ impl Place {
                 None => Verdict::Changed(self.told_change(&seen, &log)),
             }
         };
-        Ok((seen, Some(log), verdict))
+        Ok(Looked { seen, log: Some(log), left, verdict })
     }
 
     /// Whether the name of the new file holds something else than the file before the step: since the step was made by
@@ -108,24 +160,41 @@ impl Place {
     }
 
     /// Brings file and log in step, and says what became of a step that was cut off. The file is never written; it is put back
-    /// where another program had changed it just before the step.
+    /// where another program had changed it just before the step. What is not known as a step's is never removed: with
+    /// `to_write` it is kept under another name.
     pub fn settle(&self, to_write: bool, output: &mut Output) -> Result<Session, Stop> {
         // what is seen here may be in memory only: it has to be durable before anything follows from it
         self.sync_before()?;
-        let (seen, log, verdict) = self.look(to_write)?;
+        let Looked { seen, log, left, verdict } = self.look(to_write)?;
         let name = self.shown(&self.file);
-        match verdict {
-            Verdict::InStep => return Ok(Session { seen, log, changed: None }),
-            Verdict::Changed(changed) => return Ok(Session { seen, log, changed: Some(changed) }),
-            Verdict::Left => {
-                self.remove(&self.next)?;
+        // the new log goes last: as long as it is there, the next command says it again
+        let drop = || {
+            if left.new {
                 self.remove(&self.new)?;
             }
-            Verdict::Dropped(words) => {
-                // the new log goes last: as long as it is there, the next command says it again
-                output.message(format_args!("dropped: a step was cut off ({words}); {name} is as before it"));
-                self.remove(&self.new)?;
+            if left.next.is_some() {
                 self.remove(&self.next)?;
+            }
+            Ok(())
+        };
+        if let Verdict::Changed(changed) = verdict {
+            return Ok(Session { seen, log, changed: Some(changed) });
+        }
+        self.spare(&left.others, to_write, output)?;
+        match verdict {
+            Verdict::InStep => {
+                self.tell_old(log.as_ref(), output);
+                return Ok(Session { seen, log, changed: None });
+            }
+            Verdict::Changed(_) => {}
+            Verdict::Left => {
+                drop()?;
+                self.tell_old(log.as_ref(), output);
+            }
+            Verdict::Dropped(words) => {
+                output.message(format_args!("dropped: a step was cut off ({words}); {name} is as before it"));
+                drop()?;
+                self.tell_old(log.as_ref(), output);
             }
             Verdict::Completed(next, words) => {
                 self.remove(&self.new)?;
@@ -153,9 +222,66 @@ impl Place {
         Ok(Session { seen, log, changed })
     }
 
+    /// The log for a command that reads nothing else. Where the file cannot be read there is just the log, with what is wrong.
+    pub fn log_alone(&self, output: &mut Output) -> Result<Alone, Stop> {
+        let changed = match Place::has(&self.file) {
+            false => format!("{} is not there", self.shown(&self.file)),
+            true => match self.read(&self.file, false) {
+                Err(Stop::Refused(why)) => format!("{why}: it is not as the last step left it"),
+                _ => {
+                    let Session { log, changed, .. } = self.settle(false, output)?;
+                    return Ok(Alone { log, changed, is_there: true });
+                }
+            },
+        };
+        match self.log_of()? {
+            Some((_, log)) => Ok(Alone { log: Some(log), changed: Some(changed), is_there: Place::has(&self.file) }),
+            None if Place::has(&self.file) => Err(Stop::Refused(changed)),
+            None => Err(Stop::System(format!("{changed}, and no log of it"))),
+        }
+    }
+
+    /// Says of names that are not known as a step's that they stay; with `to_write` gives them others.
+    fn spare(&self, names: &[OsString], to_write: bool, output: &mut Output) -> Result<(), Stop> {
+        if names.is_empty() {
+            return Ok(());
+        }
+        let kept = if to_write { Some(self.keep(names)?) } else { None };
+        if to_write {
+            self.sync_before()?;
+        }
+        for name in names {
+            let what = format!("{} is not known as a file of dgn", self.shown(name));
+            match kept {
+                Some(kept) => {
+                    output.message(format_args!("{what}: it is kept as {}", self.shown(&self.numbered(name, kept))))
+                }
+                None => output.message(format_args!("{what}: it stays, and the next edit keeps it under another name")),
+            }
+        }
+        Ok(())
+    }
+
+    /// Where the log has no step, an older one was set aside and the first step of the new history was not made.
+    fn tell_old(&self, log: Option<&Log>, output: &mut Output) {
+        if let Some(old) = self.last_kept().filter(|_| log.is_none_or(|log| log.steps.is_empty())) {
+            output.message(format_args!(
+                "{}: no step was made since a new history was begun; the old log stands as {}",
+                self.shown(&self.file),
+                self.shown(&old)
+            ));
+        }
+    }
+
     /// What [`settle`](Place::settle) would bring about, for a command that changes nothing.
     pub fn foresee(&self, output: &mut Output) -> Result<Session, Stop> {
-        let (seen, log, verdict) = self.look(false)?;
+        let Looked { seen, log, left, verdict } = self.look(true)?;
+        for other in &left.others {
+            output.message(format_args!(
+                "{} is not known as a file of dgn: it would be kept under another name",
+                self.shown(other)
+            ));
+        }
         let (log, changed) = match verdict {
             Verdict::InStep | Verdict::Left => (log, None),
             Verdict::Dropped(words) => {
@@ -175,4 +301,12 @@ impl Place {
         };
         Ok(Session { seen, log, changed })
     }
+}
+
+/// Whether bytes under the name of the new file are those of a step: none yet, a first sector not yet written, or the file
+/// before or after the last step.
+fn known(new: &[u8], seen: &Seen, log: Option<&Log>) -> bool {
+    let is_blank = new.iter().take(512).all(|&byte| byte == 0);
+    let before = |log: &Log| undone(&log.image, &log.journal, log.dimension, 1).is_ok_and(|(file, _)| file == new);
+    is_blank || new == seen.bytes || log.is_some_and(|log| new == log.image || before(log))
 }

@@ -7,7 +7,6 @@ use dgn::system::{cannot_exchange, exchange};
 use std::ffi::{OsStr, OsString};
 use std::fs;
 use std::io;
-use std::os::unix::fs::MetadataExt;
 
 /// How the new file became the file.
 enum Made {
@@ -21,15 +20,7 @@ impl Place {
     /// Makes a step: the file that was seen becomes the log's image, and its log this one. `begins` says that there is no log yet.
     pub fn step(&self, seen: &Seen, begins: bool, log: &Log, output: &mut Output) -> Result<(), Stop> {
         let name = self.shown(&self.file);
-        if seen.data.nlink() != 1 {
-            let names = seen.data.nlink();
-            return Err(Stop::Refused(format!("{name} has {names} names (hard links), which a step would part")));
-        }
-        // before and after have to differ: which of the two stands there is what tells a cut-off step's fate
-        if log.image == seen.bytes {
-            return Err(Stop::Refused("no step: it would change no byte".into()));
-        }
-        let Some(stored) = log.encode() else { return Err(self.full()) };
+        let stored = self.allow(seen, log)?;
         let first = begins.then(|| Log::new(log.dimension, seen.bytes.clone()));
         let made = self.ready(seen, first, log, &stored, output).inspect_err(|_| self.clear(begins, output))?;
         // from here on the step is made, and is completed by the next command where this one is cut off
@@ -55,6 +46,17 @@ impl Place {
             fs::remove_file(&self.new).map_err(unfinished)?;
         }
         fs::rename(&self.next, &self.log).and_then(|()| self.sync()).map_err(unfinished)
+    }
+
+    /// Refuses a step that cannot be made, as far as that can be seen before; the log's bytes.
+    pub fn allow(&self, seen: &Seen, log: &Log) -> Result<Vec<u8>, Stop> {
+        // before and after have to differ: which of the two stands there is what tells a cut-off step's fate
+        if log.image == seen.bytes {
+            let name = self.shown(&self.file);
+            return Err(Stop::Refused(format!("{name}: no step: it would change no byte")));
+        }
+        self.may_replace(seen)?;
+        log.encode().ok_or_else(|| self.full())
     }
 
     /// A log that has no room for one more step.
@@ -136,24 +138,49 @@ impl Place {
         }
     }
 
+    /// The name with the number of a log that was set aside.
+    pub(super) fn numbered(&self, name: &OsStr, number: usize) -> OsString {
+        let end = &name.as_encoded_bytes()[self.log.len()..];
+        let mut other = self.log.clone();
+        other.push(format!(".{number}{}", String::from_utf8_lossy(end)));
+        other
+    }
+
+    /// Whether one of the names with this number is taken.
+    fn taken(&self, number: usize) -> bool {
+        [&self.new, &self.next, &self.log].iter().any(|name| Place::has(&self.numbered(name, number)))
+    }
+
+    /// The first number that is free.
+    fn free(&self) -> usize {
+        (1..).find(|&number| !self.taken(number)).expect("a free number")
+    }
+
+    /// The last log that was set aside.
+    pub(super) fn last_kept(&self) -> Option<OsString> {
+        let logs = (1..self.free()).rev().map(|number| self.numbered(&self.log, number));
+        logs.into_iter().find(|log| Place::has(log))
+    }
+
+    /// Gives names that are there the first number that is free; that number.
+    pub(super) fn keep(&self, names: &[OsString]) -> Result<usize, Stop> {
+        let number = self.free();
+        for name in names.iter().filter(|name| Place::has(name)) {
+            fs::rename(name, self.numbered(name, number)).map_err(self.system("rename", name))?;
+        }
+        Ok(number)
+    }
+
+    /// The name that the old log would be kept under; none where there is none.
+    pub fn would_keep(&self) -> Option<String> {
+        Place::has(&self.log).then(|| self.shown(&self.numbered(&self.log, self.free())))
+    }
+
     /// Keeps the old log, and all that is left of a step that was cut off, under names that are free, and says which.
     pub fn set_aside(&self, output: &mut Output) -> Result<(), Stop> {
-        let names = [&self.new, &self.next, &self.log];
-        if names.iter().all(|name| !Place::has(name)) {
+        if [&self.new, &self.next, &self.log].iter().all(|name| !Place::has(name)) {
             return Ok(());
         }
-        let other = |name: &OsStr, number: usize| {
-            let end = &name.as_encoded_bytes()[self.log.len()..];
-            let mut other = self.log.clone();
-            other.push(format!(".{number}{}", String::from_utf8_lossy(end)));
-            other
-        };
-        let free = |number: &usize| names.iter().all(|name| !Place::has(&other(name, *number)));
-        let number = (1..).find(free).expect("a free number");
-        let aside = |name: &OsString| match Place::has(name) {
-            true => fs::rename(name, other(name, number)).map_err(self.system("rename", name)),
-            false => Ok(()),
-        };
         // a second name of the file itself is what is left of a rename, and nothing to keep
         if self
             .read(&self.new, false)
@@ -162,12 +189,14 @@ impl Place {
             self.remove(&self.new)?;
         }
         // the log goes last, and after the others are durable: without it they would be taken for a first step's
-        aside(&self.new)?;
-        aside(&self.next)?;
+        let number = self.keep(&[self.new.clone(), self.next.clone()])?;
         self.sync_before()?;
-        aside(&self.log)?;
+        let log = self.numbered(&self.log, number);
+        if Place::has(&self.log) {
+            fs::rename(&self.log, &log).map_err(self.system("rename", &self.log))?;
+        }
         self.sync_before()?;
-        output.message(format_args!("the old log is kept as {}", self.shown(&other(&self.log, number))));
+        output.message(format_args!("the old log is kept as {}", self.shown(&log)));
         Ok(())
     }
 }

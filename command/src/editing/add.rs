@@ -16,7 +16,8 @@ pub const SUBCOMMAND: Subcommand = Subcommand {
     about: "copy a part from another library",
     text: "\
 The part is copied from OTHER, with all beneath it, to the end of FILE; OTHER stays as it is and is read with FILE's dimension. A \
-code that FILE has already is refused with its places.
+part with a code that FILE has already, its own or of a part in it, is refused with the places. A part that stands in another cannot be \
+added alone.
 
 With --tsv: file, 2D or 3D, number of the step, made or would be made, words of the command.",
     choices: &[
@@ -38,7 +39,7 @@ fn part(
     bytes: &[u8],
     which: &Which,
     output: &mut Output,
-) -> Result<(Vec<u8>, Option<String>, String), Halt> {
+) -> Result<(Vec<u8>, String), Halt> {
     let from = output::name(name);
     let dimension = target.dimension;
     let judged = dgn::judge(bytes, dimension);
@@ -52,12 +53,19 @@ fn part(
     let place =
         parts::one(bytes, dimension, judged.marker, which).map_err(|why| Halt::Refused(format!("{from}: {why}")))?;
     let extent = dgn::extent(bytes, dimension, place).map_err(|refusal| Halt::Refused(format!("{from}: {refusal}")))?;
-    let cell = other.parts().into_iter().find(|part| part.place == place);
-    if cell.as_ref().is_some_and(|part| part.deleted) {
+    let view = parts::walk(bytes, dimension).find(|view| view.place == place);
+    if let Some(header) = view.as_ref().and_then(|view| view.header) {
+        return Err(Halt::Refused(format!(
+            "{from}: {} stands in {} and cannot be added alone: add that one, or extract it and insert it --under a part",
+            other.named(place),
+            other.named(header)
+        )));
+    }
+    if view.is_some_and(|view| view.deleted) {
         output.warning(format_args!("{from}: the part is marked deleted, and is so in the copy"));
     }
     let piece = bytes[2 * extent.start..2 * extent.end].to_vec();
-    Ok((piece, cell.map(|part| part.code), other.named(place)))
+    Ok((piece, other.named(place)))
 }
 
 fn run(arguments: &Arguments, output: &mut Output) -> Result<(), Stop> {
@@ -67,12 +75,9 @@ fn run(arguments: &Arguments, output: &mut Output) -> Result<(), Stop> {
     let Some(bytes) = insert::read(from, output) else { return Ok(()) };
     let words = editing::words("add", &["--from".as_ref(), from, named]);
     editing::edit(arguments, output, words, |target, output| {
-        let (piece, code, about) = part(target, from, &bytes, &which, output)?;
-        if let Some(code) = code {
-            target.single(&code, arguments)?;
-        }
+        let (piece, about) = part(target, from, &bytes, &which, output)?;
         let marker = target.marker;
         let about = format!("{about} of {} added at @{marker}", output::name(from));
-        Ok(Edit::new(about, move |session| session.insert(None, marker, &piece)))
+        Ok(Edit::new(about, move |session| session.insert(None, marker, &piece)).adding())
     })
 }

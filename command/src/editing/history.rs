@@ -3,7 +3,8 @@
 use crate::arguments::Arguments;
 use crate::disk::log::{Log, State};
 use crate::disk::place::Stop as Halt;
-use crate::editing::{dimension, open, WAIT};
+use crate::disk::recovery::Alone;
+use crate::editing::{self, open_log, WAIT};
 use crate::files;
 use crate::help::Subcommand;
 use crate::output::{self, Output, Stop};
@@ -18,8 +19,10 @@ A line for each step: its number, its time (UTC), who made it, its state, and th
 with the step that did it; or undo. A step that was cut off is completed or dropped first, and that is said.
 
 The history stands in a log beside the file, FILE.dgnlog, with the file's bytes as the last step left them: keep and copy the two \
-together. Where another program changed the file, its steps are listed all the same, and the status is 1: edits and undo are then \
-refused, and original still writes the file as it was before the first step.
+together. Where another program changed the file, or it is gone, its steps are listed all the same, and the status is 1: edits and \
+undo are then refused, and original --anyway still writes the file as it was before the first step or after the last.
+
+A log that was set aside, FILE.dgnlog.1, is looked at again by giving it back its name, FILE.dgnlog.
 
 With --tsv: file, 2D or 3D, number of the step, seconds since 1970 began, user's number, user's name, made, undone or undo, number of \
 the step that undid it, words of the command.",
@@ -37,19 +40,24 @@ fn run(arguments: &Arguments, output: &mut Output) -> Result<(), Stop> {
 }
 
 fn try_history(arguments: &Arguments, output: &mut Output) -> Result<Vec<String>, Halt> {
-    let place = open(arguments, output)?;
-    let session = place.settle(false, output)?;
-    let dimension = files::shown(dimension(&place, &session, arguments, output)?);
-    if let Some(changed) = &session.changed {
+    let place = open_log(arguments, output)?;
+    let Alone { log, changed, .. } = place.log_alone(output)?;
+    let dimension = files::shown(editing::dimension(&place, log.as_ref(), None, arguments, output)?);
+    if let Some(changed) = &changed {
         output.message(changed);
         output.refused();
     }
-    let log = session.log.unwrap_or(Log::new(dgn::Dimension::Two, Vec::new()));
+    let log = log.unwrap_or(Log::new(dgn::Dimension::Two, Vec::new()));
     let states = log.states().unwrap_or_default();
     let mut lines = Vec::new();
     if !output.tsv {
-        let (count, standing) = (output::count(log.steps.len(), "step"), output::count(log.standing(), "edit"));
-        lines.push(format!("{}: {dimension}: {count}, {standing} can be undone", place.shown(&place.file)));
+        let count = output::count(log.steps.len(), "step");
+        let undone = match (&changed, output::count(log.standing(), "edit")) {
+            (None, standing) => format!("{standing} can be undone"),
+            (Some(_), _) => "no edit can be undone while the file is not as the last step left it".into(),
+        };
+        let times = if log.steps.is_empty() { "" } else { "; times are UTC" };
+        lines.push(format!("{}: {dimension}: {count}, {undone}{times}", place.shown(&place.file)));
     }
     for (k, (step, state)) in log.steps.iter().zip(states).enumerate() {
         let (number, user) = (k + 1, output::column(&step.name));

@@ -2,7 +2,7 @@
 
 use crate::arguments::{decimal, Arguments};
 use crate::disk::place::Stop as Halt;
-use crate::editing::{self, Edit, Target, DRY_RUN, NEW_HISTORY, WAIT};
+use crate::editing::{self, Edit, Target, ALLOW_DOUBLE, DRY_RUN, NEW_HISTORY, WAIT};
 use crate::files::Buffer;
 use crate::help::{Choice, Subcommand};
 use crate::output::{self, Output, Stop};
@@ -17,12 +17,14 @@ pub const SUBCOMMAND: Subcommand = Subcommand {
     text: "\
 PIECE is a file with the words of one element and all beneath it, without an end marker, as extract writes it. It is put under a \
 part or at the top of the file, before the component that begins at a place or at the end. A piece that stood in a part can stand \
-in a part alone, and one from the top at the top alone.
+in a part alone, and one from the top at the top alone. A piece with a code that FILE has already is refused with its places, and so \
+is one in which a code stands twice.
 
 With --tsv: file, 2D or 3D, number of the step, made or would be made, words of the command.",
     choices: &[
         Choice { long: "under", short: None, value: Some("CODE|PLACE|top"), text: "The part to put it into; top without this option." },
         Choice { long: "at", short: None, value: Some("PLACE|end"), text: "The component to put it before; end without this option." },
+        ALLOW_DOUBLE,
         DRY_RUN,
         NEW_HISTORY,
         WAIT,
@@ -76,6 +78,6 @@ fn run(arguments: &Arguments, output: &mut Output) -> Result<(), Stop> {
         let (header, place) = gap(target, &header, place)?;
         let around = header.map_or("at the top".into(), |header| format!("under {}", target.named(header)));
         let about = format!("piece of {} inserted at @{place}, {around}", output::count(bytes.len() / 2, "word"));
-        Ok(Edit::new(about, move |session| session.insert(header, place, &bytes)))
+        Ok(Edit::new(about, move |session| session.insert(header, place, &bytes)).adding())
     })
 }

@@ -49,6 +49,14 @@ const WAIT: Choice = Choice {
 const ALLOW_DOUBLE: Choice =
     Choice { long: "allow-double", short: None, value: None, text: "Let a code stand in the file more than once." };
 
+/// Lets a code be empty.
+const ALLOW_EMPTY: Choice = Choice {
+    long: "allow-empty",
+    short: None,
+    value: None,
+    text: "Let NEW be empty, which takes the part's code away.",
+};
+
 /// A file that is to be edited.
 pub struct Target<'t> {
     /// Its bytes.
@@ -72,15 +80,35 @@ impl Target<'_> {
 
     /// Refuses a code that is there already, with its places.
     pub fn single(&self, code: &str, arguments: &Arguments) -> Result<(), Stop> {
-        let places: Vec<_> = self.parts().iter().filter(|part| part.code == code).map(told).collect();
-        if places.is_empty() || arguments.has("allow-double") {
+        if arguments.has("allow-double") || self.parts().iter().all(|part| part.code != code) {
             return Ok(());
         }
-        Err(Stop::Refused(format!(
-            "the code {} is there already, {}; --allow-double lets it stand twice",
-            parts::shown(code),
-            places.join(", ")
-        )))
+        Err(Stop::Refused(format!("{}; --allow-double lets it stand twice", self.doubled(code))))
+    }
+
+    /// Refuses codes that stand more often in the file after an edit than before it, and more than once; empty ones are none.
+    fn singles(&self, after: &[u8]) -> Result<(), Stop> {
+        let marker = dgn::judge(after, self.dimension).map_or(self.marker, |judged| judged.marker);
+        let (old, new) = (self.parts(), parts::all(after, self.dimension, marker));
+        let times = |parts: &[Part], code: &str| parts.iter().filter(|part| part.code == code).count();
+        let doubled = |code: &str| !code.is_empty() && times(&new, code) > times(&old, code).max(1);
+        let mut codes: Vec<&str> = new.iter().map(|part| part.code.as_str()).filter(|code| doubled(code)).collect();
+        codes.sort();
+        codes.dedup();
+        let told: Vec<String> = codes.iter().map(|code| self.doubled(code)).collect();
+        match told.is_empty() {
+            true => Ok(()),
+            false => Err(Stop::Refused(format!("{}; --allow-double lets a code stand twice", told.join("; ")))),
+        }
+    }
+
+    /// A code that would stand twice, with its places.
+    fn doubled(&self, code: &str) -> String {
+        let places: Vec<_> = self.parts().iter().filter(|part| part.code == code).map(told).collect();
+        match places.is_empty() {
+            true => format!("the code {} stands in the piece more than once", parts::shown(code)),
+            false => format!("the code {} is there already, {}", parts::shown(code), places.join(", ")),
+        }
     }
 
     /// An element in words: a cell with its code, and where it is.
@@ -106,12 +134,19 @@ pub struct Edit {
     pub about: String,
     /// The library's call.
     pub call: Call,
+    /// Whether it brings other parts into the file.
+    pub adds: bool,
 }
 
 impl Edit {
     /// An edit by this call.
     pub fn new(about: String, call: impl FnOnce(&mut dgn::Session) -> Result<(), Refusal> + 'static) -> Edit {
-        Edit { about, call: Box::new(call) }
+        Edit { about, call: Box::new(call), adds: false }
+    }
+
+    /// The same, for one that brings other parts into the file.
+    pub fn adding(self) -> Edit {
+        Edit { adds: true, ..self }
     }
 }
 
@@ -147,6 +182,13 @@ pub fn words(first: &str, rest: &[&OsStr]) -> Vec<OsString> {
     [OsStr::new(first)].iter().chain(rest).map(OsString::from).collect()
 }
 
+/// The words with the options that let an edit pass which is else refused.
+fn with_options(mut words: Vec<OsString>, arguments: &Arguments) -> Vec<OsString> {
+    let given = ["allow-double", "allow-empty", "new-history"].into_iter().filter(|name| arguments.has(name));
+    words.extend(given.map(|name| format!("--{name}").into()));
+    words
+}
+
 /// How long to wait for the lock.
 fn wait(arguments: &Arguments) -> Result<Duration, Stop> {
     match arguments.number("wait", 0) {
@@ -158,13 +200,24 @@ fn wait(arguments: &Arguments) -> Result<Duration, Stop> {
 
 /// The file's place, which is the first word.
 fn open(arguments: &Arguments, output: &mut Output) -> Result<Place, Stop> {
-    Place::open(&arguments.words[0], wait(arguments)?, output)
+    Place::open(&arguments.words[0], wait(arguments)?, false, output)
+}
+
+/// The same for a command that reads the log alone: the file need not be there.
+fn open_log(arguments: &Arguments, output: &mut Output) -> Result<Place, Stop> {
+    Place::open(&arguments.words[0], wait(arguments)?, true, output)
 }
 
 /// The dimension of the file: its history's, or what was asked for or fits.
-fn dimension(place: &Place, session: &Session, arguments: &Arguments, output: &mut Output) -> Result<Dimension, Stop> {
+fn dimension(
+    place: &Place,
+    log: Option<&Log>,
+    seen: Option<&Seen>,
+    arguments: &Arguments,
+    output: &mut Output,
+) -> Result<Dimension, Stop> {
     let name = place.shown(&place.file);
-    if let Some(log) = &session.log {
+    if let Some(log) = log {
         return match arguments.dimension() {
             Some(asked) if asked != log.dimension => {
                 Err(Stop::Usage(format!("the history of {name} is that of a {} file", files::shown(log.dimension))))
@@ -172,7 +225,14 @@ fn dimension(place: &Place, session: &Session, arguments: &Arguments, output: &m
             _ => Ok(log.dimension),
         };
     }
-    let bytes = &session.seen.bytes;
+    let read;
+    let bytes = match seen {
+        Some(seen) => &seen.bytes,
+        None => {
+            read = place.read(&place.file, false)?;
+            &read.bytes
+        }
+    };
     let taken = Taken::of(bytes, arguments.dimension());
     if let Err(refusal) = taken.judged {
         let fault = faults::of(bytes, taken.dimension, refusal);
@@ -225,7 +285,7 @@ fn try_edit(
 ) -> Result<String, Stop> {
     let place = open(arguments, output)?;
     let mut session = begun(&place, arguments, output)?;
-    let dimension = dimension(&place, &session, arguments, output)?;
+    let dimension = dimension(&place, session.log.as_ref(), Some(&session.seen), arguments, output)?;
     let (begins, old) = (session.log.is_none(), session.log.take());
     let bytes = &session.seen.bytes;
     let heading = format!("{}: {}", place.shown(&place.file), files::shown(dimension));
@@ -234,17 +294,29 @@ fn try_edit(
         _ => Stop::Refused(format!("{heading}: refused: {} ({})", meaning(refusal), numbers(refusal))),
     };
     let marker = dgn::judge(bytes, dimension).map_err(refused)?.marker;
-    let planned = plan(&Target { bytes, dimension, marker }, output);
-    let Edit { about, call } = planned.map_err(|stop| match stop {
+    let target = Target { bytes, dimension, marker };
+    let planned = plan(&target, output);
+    let headed = |stop: Stop| match stop {
         Stop::Refused(why) => Stop::Refused(format!("{heading}: {why}")),
         stop => stop,
-    })?;
+    };
+    let Edit { about, call, adds } = planned.map_err(headed)?;
     let old = old.unwrap_or(Log::new(dimension, Vec::new()));
     let (file, journal) = edited(bytes, &old.journal, dimension, call).map_err(refused)?;
+    if adds && !arguments.has("allow-double") {
+        target.singles(&file).map_err(headed)?;
+    }
     let mut log = Log { journal, image: file, ..old };
-    log.steps.push(text(words, 0));
+    log.steps.push(text(with_options(words, arguments), 0));
     let line = Line { place: &place, log: &log, about: &about, tsv: output.tsv };
+    if arguments.has("dry-run") || arguments.has("new-history") {
+        // before the old log is set aside
+        place.allow(&session.seen, &log)?;
+    }
     if arguments.has("dry-run") {
+        if let Some(kept) = place.would_keep().filter(|_| arguments.has("new-history")) {
+            output.message(format_args!("the old log would be kept as {kept}"));
+        }
         return Ok(line.told("would be made"));
     }
     let seen = match arguments.has("new-history") {

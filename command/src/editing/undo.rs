@@ -50,7 +50,7 @@ fn back(place: &Place, log: &Log, count: usize) -> Result<Pair, Halt> {
 fn try_undo(arguments: &Arguments, output: &mut Output, count: usize) -> Result<Vec<String>, Halt> {
     let place = open(arguments, output)?;
     let session = begun(&place, arguments, output)?;
-    let dimension = dimension(&place, &session, arguments, output)?;
+    let dimension = dimension(&place, session.log.as_ref(), Some(&session.seen), arguments, output)?;
     let refused = |why: &str| {
         let (name, dimension) = (place.shown(&place.file), files::shown(dimension));
         Halt::Refused(format!("{name}: {dimension}: refused: {why} (17 {})", Number::Nothing.name()))
@@ -74,6 +74,7 @@ fn try_undo(arguments: &Arguments, output: &mut Output, count: usize) -> Result<
         log.steps.push(text(editing::words("undo", words), count));
         let line = Line { place: &place, log: &log, about: &about, tsv: output.tsv };
         if arguments.has("dry-run") {
+            place.may_replace(&seen)?;
             lines.push(line.told("would be made"));
             continue;
         }

@@ -16,8 +16,8 @@ pub const SUBCOMMAND: Subcommand = Subcommand {
 Compares the parts of two files by code and content; where they stand does not matter. A part is the same where code and all bytes \
 are; changed where the code is the same and a byte is not; renamed where all bytes but those of the code are the same; else it is \
 only in A or only in B. Of a part that is changed the parts in it are compared in turn, and how many of its other elements are in \
-both and in one alone is said; so for the elements at the top that are no parts. Parts in a part that is the same, renamed or in \
-one file alone are not counted. A line for each part that is not the same, then the \
+both and in one alone is said; so for the elements at the top that are no parts. Of a part at the top in which nothing but marks of deletion differ that is said alone. Parts in such a part, or in one that is the same, \
+renamed or in one file alone, are not counted. A line for each part that is not the same, then the \
 totals. Bytes behind the end marker are not compared. The status is 1 where anything differs.
 
 With --tsv a line for each part, the same ones too: A, its 2D or 3D, B, its 2D or 3D; same, changed, renamed, only-a or only-b; depth; \

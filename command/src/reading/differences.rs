@@ -44,11 +44,13 @@ pub struct Difference<'t> {
     pub b: Option<&'t Node>,
     /// Of a changed one: how many elements directly under it, other than cells, are the same, only in A, only in B.
     pub others: [u32; 3],
+    /// Of a changed one at the top: that nothing but marks of deletion differ. What stands under it is then not compared.
+    pub marks: bool,
 }
 
 impl<'t> Difference<'t> {
     fn new(relation: Relation, a: Option<&'t Node>, b: Option<&'t Node>) -> Difference<'t> {
-        Difference { relation, a, b, others: [0; 3] }
+        Difference { relation, a, b, others: [0; 3], marks: false }
     }
 }
 
@@ -78,6 +80,9 @@ impl Difference<'_> {
     /// What is seen at once of a change.
     fn detail(&self, old: &Node, new: &Node) -> String {
         let deleted = match (old.deleted, new.deleted) {
+            (true, false) if self.marks => "; the same but for the mark: deleted in A",
+            (false, true) if self.marks => "; the same but for the mark: deleted in B",
+            _ if self.marks => "; the same but for marks of deletion in it",
             (true, false) => "; deleted in A",
             (false, true) => "; deleted in B",
             _ => "",
@@ -151,7 +156,9 @@ impl<'t> Differences<'t> {
                     let other = of_b[k as usize];
                     let at = self.list.len();
                     self.list.push(Difference::new(relation, Some(node), Some(other)));
-                    if relation == Relation::Changed {
+                    let is_top = node.depth == 0 && node.words() == other.words();
+                    self.list[at].marks = relation == Relation::Changed && is_top && a.live(node) == b.live(other);
+                    if relation == Relation::Changed && !self.list[at].marks {
                         self.compare(a, a.under(node), b, b.under(other));
                         self.list[at].others = self.others(at + 1, node.depth + 1);
                     }

@@ -19,7 +19,7 @@ pub const SUBCOMMAND: Subcommand = Subcommand {
 Writes the bytes of the element's extent, as they are: a piece, which insert takes. With --file an end marker follows, and what is \
 written is a file; that can be had of an element at the top alone, since one that stands under another is marked so.
 
-OUT may not be there already.
+OUT may not be there already, and has no name that a log has.
 
 With --tsv: file, 2D or 3D, place, words, OUT.",
     choices: &[
@@ -35,6 +35,7 @@ fn run(arguments: &Arguments, output: &mut Output) -> Result<(), Stop> {
     let Some(out) = arguments.value("out") else {
         return Err(Stop::of(&SUBCOMMAND, "-o OUT is missing"));
     };
+    files::free_of_logs(out)?;
     let which = parts::which(&arguments.words[1])?;
     let Some(file) = File::open(&arguments.words[0], arguments, output) else { return Ok(()) };
     let Some(place) = file.one(&which, output) else { return Ok(()) };

@@ -97,6 +97,17 @@ impl<'f> Tree<'f> {
         session.rename(place, "").expect("a cell of a file that was accepted");
         session.file()[2 * place..][..2 * node.words() as usize].to_vec()
     }
+
+    /// The bytes of the extent of an element at the top with none in it marked deleted: the library takes the marks away.
+    pub fn live(&self, node: &Node) -> Vec<u8> {
+        let file = [self.extent(node), &END_MARKER].concat();
+        let (used, room) = (file.len(), 2 * file.len() + 1024);
+        let mut session = Session::resume(file, used, vec![0; room], 0, self.dimension);
+        // refused where all is marked so already
+        let _ = session.mark(0, true);
+        let _ = session.mark(0, false);
+        session.file()[..2 * node.words() as usize].to_vec()
+    }
 }
 
 /// Those of the elements, which stand in file order, that stand under none of the others.

@@ -35,8 +35,8 @@ impl Tests {
         let piece = piece.to_str().unwrap();
         let line = folder.join("line").into_os_string().into_string().unwrap();
         let steps: [&[&str]; 4] = [
-            &["insert", &path, piece],
-            &["insert", &path, piece, "--at", "124"],
+            &["insert", &path, piece, "--allow-double"],
+            &["insert", &path, piece, "--at", "124", "--allow-double"],
             &["insert", &path, &line, "--under", "@0", "--at", "@46"],
             &["insert", &path, &line, "--under", "PUMP.1"],
         ];
@@ -44,11 +44,12 @@ impl Tests {
             let ran = self.arguments(step);
             self.expect("insert", ran.good(), (step, &ran));
         }
-        let wrong: [(&[&str], &str); 4] = [
+        let wrong: [(&[&str], &str); 5] = [
             (&["insert", &path, &line], "5 PLACE"),
             (&["insert", &path, &path, "--under", "top"], "3 CUT"),
             (&["insert", &path, piece, "--at", "3"], "13 NO SUCH"),
             (&["insert", &path, piece, "--under", "@46"], "13 NO SUCH"),
+            (&["insert", &path, piece], "is there already"),
         ];
         for (step, why) in wrong {
             let ran = self.arguments(step);
@@ -134,7 +135,7 @@ impl Tests {
             self.expect("a large part removed", ran.good(), &ran);
         }
         let took = began.elapsed().as_secs_f64() / 8.0;
-        let grown = self.arguments(&["insert", &path, &piece]);
+        let grown = self.arguments(&["insert", &path, &piece, "--allow-double"]);
         let before = self.state("work");
         let full = self.plain("work", "remove CELL0");
         let log = before[LOG].1.data.len();
@@ -153,7 +154,7 @@ impl Tests {
         self.build("work", &before);
         let undone = self.plain("work", "undo 9");
         self.expect("a full log, undone", undone.good() && self.state("work")[FILE].1.data == file, &undone);
-        let more = self.arguments(&["insert", &path, &piece]);
+        let more = self.arguments(&["insert", &path, &piece, "--allow-double"]);
         self.expect("no room in the file", more.refused("15 ROOM"), &more);
         self.full_texts(&base);
     }

@@ -5,6 +5,7 @@ use crate::command::{Cut, Ran};
 use crate::folder::{shape, State, FILE, LOG, NEW, NEXT};
 use crate::model::Model;
 use crate::tests::{Tests, CHANGED};
+use dgn_command::disk::log::Log;
 use std::fs;
 
 const STEP: &str = "delete @46";
@@ -216,34 +217,55 @@ impl Tests {
         let kept = [LOG, NEXT, NEW].map(|name| base[name].1.clone());
         let files =
             [Some(foreign.clone()), book::after(&foreign, &[words("rename @0 RENEW")])].map(|file| file.unwrap());
-        let step = words("rename --new-history @0 RENEW");
+        self.kept_by(&base, &words("rename --new-history @0 RENEW"), &kept, &files, "a new history");
+        // what another program wrote under the names of a step
+        let mut base = self.base(&["rename @0 417"]);
+        let files = [base[FILE].1.data.clone(), book::after(&base[FILE].1.data, &[words("rename @0 RENEW")]).unwrap()];
+        for (number, name) in [(7, NEW), (8, NEXT)] {
+            let inode = crate::folder::Inode { data: name.into(), dress: self.dress.clone() };
+            base.insert(name.into(), (number, inode));
+        }
+        let base = crate::folder::renumber(&base);
+        let kept = [NEXT, NEW].map(|name| base[name].1.clone());
+        self.kept_by(&base, &words("rename @0 RENEW"), &kept, &files, "names of a step that others use");
+    }
+
+    /// Whatever is cut, all is kept.
+    fn kept_by(
+        &mut self,
+        base: &State,
+        step: &[String],
+        kept: &[crate::folder::Inode],
+        files: &[Vec<u8>; 2],
+        what: &str,
+    ) {
         for how in ["before", "after", "half"] {
             for at in 1.. {
-                self.build("work", &base);
-                let ran = self.run("work", &step, &Cut { at, how, ..Cut::default() });
+                self.build("work", base);
+                let ran = self.run("work", step, &Cut { at, how, ..Cut::default() });
                 if ran.status.is_some() || self.enough() {
                     break;
                 }
                 self.count("kills while a new history is begun", 1);
                 let state = self.state("work");
-                self.kept(&state, &kept, &files, &format!("a new history, killed {how} call {at}"));
+                self.kept(&state, kept, files, &format!("{what}, killed {how} call {at}"));
             }
         }
-        let calls = self.calls(&base, &step);
-        let mut model = Model::new(&self.folder.join("work"), &base, vec![], self.owner);
+        let calls = self.calls(base, &step.to_vec());
+        let mut model = Model::new(&self.folder.join("work"), base, vec![], self.owner);
         for call in &calls {
             model.feed(call);
             for state in model.states() {
                 if !self.enough() {
                     self.count("states after loss of power while a new history is begun", 1);
                     let call = call.chars().take(60).collect::<String>();
-                    self.kept(&state, &kept, &files, &format!("a new history, power lost after {call}"));
+                    self.kept(&state, kept, files, &format!("{what}, power lost after {call}"));
                 }
             }
         }
     }
 
-    fn kept(&mut self, state: &State, kept: &[crate::folder::Inode; 3], files: &[Vec<u8>; 2], what: &str) {
+    fn kept(&mut self, state: &State, kept: &[crate::folder::Inode], files: &[Vec<u8>; 2], what: &str) {
         for command in ["history", "rename --new-history @46 X", "rename --new-history @0 SECOND"] {
             self.build("check", state);
             let ran = self.plain("check", command);
@@ -251,7 +273,13 @@ impl Tests {
             let all = kept.iter().all(|inode| now.values().any(|entry| entry.1 == *inode));
             let second = command.ends_with("SECOND");
             let file = state.get(FILE).is_some_and(|file| files.contains(&file.1.data) && file.1.dress == self.dress);
-            if !all || !file || (second && !ran.good()) {
+            // where the old log has another name and no step was made, that is said
+            let begun = state.get(LOG).is_none_or(|log| {
+                Log::decode(&log.1.data).is_ok_and(|log| log.steps.is_empty() && log.image == state[FILE].1.data)
+            });
+            let aside = begun && state.contains_key(&format!("{LOG}.1")) && command == "history";
+            let told = !aside || ran.err.contains("the old log stands as");
+            if !all || !file || !told || (second && !ran.good()) {
                 self.fail(format!("{what}, then {command}: {ran:?} [{}] [{}]", shape(state), shape(&now)));
                 return;
             }

@@ -101,7 +101,7 @@ fn choose(random: &mut Random, state: &State, books: usize, piece: &str, tests: 
             let place = if random.below(10) == 0 { place + 1 } else { place };
             let word = if place == end { "end".into() } else { place.to_string() };
             let call = Call::Insert { header: header.map(|header| header.place), place, piece: bytes };
-            (text(&["insert", FILE, piece, "--under", &under, "--at", &word]), Some(vec![call]))
+            (text(&["insert", FILE, piece, "--under", &under, "--at", &word, "--allow-double"]), Some(vec![call]))
         }
         12..=13 if file.len() < 9000 && !cells.is_empty() => {
             let cell = cells[random.below(cells.len())];

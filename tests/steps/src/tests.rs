@@ -142,15 +142,21 @@ impl Tests {
         if !ran.good() || self.state("check") != *state {
             return Err(format!("a dry run: {} {}", ran.err.trim(), shape(&self.state("check"))));
         }
-        let found = self.recovered(state, prior, issued, &lists)?;
+        let (found, stays) = self.recovered(state, prior, issued, &lists)?;
         self.undone(&found)?;
         // the same where the next command is a step
         self.build("check", state);
         let ran = self.plain("check", "rename @0 DIRECT");
         let now = self.state("check");
         let list = [found.clone(), vec![words("rename @0 DIRECT")]].concat();
-        if !ran.good() || now.len() != 2 || self.after(&list) != Some(now[FILE].1.data.clone()) {
+        if !ran.good() || now.len() != 2 + stays.len() || self.after(&list) != Some(now[FILE].1.data.clone()) {
             return Err(format!("the next command, a step, fails: {}", ran.err.trim()));
+        }
+        for name in stays {
+            let kept = name.replace(LOG, &format!("{LOG}.1"));
+            if now.get(&kept).map(|kept| &kept.1) != Some(&state[name].1) || !ran.err.contains(&kept) {
+                return Err(format!("{name} is not kept: {}", ran.err.trim()));
+            }
         }
         if state.contains_key(LOG) {
             self.changed(state, issued, &found)?;
@@ -158,14 +164,15 @@ impl Tests {
         Ok(())
     }
 
-    /// The next command brings file and log in step, says what became of the step, and leaves the file alone.
+    /// The next command brings file and log in step, says what became of the step, and leaves the file alone. A name that it does
+    /// not know as its own, since what it holds was never synced, stays and is told.
     fn recovered(
         &mut self,
         state: &State,
         prior: &[Words],
         issued: &Issued,
         lists: &[Vec<Words>],
-    ) -> Result<Vec<Words>, String> {
+    ) -> Result<(Vec<Words>, Vec<&'static str>), String> {
         let file = &state[FILE].1;
         let ran = self.run("check", &history(), &Cut::default());
         if !ran.good() {
@@ -182,8 +189,20 @@ impl Tests {
         if self.after(&found).as_ref() != Some(&file.data) {
             return Err(format!("file and log are not in step: {found:?}"));
         }
-        if settled.len() != 1 + settled.contains_key(LOG) as usize || (!settled.contains_key(LOG) && !found.is_empty())
-        {
+        let stays: Vec<&'static str> = [NEW, NEXT].into_iter().filter(|name| settled.contains_key(*name)).collect();
+        for name in &stays {
+            let told = ran.err.contains(&format!("{name} is not known as a file of dgn: it stays"));
+            // a log, or the beginning of one, is known; and so is the file beside it
+            let known = settled.get(NEXT).map_or(state.contains_key(NEXT), |next| {
+                next.1.data.is_empty() || next.1.data.starts_with(b"DGNLOG 1")
+            });
+            if !told || known || settled[*name].1 != state[*name].1 {
+                return Err(format!("left over: {name}: {}", ran.err));
+            }
+            self.count("names with bytes that were never synced, kept", 1);
+        }
+        let rest = settled.len() - stays.len();
+        if rest != 1 + settled.contains_key(LOG) as usize || (!settled.contains_key(LOG) && !found.is_empty()) {
             return Err(format!("left over: {:?}", settled.keys()));
         }
         if settled.get(LOG).is_some_and(|log| log.1.dress != self.dress) {
@@ -195,16 +214,21 @@ impl Tests {
         }
         // where a step was under way, it says what became of it; else it says nothing
         let log = state.get(LOG);
-        let under_way = state.get(NEXT).is_some_and(|next| log.is_none_or(|log| log.1.data != next.1.data))
-            || (log.is_none() && state.contains_key(NEW));
+        let entry = |name: &'static str| state.get(name).filter(|_| !stays.contains(&name));
+        let under_way = entry(NEXT).is_some_and(|next| log.is_none_or(|log| log.1.data != next.1.data))
+            || (log.is_none() && entry(NEW).is_some());
         if under_way != (completed || dropped) {
             return Err(format!("a step under way: {under_way}, it says {:?}", ran.err));
         }
         let again = self.run("check", &history(), &Cut::default());
-        if !again.good() || !again.err.is_empty() || listed(&again) != found || self.state("check") != settled {
+        if !again.good()
+            || again.err.is_empty() != stays.is_empty()
+            || listed(&again) != found
+            || self.state("check") != settled
+        {
             return Err("the command after it finds something again".into());
         }
-        Ok(found)
+        Ok((found, stays))
     }
 
     /// All undone gives the first file; then nothing is left to undo, and a step can be made.
