@@ -37,7 +37,7 @@ in-six a b = go (nameOk a b)
 pub named : (ws : List ℕ) (at a b : ℕ) (u : Unpacked) → u ≡ unpacked a b → unpackedText (unpacked a b) ≡ nameText ws at → Named ws at u
 named ws at a b u e n = rw e (record { is = n; short = in-six a b .0; six = in-six a b .1 })
 
--- the words of an empty name
-pub empty-name : unpackedText (unpacked 0 0) ≡ []
-unfolding unpacked nameOk wordOk textAnswer textIn
-empty-name = refl
+-- words that are no name
+pub no-name : unpackedText (unpacked 65535 0) ≡ []
+unfolding unpacked nameOk wordOk
+no-name = refl

@@ -18,7 +18,8 @@ fn word_of(file: &[u8], at: usize, k: usize) -> usize
     }
 }
 
-// The name of the element at a place, by its type; a type that has none answers as an empty name.
+// The name of the element at a place, by its type; a type that has none answers as words that are no name, for which no table
+// is read.
 fn name_of(file: &[u8], at: usize, kind: usize) -> names::Unpacked
     requires { ⌜ kind ≡ typeAt (words (now file)) at ⌝ }
     ensures { λ r. ⌜ Named (words (now (file .entry))) at r ⌝ }
@@ -29,7 +30,7 @@ fn name_of(file: &[u8], at: usize, kind: usize) -> names::Unpacked
     if kind == 2 {
         return names::unpack(word_of(file, at, 19), word_of(file, at, 20));
     }
-    names::unpack(0, 0)
+    names::unpack(65535, 0)
 }
 
 // The number of letters of an unpacked text.

@@ -1,11 +1,11 @@
--- `lines::name_of` meets its contract: the type decides which case of the definition is left, and another type has the text of the words 0, 0.
+-- `lines::name_of` meets its contract: the type decides which case of the definition is left, and another type has words that are no name.
 use Prim.Native.Nat.{_+_}
 use mathlib.Core.Path.{_≡_, sym}
 use native.Mathlib.Omega.{arith}
 use borrow.Author.Tests.{ne-eqb}
 use borrow.Author.Needs.{needs}
 use Rattle.lines.specs.Element.{nameText}
-use Rattle.lines.proofs.Names.{named, empty-name}
+use Rattle.lines.proofs.Names.{named, no-name}
 use Rattle.lines.proofs.name_of.Statement.{statement}
 use Rattle.lines.proofs.name_of.Tie as tie
 
@@ -55,7 +55,7 @@ unfolding nameText
 returns-3 c =
     let test = c .before .before in
     named _ _ _ _ _ (c .unpack3 .ensures)
-    (rw (sym (test .before .before .pre), ne-eqb _ _ (test .if1 .left), ne-eqb _ _ (c .before .if2 .left)) empty-name)
+    (rw (sym (test .before .before .pre), ne-eqb _ _ (test .if1 .left), ne-eqb _ _ (c .before .if2 .left)) no-name)
 
 pub name-of-spec : {M : Type 1} → statement M
 name-of-spec =
