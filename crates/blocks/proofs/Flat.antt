@@ -110,6 +110,3 @@ gather-turn o0 o p s k n t u e f l h m w q =
     ∙ ap (λ r. over r t c) e
     ∙ over-over o0 0 (flatFrom k s) t c (f ∙ sym (zero-add (length (flatFrom k s)))) (omega (arith, fit, l))
     ∙ ap (over o0 0) (sym (flat-snoc k s))
-
-pub gather-end : (o0 o s : List ℕ) (k n : ℕ) → n ≤ k → k ≤ n → o ≡ over o0 0 (flatFrom k s) → o ≡ over o0 0 (flatFrom n s)
-gather-end o0 o s k n a b e = let q : k ≡ n = omega arith in e ∙ ap (λ i. over o0 0 (flatFrom i s)) q

@@ -4,7 +4,6 @@ pub mod Answers
 pub mod Refusals
 pub mod Back
 pub mod Changed
-pub mod Zeros
 pub mod Turns
 pub mod Damage
 pub mod Joined

@@ -105,5 +105,6 @@ fill-turn s0 s j x k n e b h l m ex =
 pub mid-length : (s : List ℕ) (a : ℕ) → a + 512 ≤ length s → length (take (a + 512 - a) (drop a s)) ≡ 512
 mid-length s a h = let d = length-drop a s in let t = length-take (a + 512 - a) (drop a s) in omega arith
 
-pub fill-end : (s0 s j : List ℕ) (k n : ℕ) → n ≤ k → k ≤ n → s ≡ over s0 0 (storedFrom k j) → s ≡ over s0 0 (storedFrom n j)
-fill-end s0 s j k n a b e = let q : k ≡ n = omega arith in e ∙ ap (λ i. over s0 0 (storedFrom i j)) q
+-- after the last turn all n stand, f k being the first k
+pub turns-end : (f : ℕ → List ℕ) (s0 s : List ℕ) (k n : ℕ) → n ≤ k → k ≤ n → s ≡ over s0 0 (f k) → s ≡ over s0 0 (f n)
+turns-end f s0 s k n a b e = let q : k ≡ n = omega arith in e ∙ ap (λ i. over s0 0 (f i)) q

@@ -11,11 +11,12 @@ use lib.Dec.{T, eqb, leb, ltb}
 use borrow.Author.Tests.{eq-eqb, ne-eqb, le-leb, lt-ltb, le-ltb}
 use Rattle.words.specs.Words.{words, bytes, wordAt, putWord, over}
 use Rattle.words.proofs.Laws.{length-words, put-in}
-use Rattle.words.proofs.Over.{over-over}
+use Rattle.words.proofs.Over.{length-over, over-over}
 use Rattle.blocks.specs.Blocks.{sum, completing, padded, closed, block, zeros, used, rest, sound, fewest, most}
-use Rattle.copies.specs.Copies.{copied}
+use Rattle.copies.specs.Copies.{copied, cleared}
 use Rattle.blocks.proofs.Block.{sum-append, and-true, Sound, sound-is, length-padded, four}
 use Rattle.copies.proofs.Copies.{copied-fits}
+use Rattle.copies.proofs.Clears.{cleared-in}
 
 pub sum-turn : (ws : List ℕ) (i t w r : ℕ) → i < length ws → t ≡ sum (take i ws) % 65536 → w ≡ getD ws i 0 → r ≡ (t + w) % 65536 →
     r ≡ sum (take (suc i) ws) % 65536
@@ -124,12 +125,14 @@ over-start : (s x : List ℕ) → over s 0 x ≡ x ++ drop (length x) s
 unfolding over
 over-start s x = ap (λ n. x ++ drop n s) (zero-add (length x))
 
-filled : (s c : List ℕ) → length s ≡ 512 → length c ≤ 508 → over (copied s 0 c) (length c) (replicate (508 - length c) 0) ≡ padded c ++ drop 508 s
+filled : (s c : List ℕ) → length s ≡ 512 → length c ≤ 508 → cleared (copied s 0 c) (length c) 508 ≡ padded c ++ drop 508 s
 unfolding padded
 filled s c l h =
     let k = length-padded c h in
+    let m = length-over s 0 c (omega arith) in
     rw (copied-fits s 0 c (omega arith))
-    (over-over s 0 c (length c) (replicate (508 - length c) 0) (sym (zero-add (length c))) (omega arith)
+    (cleared-in (over s 0 c) (length c) 508 h (omega arith)
+    ∙ over-over s 0 c (length c) (replicate (508 - length c) 0) (sym (zero-add (length c))) (omega arith)
     ∙ over-start s (c ++ replicate (508 - length c) 0)
     ∙ ap (λ n. (c ++ replicate (508 - length c) 0) ++ drop n s) k)
 
@@ -146,10 +149,10 @@ block-put c q t h l e =
     ∙ put-four (padded c) _ _ _ _ (length c) (completing (sum (words (padded c)) + length c)) (length-padded c h))
 
 pub put-done : (s0 c s1 s2 s3 s4 : List ℕ) (a t : ℕ) → length s0 ≡ 512 → length c ≤ 508 → s1 ≡ copied s0 0 c →
-    s2 ≡ over s1 (length c) (replicate (508 - length c) 0) → a ≡ sum (words (take 508 s2)) % 65536 → t ≡ (a + length c) % 65536 →
+    s2 ≡ cleared s1 (length c) 508 → a ≡ sum (words (take 508 s2)) % 65536 → t ≡ (a + length c) % 65536 →
     s3 ≡ putWord s2 254 (length c) → s4 ≡ putWord s3 255 ((65536 - t) % 65536) → s4 ≡ block c
 put-done s0 c s1 s2 s3 s4 a t l h e1 e2 ea et e3 e4 =
-    let f : s2 ≡ padded c ++ drop 508 s0 = e2 ∙ ap (λ s. over s (length c) (replicate (508 - length c) 0)) e1 ∙ filled s0 c l h in
+    let f : s2 ≡ padded c ++ drop 508 s0 = e2 ∙ ap (λ s. cleared s (length c) 508) e1 ∙ filled s0 c l h in
     let p : take 508 s2 ≡ padded c = ap (take 508) f ∙ take-at (padded c) (drop 508 s0) 508 (length-padded c h) in
     let ea2 : a ≡ sum (words (padded c)) % 65536 = ea ∙ ap (λ s. sum (words s) % 65536) p in
     e4

@@ -1,8 +1,8 @@
 // A journal's bytes in blocks of 512 bytes, each with a check, and back. The definitions are in specs/Blocks, what the two calls
 // answer and leave in specs/Calls.
 ghost use mathlib.Core.Path.{_≡_};
-ghost use Prim.Native.Nat.{_+_, _-_, _*_, _≤_, _%_};
-ghost use lib.ListN.{length, replicate, take, drop};
+ghost use Prim.Native.Nat.{_*_, _≤_, _%_};
+ghost use lib.ListN.{length, take, drop};
 ghost use Rattle.words.specs.Words.{words, over};
 ghost use Rattle.blocks.specs.Blocks.{sum, zeros, sound, fewest, most, good, block, storedFrom, stored, flatFrom, flatOf, blocksFor, blocksIn, badFrom, firstBad};
 ghost use Rattle.blocks.specs.Calls.{toBlocks, fromBlocks, Moves};
@@ -82,18 +82,6 @@ fn most_of(k: usize) -> usize
     64
 }
 
-// The bytes from `at` to `end` become zero.
-fn clear(s: &mut [u8], at: usize, end: usize)
-    requires { ⌜ (at ≤ end) × (end ≤ length (now s)) ⌝ }
-    ensures { λ _. ⌜ now (s .exit) ≡ over (now (s .entry)) at (replicate (end - at) 0) ⌝ }
-{
-    let mut k = at;
-    while k < end {
-        s[k] = 0;
-        k += 1;
-    }
-}
-
 // The block of a chunk.
 fn put_block(s: &mut [u8], c: &[u8])
     requires { ⌜ (length (now s) ≡ 512) × (length (now c) ≤ 508) ⌝ }
@@ -101,7 +89,7 @@ fn put_block(s: &mut [u8], c: &[u8])
 {
     let n = c.len();
     copies::copy_in(s, 0, c);
-    clear(s, n, 508);
+    copies::clear(s, n, 508);
     let t = std::num::wrapping_add_u16(sum_words(&s[..508]), n as u16);
     words::put_word(s, 254, n as u16);
     words::put_word(s, 255, ((65536 - (t as usize)) % 65536) as u16);

@@ -1,10 +1,10 @@
 -- Each turn of a move writes the next byte of what it moves.
-use Prim.Native.Nat.{ℕ, zero, suc, _+_, _-_, _≤_, _<_}
-use mathlib.Core.Path.{_≡_, refl, sym, ap}
+use Prim.Native.Nat.{ℕ, suc, _+_, _-_, _≤_, _<_}
+use mathlib.Core.Path.{_≡_, refl, sym}
 use mathlib.Core.List.{List, [], _∷_, _++_}
 use native.Mathlib.Omega.{arith}
-use lib.ListN.{length, take, set, getD, replicate, length-take, length-replicate}
-use lib.Seq.{slice, slice-empty, slice-cons, length-slice, take-suc, length-take-le, drop-append-le}
+use lib.ListN.{length, take, set, getD, length-take}
+use lib.Seq.{slice, slice-empty, slice-cons, length-slice, take-suc, drop-append-le}
 use Rattle.words.specs.Words.{over}
 use Rattle.words.proofs.Over.{over-nil, over-snoc, over-cons, over-below, over-above}
 
@@ -26,20 +26,6 @@ down-turn d s at n k e h l =
     let g : getD s k 0 ≡ getD d k 0 = rw e (over-above d at (slice (at + n) k d) k (omega arith) (omega arith)) in
     rw (g, e, over-snoc d at (slice (at + n) k d) (k - n) (getD d k 0) (omega arith) (omega arith), slice-snoc (at + n) k d h l) refl
 
-replicate-snoc : (n v : ℕ) → replicate (suc n) v ≡ replicate n v ++ (v ∷ [])
-replicate-snoc zero v = refl
-replicate-snoc (suc n) v = ap (λ l. v ∷ l) (replicate-snoc n v)
-
-pub zero-turn : (d s : List ℕ) (at k : ℕ) → s ≡ over d at (replicate (k - at) 0) → at ≤ k → k < length d
-    → set s k 0 ≡ over d at (replicate (suc k - at) 0)
-zero-turn d s at k e h l =
-    let m : suc k - at ≡ suc (k - at) = omega arith in
-    let r = length-replicate {A = ℕ} (k - at) 0 in
-    rw (e, m, over-snoc d at (replicate (k - at) 0) k 0 (omega arith) l, replicate-snoc (k - at) 0) refl
-
 -- before the first turn nothing is written
 pub slice-start : (s : List ℕ) (a t : ℕ) → s ≡ over s a (slice t t s)
 slice-start s a t = sym (rw (slice-empty t s) (over-nil s a))
-
-pub zero-start : (s : List ℕ) (a : ℕ) → s ≡ over s a (replicate (a - a) 0)
-zero-start s a = let e : a - a ≡ 0 = omega arith in rw e (sym (over-nil s a))

@@ -2,8 +2,8 @@
 // Lengths are in bytes, places in words. Where the numbers do not fit, the buffer stays as it was. Definitions:
 // specs/Files.
 ghost use mathlib.Core.Path.{_≡_};
-ghost use Prim.Native.Nat.{_+_, _-_, _≤_};
-ghost use lib.ListN.{length, replicate};
+ghost use Prim.Native.Nat.{_+_, _≤_};
+ghost use lib.ListN.{length};
 ghost use lib.Seq.{slice};
 ghost use Rattle.words.specs.Words.{over};
 ghost use Rattle.buffers.specs.Files.{wordsInserted, wordsRemoved};
@@ -28,18 +28,6 @@ fn move_down(s: &mut [u8], used: usize, at: usize, n: usize)
     let mut k = at + n;
     while k < used {
         s[k - n] = s[k];
-        k += 1;
-    }
-}
-
-// The bytes from `at` to `end` become zero.
-fn clear(s: &mut [u8], at: usize, end: usize)
-    requires { ⌜ (at ≤ end) × (end ≤ length (now s)) ⌝ }
-    ensures { λ _. ⌜ now (s .exit) ≡ over (now (s .entry)) at (replicate (end - at) 0) ⌝ }
-{
-    let mut k = at;
-    while k < end {
-        s[k] = 0;
         k += 1;
     }
 }
@@ -87,5 +75,5 @@ pub fn remove_words(file: &mut [u8], used: usize, place: usize, n: usize)
     }
     let freed = 2 * n;
     move_down(file, used, 2 * place, freed);
-    clear(file, used - freed, used);
+    copies::clear(file, used - freed, used);
 }

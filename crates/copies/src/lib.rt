@@ -1,6 +1,6 @@
-// Bytes copied into a lent buffer. The definition is in specs/Copies.
+// Bytes copied into a lent buffer, and cleared there. The definitions are in specs/Copies.
 ghost use mathlib.Core.Path.{_≡_};
-ghost use Rattle.copies.specs.Copies.{copied};
+ghost use Rattle.copies.specs.Copies.{copied, cleared};
 
 // The bytes from `at` on become those of src, where they fit.
 pub fn copy_in(s: &mut [u8], at: usize, src: &[u8])
@@ -15,6 +15,23 @@ pub fn copy_in(s: &mut [u8], at: usize, src: &[u8])
     let mut k = 0;
     while k < src.len() {
         s[at + k] = src[k];
+        k += 1;
+    }
+}
+
+// The bytes from `at` to `end` become zero, where both stand in this order in the buffer.
+pub fn clear(s: &mut [u8], at: usize, end: usize)
+    ensures { λ _. ⌜ now (s .exit) ≡ cleared (now (s .entry)) at end ⌝ }
+{
+    if end < at {
+        return;
+    }
+    if s.len() < end {
+        return;
+    }
+    let mut k = at;
+    while k < end {
+        s[k] = 0;
         k += 1;
     }
 }

@@ -7,9 +7,13 @@ use lib.ListN.{length}
 use borrow.Author.Tests.{le-leb, lt-leb}
 use Rattle.blocks.specs.Calls.{leftBy, Moves}
 use Rattle.blocks.specs.declared.Moved.{Moved}
-use Rattle.answers.specs.Answers.{Replied}
+use Rattle.answers.specs.Answers.{Replied, SmallReply}
 use Rattle.answers.proofs.Laws.{too-short}
 use Rattle.dgn_blocks.specs.Moves.{movedReply, MovedBy}
+
+-- an answer is as small as what it equals
+pub small-answer : (m : Moved) (x b : List ℕ) (r : Moved) (last : List ℕ) → Moves m x b r last → SmallReply (movedReply m) → SmallReply (movedReply r)
+small-answer m x b r last w = subst (λ a. SmallReply (movedReply a)) (sym (w .is))
 
 module _ (m : Moved) (x b out : List ℕ) where
   pub not-answered : length out < 1 → MovedBy m x b out 1 b out

@@ -8,7 +8,7 @@ use borrow.Author.Needs.{needs}
 use Rattle.words.specs.Words.{over}
 use Rattle.words.proofs.Over.{over-nil}
 use Rattle.blocks.specs.Blocks.{storedFrom}
-use Rattle.blocks.proofs.Loops.{for-room, fill-turn, fill-end, mid-length}
+use Rattle.blocks.proofs.Loops.{for-room, fill-turn, turns-end, mid-length}
 use Rattle.blocks.proofs.fill.Statement.{statement}
 use Rattle.blocks.proofs.fill.Tie as tie
 
@@ -82,7 +82,9 @@ same-length : tie.Need-same-length Inv-loop μ-loop
 same-length c = (c .before .loop .inv .1)
 
 returns : tie.Need-returns Inv-loop μ-loop
-returns c = fill-end _ _ _ _ _ (c .loop-test .left) (c .before .loop .inv .0) (c .before .loop .inv .2)
+returns c =
+    let j = c .before .before .before .before .args .j .now in
+    turns-end (λ i. storedFrom i j) _ _ _ _ (c .loop-test .left) (c .before .loop .inv .0) (c .before .loop .inv .2)
 
 pub fill-spec : {M : Type 1} → statement M
 fill-spec =

@@ -8,8 +8,8 @@ use borrow.Author.Needs.{needs}
 use Rattle.words.specs.Words.{over}
 use Rattle.words.proofs.Over.{over-nil}
 use Rattle.blocks.specs.Blocks.{flatFrom}
-use Rattle.blocks.proofs.Loops.{in-room}
-use Rattle.blocks.proofs.Flat.{Here, here, flat-le, flat-turn, gather-turn, gather-end}
+use Rattle.blocks.proofs.Loops.{in-room, turns-end}
+use Rattle.blocks.proofs.Flat.{Here, here, flat-le, flat-turn, gather-turn}
 use Rattle.blocks.proofs.gather.Statement.{statement}
 use Rattle.blocks.proofs.gather.Tie as tie
 
@@ -86,7 +86,9 @@ same-length : tie.Need-same-length Inv-loop μ-loop
 same-length c = (c .before .loop .inv .1)
 
 returns : tie.Need-returns Inv-loop μ-loop
-returns c = gather-end _ _ _ _ _ (c .loop-test .left) (c .before .loop .inv .0) (c .before .loop .inv .3)
+returns c =
+    let s = c .before .before .before .before .args .s .now in
+    turns-end (λ i. flatFrom i s) _ _ _ _ (c .loop-test .left) (c .before .loop .inv .0) (c .before .loop .inv .3)
 
 pub gather-spec : {M : Type 1} → statement M
 gather-spec =

@@ -3,6 +3,7 @@ use mathlib.Core.Path.{sym, _∙_}
 use native.Mathlib.Omega.{arith}
 use borrow.Author.Needs.{needs}
 use Rattle.words.proofs.Laws.{lent-below}
+use Rattle.copies.proofs.Clears.{cleared-in}
 use Rattle.buffers.proofs.Stored.{remove-moves}
 use Rattle.buffers.proofs.Fits.{removed-fits, removed-not}
 use Rattle.buffers.proofs.remove_words.Statement.{statement}
@@ -51,7 +52,7 @@ returns-5 c =
     let file = lent-below (args .file .now) (at-slice-known .slice-known .given) in
     let even = at-if1 .if1 .left in
     remove-moves _ _ _ file even (omega arith) _ _ _ (omega arith) (at-move-down .move-down .ensures)
-    (c .before .before .clear .ensures) ∙ sym (removed-fits _ _ _ _ even (omega arith) (omega arith))
+    (c .before .before .clear .ensures ∙ cleared-in _ _ _ (omega arith) (omega (arith, at-move-down .move-down .kept .0))) ∙ sym (removed-fits _ _ _ _ even (omega arith) (omega arith))
 
 pub remove-words-spec : {M : Type 1} → statement M
 remove-words-spec =

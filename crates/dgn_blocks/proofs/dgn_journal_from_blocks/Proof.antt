@@ -1,9 +1,6 @@
 -- No room for the answer, or the library's own.
-use mathlib.Core.Path.{sym, subst}
 use lib.ListN.{length}
-use Rattle.answers.specs.Answers.{SmallReply}
-use Rattle.dgn_blocks.specs.Moves.{movedReply}
-use Rattle.dgn_blocks.proofs.Moves.{not-answered, moved}
+use Rattle.dgn_blocks.proofs.Moves.{not-answered, small-answer, moved}
 use Rattle.dgn_blocks.proofs.Small.{from-small}
 use borrow.Author.Needs.{needs}
 use Rattle.dgn_blocks.proofs.dgn_journal_from_blocks.Statement.{statement}
@@ -17,11 +14,10 @@ from-blocks-requires c κs = search needs
 
 put-moved-requires : tie.Need-put-moved-requires
 put-moved-requires c κs =
-    let at-from-blocks = c .before .before .before in
-    let at-if1 = at-from-blocks .before .before in
-    let start = at-if1 .before .before .before .before in
-    let small = from-small (start .args .stored .now) (length (start .args .journal .now)) in
-    (at-if1 .if1 .left, subst (λ r. SmallReply (movedReply r)) (sym (at-from-blocks .from-blocks .ensures .is)) small)
+    let at-call = c .before .before .before in
+    let at-if1 = at-call .before .before in
+    let args = at-if1 .before .before .before .before .args in
+    (at-if1 .if1 .left, small-answer _ _ _ _ _ (at-call .from-blocks .ensures) (from-small (args .stored .now) (length (args .journal .now))))
 
 same-length : tie.Need-same-length
 same-length c = search needs
@@ -32,9 +28,8 @@ same-length-2 c = search needs
 returns-2 : tie.Need-returns-2
 returns-2 c =
     let at-put-moved = c .before .before in
-    let at-from-blocks = at-put-moved .before .before .before .before in
-    let at-if1 = at-from-blocks .before .before in
-    moved _ _ _ _ _ _ _ _ (at-if1 .if1 .left) (at-from-blocks .from-blocks .ensures) (at-put-moved .put-moved .ensures)
+    let at-call = at-put-moved .before .before .before .before in
+    moved _ _ _ _ _ _ _ _ (at-call .before .before .if1 .left) (at-call .from-blocks .ensures) (at-put-moved .put-moved .ensures)
 
 pub dgn-journal-from-blocks-spec : {M : Type 1} → statement M
 dgn-journal-from-blocks-spec =

@@ -1,9 +1,6 @@
 -- No room for the answer, or the library's own.
-use mathlib.Core.Path.{sym, subst}
 use lib.ListN.{length}
-use Rattle.answers.specs.Answers.{SmallReply}
-use Rattle.dgn_blocks.specs.Moves.{movedReply}
-use Rattle.dgn_blocks.proofs.Moves.{not-answered, moved}
+use Rattle.dgn_blocks.proofs.Moves.{not-answered, small-answer, moved}
 use Rattle.dgn_blocks.proofs.Small.{to-small}
 use borrow.Author.Needs.{needs}
 use Rattle.dgn_blocks.proofs.dgn_journal_to_blocks.Statement.{statement}
@@ -17,11 +14,10 @@ to-blocks-requires c κs = search needs
 
 put-moved-requires : tie.Need-put-moved-requires
 put-moved-requires c κs =
-    let at-to-blocks = c .before .before .before in
-    let at-if1 = at-to-blocks .before .before in
-    let start = at-if1 .before .before .before .before in
-    let small = to-small (start .args .journal .now) (length (start .args .buffer .now)) in
-    (at-if1 .if1 .left, subst (λ r. SmallReply (movedReply r)) (sym (at-to-blocks .to-blocks .ensures .is)) small)
+    let at-call = c .before .before .before in
+    let at-if1 = at-call .before .before in
+    let args = at-if1 .before .before .before .before .args in
+    (at-if1 .if1 .left, small-answer _ _ _ _ _ (at-call .to-blocks .ensures) (to-small (args .journal .now) (length (args .buffer .now))))
 
 same-length : tie.Need-same-length
 same-length c = search needs
@@ -32,9 +28,8 @@ same-length-2 c = search needs
 returns-2 : tie.Need-returns-2
 returns-2 c =
     let at-put-moved = c .before .before in
-    let at-to-blocks = at-put-moved .before .before .before .before in
-    let at-if1 = at-to-blocks .before .before in
-    moved _ _ _ _ _ _ _ _ (at-if1 .if1 .left) (at-to-blocks .to-blocks .ensures) (at-put-moved .put-moved .ensures)
+    let at-call = at-put-moved .before .before .before .before in
+    moved _ _ _ _ _ _ _ _ (at-call .before .before .if1 .left) (at-call .to-blocks .ensures) (at-put-moved .put-moved .ensures)
 
 pub dgn-journal-to-blocks-spec : {M : Type 1} → statement M
 dgn-journal-to-blocks-spec =
