@@ -1,5 +1,5 @@
-// Links the archive of the C judge, the views, points and texts in C, the hops, the move and the blocks, which bench/run makes. The proved
-// library is linked by its bindings.
+// Links the archive of the C judge, the views, points and texts in C, the hops, the move, the blocks and the index, which bench/run
+// makes. The proved library is linked by its bindings.
 fn main() {
     let folder = std::env::var("CARGO_MANIFEST_DIR").unwrap() + "/../target/bench";
     println!("cargo:rustc-link-search=native={folder}");

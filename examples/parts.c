@@ -47,7 +47,7 @@ int main(int argc, char **argv)
     size_t len = in == NULL ? 0 : fread(file, 1, sizeof file, in);
     if (in == NULL || ferror(in) || fclose(in) != 0) return perror(argv[1]), 3;
     list(len);
-    s.file = file, s.file_len = DGN_FILE_BYTES, s.journal = journal, s.journal_len = sizeof journal, s.dimension = 2;
+    s.file = file, s.file_len = DGN_FILE_BYTES, s.journal = journal, s.journal_len = sizeof journal, s.index = NULL, s.dimension = 2;
     check(dgn_session_open(&s, len), argv[1]);
     check(dgn_find(file, s.used, 2, (const uint8_t *)argv[2], strlen(argv[2]), found, DGN_FIND_NUMBERS), argv[2]);
     check(dgn_session_rename(&s, found[DGN_FIND_PLACE], argv[3]), argv[3]);

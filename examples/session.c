@@ -1,5 +1,6 @@
 /* A small session in memory: a 2D cell with one line is edited, what was done is shown, the journal goes to blocks for a disk and
- * comes back, then all is undone. Every answer is held to the one that is due. Status: 0 all as due, 1 another answer of an edit or undo, 2 what is to be edited cannot be
+ * comes back, then all is undone. Then the same cell with an index, in which cells are looked up between the edits. Every answer is
+ * held to the one that is due. Status: 0 all as due, 1 another answer of an edit or undo, 2 what is to be edited cannot be
  * made, 3 a record of the journal cannot be read, 4 other bytes than at the start, 5 standard output cannot be written.
  */
 #include <stdio.h>
@@ -8,7 +9,7 @@
 
 #include "dgn_session.h"
 
-static uint8_t file[400], journal[400];
+static uint8_t file[500], journal[400];
 static struct dgn_session s;
 
 /* ends with a status where the answer of a call is not the one that is due */
@@ -81,6 +82,49 @@ static void rest(void)
     printf("taken back: %zu bytes\n", s.jused);
 }
 
+/* where the index has a cell of the name */
+static void look_up(const char *name, size_t due)
+{
+    size_t found[DGN_LOOK_UP_NUMBERS], r = dgn_session_look_up(&s, name, found, DGN_LOOK_UP_NUMBERS);
+    hold("look up", r, due, 1);
+    if (r == 0)
+        printf("%s: at %zu, looks: %zu\n", name, found[DGN_LOOK_UP_PLACE], found[DGN_LOOK_UP_LOOKS]);
+    else
+        printf("%s: not there, looks: %zu\n", name, DGN_COUNT(r));
+}
+
+/* a session with an index that has room for two cells; every edit and undo leaves in it the index of the file as it then is */
+static void indexed(const uint8_t *cell)
+{
+    static uint8_t entries[2 * DGN_ENTRY_BYTES];
+    s.index = entries;
+    s.index_len = sizeof entries;
+    show("build the index", dgn_session_index(&s), DGN_DONE);
+    look_up("00417", DGN_DONE);
+    show("rename the cell", dgn_session_rename(&s, 0, "417"), DGN_DONE);
+    look_up("00417", DGN_NO_SUCH);
+    show("insert a cell at the front", dgn_session_insert(&s, DGN_TOP, 0, cell, 144), DGN_DONE);
+    look_up("00417", DGN_DONE);
+    look_up("417", DGN_DONE);
+    show("insert a third", dgn_session_insert(&s, DGN_TOP, 0, cell, 144), DGN_ROOM);
+    show("mark the first deleted", dgn_session_mark(&s, 0, 1), DGN_DONE);
+    show("remove it", dgn_session_remove(&s, 0), DGN_DONE);
+    while (s.jused > 0)
+        show("undo", dgn_session_undo(&s), DGN_DONE);
+    look_up("00417", DGN_DONE);
+    printf("the index has %zu bytes\n", s.iused);
+}
+
+/* ends where the file is not as it was */
+static void hold_bytes(const uint8_t *original)
+{
+    if (memcmp(file, original, sizeof file) != 0) {
+        fprintf(stderr, "session: the bytes are not the original's\n");
+        exit(4);
+    }
+    printf("the bytes are the original's\n");
+}
+
 int main(void)
 {
     uint8_t line[52], original[sizeof file];
@@ -102,6 +146,7 @@ int main(void)
     s.file_len = sizeof file;
     s.journal = journal;
     s.journal_len = sizeof journal;
+    s.index = NULL;
     s.dimension = 2;
     show("open", dgn_session_open(&s, sizeof file), DGN_DONE);
     show("mark the line deleted", dgn_session_mark(&s, 46, 1), DGN_DONE);
@@ -117,11 +162,9 @@ int main(void)
     while (s.jused > 0)
         show("undo", dgn_session_undo(&s), DGN_DONE);
     show("undo", dgn_session_undo(&s), DGN_NOTHING);
-    if (memcmp(file, original, sizeof file) != 0) {
-        fprintf(stderr, "session: the bytes are not the original's\n");
-        return 4;
-    }
-    printf("the bytes are the original's\n");
+    hold_bytes(original);
+    indexed(original);
+    hold_bytes(original);
     if (ferror(stdout) || fflush(stdout) != 0) {
         perror("session: standard output");
         return 5;

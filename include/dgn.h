@@ -9,7 +9,8 @@
  *   DGN_NUMBER(r)  is its number, one of enum dgn_refusal,
  *   DGN_PLACE(r)   its place: the word where the element at fault begins, of words left over after a piece the first
  *                  of them, for DGN_NO_END the end of the file, for DGN_BLOCK the number of the block, else 0,
- *   DGN_COUNT(r)   for DGN_NO_SUCH of dgn_find how many elements the file has, else 0.
+ *   DGN_COUNT(r)   for DGN_NO_SUCH of dgn_find how many elements the file has, of dgn_look_up how many looks were made,
+ *                  else 0.
  * A REFUSAL CHANGES NO BYTE OF ANY SLICE, `out` AMONG THEM. Where a function is done, its answer stands at the front of
  * `out`; each says how many numbers that needs, and what stands behind them stays. With fewer it returns 1.
  *
@@ -50,8 +51,8 @@
 extern "C" {
 #endif
 
-#define DGN_VERSION 0x000200
-#define DGN_VERSION_TEXT "0.2.0"
+#define DGN_VERSION 0x000300
+#define DGN_VERSION_TEXT "0.3.0"
 
 /* A returned number taken apart. */
 #define DGN_NUMBER(r) ((r) & 255)
@@ -59,12 +60,13 @@ extern "C" {
 #define DGN_COUNT(r) (DGN_NUMBER(r) == 13 ? (r) >> 8 : 0)
 
 /* Limits: bytes of a file, piece or buffer of a session; elements of a file, each of two words or more; numbers that
- * dgn_points writes of a file, at most one for two of its words; texts of a file, each of 30 words or more; words of an
- * extent; depth; points of an element; characters, and enter-data fields, of a text. */
+ * dgn_points writes of a file, at most one for two of its words; texts of a file, each of 30 words or more; cells of a file,
+ * each of 35 words or more; words of an extent; depth; points of an element; characters, and enter-data fields, of a text. */
 #define DGN_FILE_BYTES 1048576
 #define DGN_FILE_ELEMENTS 262143
 #define DGN_FILE_NUMBERS 262144
 #define DGN_FILE_TEXTS 17476
+#define DGN_FILE_CELLS 14979
 #define DGN_EXTENT_WORDS 65535
 #define DGN_DEEPEST 8
 #define DGN_MOST_POINTS 101
@@ -275,6 +277,40 @@ size_t dgn_pack(const uint8_t *text, size_t text_len, size_t *out, size_t out_le
 #define DGN_TEXT_BYTES 7
 size_t dgn_unpack(size_t first, size_t second, uint8_t *text, size_t text_len);
 
+/* ---- cells, and an index of them: those of a file by their names, in a buffer beside it ----
+ *
+ * An entry has 8 bytes: the two words of a cell's name, then its place as a long, the high word first. Cells are the elements
+ * of types 1 and 2, at all depths and deleted ones too. A buffer of entries may have any length; DGN_INDEX_ROOM(len) bytes are
+ * enough for a file of `len` bytes.
+ *
+ * An index has an entry for each cell of a file, ordered by the first word of the name, then the second, as unsigned numbers, then
+ * by place. That is not the order of the texts: letters stand before digits. Its used length is 8 bytes for each cell. */
+
+#define DGN_ENTRY_BYTES 8
+#define DGN_INDEX_BYTES (DGN_ENTRY_BYTES * DGN_FILE_CELLS)
+#define DGN_INDEX_ROOM(len) ((len) / 70 * DGN_ENTRY_BYTES)
+
+/* The cells of a file in file order: their entries at the front of `entries`, as many as it holds whole, and what stands behind
+ * them stays. Judges once and goes over the sizes once: the cheapest call that gives names. out needs 4: how many cells the file
+ * has, which may be more than fit, then the three numbers of dgn_judge. Refusals: 1, the file's own. */
+enum { DGN_CELLS_CELLS, DGN_CELLS_ELEMENTS, DGN_CELLS_DEPTH, DGN_CELLS_MARKER };
+#define DGN_CELLS_NUMBERS 4
+size_t dgn_cells(const uint8_t *file, size_t len, size_t dimension, uint8_t *entries, size_t entries_len, size_t *out, size_t out_len);
+
+/* Builds the index of a file at the front of `index`; every byte behind it becomes 0. out needs 1: its used length. Judges once,
+ * goes over the sizes twice and sorts in place: n log n for n cells. Refusals: 1, the file's own, 15. */
+#define DGN_INDEX_NUMBERS 1
+size_t dgn_index(const uint8_t *file, size_t len, size_t dimension, uint8_t *index, size_t index_len, size_t *out, size_t out_len);
+
+/* The lowest place of a cell with the name, by the first `used` bytes of an index; for the text see dgn_pack. No file is read. out
+ * needs 2: the place, and how many looks at entries were made, at most one more than the binary digits of the number of
+ * entries. Over the index of a file the place is that of dgn_find. Any bytes may be handed in: the answer is then the place
+ * that stands where the search by halving ends. Refusals: 1 (a used length that is not a multiple of 8, or beyond the buffer),
+ * 12 for the text at 0, 13 with DGN_COUNT(r) the looks. */
+enum { DGN_LOOK_UP_PLACE, DGN_LOOK_UP_LOOKS };
+#define DGN_LOOK_UP_NUMBERS 2
+size_t dgn_look_up(const uint8_t *index, size_t index_len, size_t used, const uint8_t *text, size_t text_len, size_t *out, size_t out_len);
+
 /* ---- writing ---- */
 
 /* The fields of an element to write: all words and longs as stored, so the range unsigned. */
@@ -336,7 +372,7 @@ enum dgn_write_text_index {
  * (above 65,535 words), 11, 15. */
 size_t dgn_write_text(const size_t *fields, size_t fields_len, const int64_t *text, size_t text_len, const uint8_t *characters, size_t characters_len, const uint8_t *triples, size_t triples_len, const uint8_t *tail, size_t tail_len, size_t dimension, uint8_t *buffer, size_t buffer_len, size_t *out, size_t out_len);
 
-/* ---- editing (dgn_session.h has the same calls with the buffers and used lengths in a struct) ----
+/* ---- editing (dgn_session.h has the same calls, with an index or without, with the buffers and used lengths in a struct) ----
  *
  * A session is two buffers, each with a used length in bytes that the caller keeps: the first `used` bytes of `file`
  * are the file through its end marker, the first `jused` bytes of `journal` the records of the edits made, none at
@@ -387,6 +423,24 @@ size_t dgn_remove(uint8_t *file, size_t file_len, size_t used, uint8_t *journal,
 /* Undoes the last edit not undone: reverses the journal's last record and takes it off. The journal's bytes stay, only
  * its used length falls. Then 17, 19, 15. */
 size_t dgn_undo(uint8_t *file, size_t file_len, size_t used, const uint8_t *journal, size_t journal_len, size_t jused, size_t dimension, size_t *out, size_t out_len);
+
+/* ---- the same with an index: a third buffer, of any length, whose first `iused` bytes are the index ----
+ *
+ * Each does what the one above does, with the same refusals, and after a call that is made the index is that of the file now, with
+ * zeros to its end, whatever bytes were lent. out needs 3: the used lengths of file, journal and index. A used length of the
+ * index that is not a multiple of 8 or is beyond its buffer is 1. Where the index of the file after the call does not fit it is 15,
+ * before 16 and before anything changes: DGN_INDEX_ROOM of the file's buffer is enough for any edit. A refusal changes no byte of the
+ * index either. The index is built anew by each call: one more pass over the sizes for each of counting and listing, and a sort. */
+
+enum { DGN_INDEXED_USED, DGN_INDEXED_JOURNAL_USED, DGN_INDEXED_INDEX_USED };
+#define DGN_INDEXED_NUMBERS 3
+size_t dgn_mark_indexed(uint8_t *file, size_t file_len, size_t used, uint8_t *journal, size_t journal_len, size_t jused, uint8_t *index, size_t index_len, size_t iused, size_t dimension, size_t place, size_t deleted, size_t *out, size_t out_len);
+size_t dgn_rename_indexed(uint8_t *file, size_t file_len, size_t used, uint8_t *journal, size_t journal_len, size_t jused, uint8_t *index, size_t index_len, size_t iused, size_t dimension, size_t place, const uint8_t *text, size_t text_len, size_t *out, size_t out_len);
+size_t dgn_insert_indexed(uint8_t *file, size_t file_len, size_t used, uint8_t *journal, size_t journal_len, size_t jused, uint8_t *index, size_t index_len, size_t iused, size_t dimension, size_t header, size_t place, const uint8_t *piece, size_t piece_len, size_t *out, size_t out_len);
+size_t dgn_remove_indexed(uint8_t *file, size_t file_len, size_t used, uint8_t *journal, size_t journal_len, size_t jused, uint8_t *index, size_t index_len, size_t iused, size_t dimension, size_t place, size_t *out, size_t out_len);
+size_t dgn_undo_indexed(uint8_t *file, size_t file_len, size_t used, const uint8_t *journal, size_t journal_len, size_t jused, uint8_t *index, size_t index_len, size_t iused, size_t dimension, size_t *out, size_t out_len);
+
+/* ---- the records of a journal ---- */
 
 /* The last record of a journal, without its file. out needs 5: kind, the header's place (DGN_TOP for -1), the place,
  * how many payload words, and the used length before the record, where its payload begins: with that as `jused` the next

@@ -4,10 +4,16 @@
  *   struct dgn_session s;
  *   s.file = bytes;        s.file_len = sizeof bytes;
  *   s.journal = records;   s.journal_len = sizeof records;
+ *   s.index = NULL;
  *   s.dimension = 2;
  *   r = dgn_session_open(&s, read);
  * Each function returns what that of dgn.h returns, and a refusal changes neither buffers nor struct. Of a session that
  * is saved, the file is the first s.used bytes and the journal the first s.jused: keep both together.
+ *
+ * With an index, which every edit and undo then keeps the one of the file:
+ *   s.index = entries;     s.index_len = sizeof entries;
+ *   r = dgn_session_open(&s, read);
+ *   r = dgn_session_index(&s);
  */
 #ifndef DGN_SESSION_H
 #define DGN_SESSION_H
@@ -22,7 +28,10 @@ struct dgn_session {
     size_t used;     /* bytes of the file through its end marker */
     uint8_t *journal;
     size_t journal_len;
-    size_t jused; /* bytes of the journal's records */
+    size_t jused;     /* bytes of the journal's records */
+    uint8_t *index;   /* NULL: the session has no index; a buffer of no bytes that is one has another pointer */
+    size_t index_len; /* of any length; DGN_INDEX_ROOM(file_len) is enough */
+    size_t iused;     /* bytes of the index's entries */
     size_t dimension;
 };
 
@@ -50,12 +59,31 @@ static inline size_t dgn_session_open(struct dgn_session *s, size_t read)
     return r;
 }
 
+/* dgn_index of the session's file, in its index's buffer, which may not be NULL. For a session that is opened, before its first edit;
+ * later for one whose index was not kept. Refusals: as dgn_index. */
+static inline size_t dgn_session_index(struct dgn_session *s)
+{
+    size_t out[DGN_INDEX_NUMBERS];
+    size_t r = dgn_index(s->file, s->used, s->dimension, s->index, s->index_len, out, DGN_INDEX_NUMBERS);
+    if (r == 0)
+        s->iused = out[0];
+    return r;
+}
+
+/* dgn_look_up in the session's index: the name is a string, and out needs 2. */
+static inline size_t dgn_session_look_up(const struct dgn_session *s, const char *name, size_t *out, size_t out_len)
+{
+    return dgn_look_up(s->index, s->index_len, s->iused, (const uint8_t *)name, strlen(name), out, out_len);
+}
+
 /* Keeps the used lengths of a call that is made. */
 static inline size_t dgn_session_keep(struct dgn_session *s, size_t r, const size_t *out)
 {
     if (r == 0) {
         s->used = out[DGN_EDIT_USED];
         s->jused = out[DGN_EDIT_JOURNAL_USED];
+        if (s->index)
+            s->iused = out[DGN_INDEXED_INDEX_USED];
     }
     return r;
 }
@@ -63,40 +91,56 @@ static inline size_t dgn_session_keep(struct dgn_session *s, size_t r, const siz
 /* dgn_mark: deleted is 1 or 0. All beneath the element goes with it, and one undo brings back what was. */
 static inline size_t dgn_session_mark(struct dgn_session *s, size_t place, size_t deleted)
 {
-    size_t out[DGN_EDIT_NUMBERS];
-    size_t r = dgn_mark(s->file, s->file_len, s->used, s->journal, s->journal_len, s->jused, s->dimension, place, deleted, out, DGN_EDIT_NUMBERS);
+    size_t out[DGN_INDEXED_NUMBERS], r;
+    if (s->index)
+        r = dgn_mark_indexed(s->file, s->file_len, s->used, s->journal, s->journal_len, s->jused, s->index, s->index_len, s->iused, s->dimension, place, deleted, out, DGN_INDEXED_NUMBERS);
+    else
+        r = dgn_mark(s->file, s->file_len, s->used, s->journal, s->journal_len, s->jused, s->dimension, place, deleted, out, DGN_EDIT_NUMBERS);
     return dgn_session_keep(s, r, out);
 }
 
 /* dgn_rename: the name is a string. */
 static inline size_t dgn_session_rename(struct dgn_session *s, size_t place, const char *name)
 {
-    size_t out[DGN_EDIT_NUMBERS];
-    size_t r = dgn_rename(s->file, s->file_len, s->used, s->journal, s->journal_len, s->jused, s->dimension, place, (const uint8_t *)name, strlen(name), out, DGN_EDIT_NUMBERS);
+    const uint8_t *text = (const uint8_t *)name;
+    size_t out[DGN_INDEXED_NUMBERS], r;
+    if (s->index)
+        r = dgn_rename_indexed(s->file, s->file_len, s->used, s->journal, s->journal_len, s->jused, s->index, s->index_len, s->iused, s->dimension, place, text, strlen(name), out, DGN_INDEXED_NUMBERS);
+    else
+        r = dgn_rename(s->file, s->file_len, s->used, s->journal, s->journal_len, s->jused, s->dimension, place, text, strlen(name), out, DGN_EDIT_NUMBERS);
     return dgn_session_keep(s, r, out);
 }
 
 /* dgn_insert: beneath the header at a place, or DGN_TOP. */
 static inline size_t dgn_session_insert(struct dgn_session *s, size_t header, size_t place, const uint8_t *piece, size_t piece_len)
 {
-    size_t out[DGN_EDIT_NUMBERS];
-    size_t r = dgn_insert(s->file, s->file_len, s->used, s->journal, s->journal_len, s->jused, s->dimension, header, place, piece, piece_len, out, DGN_EDIT_NUMBERS);
+    size_t out[DGN_INDEXED_NUMBERS], r;
+    if (s->index)
+        r = dgn_insert_indexed(s->file, s->file_len, s->used, s->journal, s->journal_len, s->jused, s->index, s->index_len, s->iused, s->dimension, header, place, piece, piece_len, out, DGN_INDEXED_NUMBERS);
+    else
+        r = dgn_insert(s->file, s->file_len, s->used, s->journal, s->journal_len, s->jused, s->dimension, header, place, piece, piece_len, out, DGN_EDIT_NUMBERS);
     return dgn_session_keep(s, r, out);
 }
 
 /* dgn_remove. */
 static inline size_t dgn_session_remove(struct dgn_session *s, size_t place)
 {
-    size_t out[DGN_EDIT_NUMBERS];
-    size_t r = dgn_remove(s->file, s->file_len, s->used, s->journal, s->journal_len, s->jused, s->dimension, place, out, DGN_EDIT_NUMBERS);
+    size_t out[DGN_INDEXED_NUMBERS], r;
+    if (s->index)
+        r = dgn_remove_indexed(s->file, s->file_len, s->used, s->journal, s->journal_len, s->jused, s->index, s->index_len, s->iused, s->dimension, place, out, DGN_INDEXED_NUMBERS);
+    else
+        r = dgn_remove(s->file, s->file_len, s->used, s->journal, s->journal_len, s->jused, s->dimension, place, out, DGN_EDIT_NUMBERS);
     return dgn_session_keep(s, r, out);
 }
 
 /* dgn_undo. */
 static inline size_t dgn_session_undo(struct dgn_session *s)
 {
-    size_t out[DGN_EDIT_NUMBERS];
-    size_t r = dgn_undo(s->file, s->file_len, s->used, s->journal, s->journal_len, s->jused, s->dimension, out, DGN_EDIT_NUMBERS);
+    size_t out[DGN_INDEXED_NUMBERS], r;
+    if (s->index)
+        r = dgn_undo_indexed(s->file, s->file_len, s->used, s->journal, s->journal_len, s->jused, s->index, s->index_len, s->iused, s->dimension, out, DGN_INDEXED_NUMBERS);
+    else
+        r = dgn_undo(s->file, s->file_len, s->used, s->journal, s->journal_len, s->jused, s->dimension, out, DGN_EDIT_NUMBERS);
     return dgn_session_keep(s, r, out);
 }
 

@@ -105,7 +105,7 @@ cd "$work/odd" || exit 1
 # outputs that cannot be written
 full() { "$@" > /dev/full 2> "$work/err"; [ $? -eq 3 ] && says "standard output cannot be written"; }
 for arguments in "--help" "--version" "help --man" "check samples" "list samples/seals.cel" "parts samples/seals.cel" \
-    "find 417 samples" "text samples/plate.dgn" "show samples/seals.cel 417" "compare samples/seals.cel samples/nested.dgn"; do
+    "find 417 samples" "index samples/seals.cel" "lookup samples/seals.cel.dgnidx 417" "text samples/plate.dgn" "show samples/seals.cel 417" "compare samples/seals.cel samples/nested.dgn"; do
     # shellcheck disable=SC2086
     check "a full disk: $arguments" full "$program" $arguments
 done
@@ -202,6 +202,33 @@ if [ "$(id -u)" -eq 0 ] && mkdir small && mount -t tmpfs -o size=4k none small 2
 else
     check "extract: a full disk" ends 3 "$program" extract samples/seals.cel 417 -o /dev/full
 fi
+
+# index replaces an index, as a whole or not at all, and nothing else; its other name goes
+check "index" ends 0 "$program" index samples/seals.cel
+check "index: the bytes" cmp samples/seals.cel.dgnidx <(printf '\x58\x21\xe8\x80\0\0\x82\x01\x55\x67\x7f\x68\0\0\x1e\x01\x52\xc0\x88\xc7\0\0\0\0\x7d\xd9\0\0\0\0\xb5\0')
+cp samples/nested.dgn samples/seals.cel.dgnidx
+check "index: over an index" ends 0 "$program" index samples/seals.cel
+check "index: over an index: how many entries" test "$(stat -c %s samples/seals.cel.dgnidx)" -eq 32
+ln -s seals.cel samples/link.dgnidx && mkfifo samples/pipe.dgnidx
+for out in link pipe; do
+    check "index: over a $out" ends 3 "$program" index samples/seals.cel -o samples/$out.dgnidx
+    check "index: over a $out is told" says "samples/$out.dgnidx cannot be written: what stands there is no file"
+done
+check "index: the file by another name" eval 'ln samples/seals.cel samples/same.dgnidx && ends 3 "$program" index samples/seals.cel -o samples/same.dgnidx && says "it is the file that is to be indexed"'
+check "index: the file stays" cmp samples/seals.cel samples/same.dgnidx
+check "index: a name of a log" ends 2 "$program" index samples/seals.cel -o samples/seals.cel.dgnlog.dgnidx
+check "index: no permission" ends 3 "${as[@]}" index samples/seals.cel -o shut/out.dgnidx
+check "index: no such folder" ends 3 "$program" index samples/seals.cel -o none/out.dgnidx
+if [ "$(id -u)" -eq 0 ] && mkdir -p small && mount -t tmpfs -o size=8k none small 2> "$work/err"; then
+    head -c 4096 /dev/zero > small/filler && printf 'the old one' > small/out.dgnidx
+    check "index: a full disk" ends 3 "$program" index samples/seals.cel -o small/out.dgnidx
+    check "index: a full disk leaves what was there" eval 'grep -qx "the old one" small/out.dgnidx && [ "$(ls small | wc -l)" -eq 2 ]'
+    umount small
+else
+    check "index: a full disk" ends 3 "$program" index samples/seals.cel -o /dev/full
+fi
+rm samples/*.dgnidx
+check "index: other names are left" test -z "$(find . -name '*.new')"
 
 # a file that is changed while it is read, by a library that is loaded before: it grows, shrinks or is written to after a read
 check "changed.c does not build" gcc -shared -fPIC -O2 -Wall -Wextra -Werror -o "$work/changed.so" "$top/tests/changed.c" -ldl

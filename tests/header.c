@@ -230,7 +230,26 @@ static void whole(void)
     check(refused(dgn_points(file, len, 4, 0, fresh_numbers(), 6, fresh(), 2), DGN_CALL, 0), "dimension 4");
 }
 
-/* the files of the most elements, of the most points and of the most texts: one call reads all of them */
+/* four library cells that hold nothing, named 417, 00417, 417 and A, and the end marker; their entries in file order and in that of
+ * an index, which is that of the words: A is 1600, 0 */
+static uint8_t parts[282];
+static const uint8_t in_file[32] = {125, 217, 0, 0, 0, 0, 0, 0, 82, 192, 136, 199, 0, 0, 35, 0, 125, 217, 0, 0, 0, 0, 70, 0, 64, 6, 0, 0, 0, 0, 105, 0};
+static const uint8_t in_index[32] = {64, 6, 0, 0, 0, 0, 105, 0, 82, 192, 136, 199, 0, 0, 35, 0, 125, 217, 0, 0, 0, 0, 0, 0, 125, 217, 0, 0, 0, 0, 70, 0};
+
+static void put_parts(void)
+{
+    memset(parts, 0, sizeof parts);
+    for (size_t i = 0; i < 4; i++) {
+        uint8_t *cell = parts + 70 * i;
+        cell[1] = DGN_LIBRARY_CELL;
+        cell[2] = 33;
+        memcpy(cell + 32, in_file + 8 * i, 4);
+        cell[36] = 16;
+    }
+    memset(parts + 280, 255, 2);
+}
+
+/* the files of the most elements, points, texts and cells: one call reads all of them */
 static void largest(void)
 {
     static uint8_t large[DGN_FILE_BYTES];
@@ -257,6 +276,15 @@ static void largest(void)
     check(at + 60 + 2 > sizeof large, "no more of them in a file");
     large[at] = large[at + 1] = 255;
     check(dgn_texts(large, sizeof large, 2, 0, all, DGN_FILE_TEXTS * DGN_TEXTS_NUMBERS, fresh(), 2) == 0 && ARE(DGN_FILE_TEXTS, DGN_FILE_TEXTS), "the most texts");
+
+    static uint8_t index[DGN_INDEX_BYTES];
+    put_parts();
+    for (at = 0; at < 70 * DGN_FILE_CELLS; at += 70)
+        memcpy(large + at, parts, 70);
+    check(at + 70 + 2 > sizeof large, "no more cells in a file");
+    large[at] = large[at + 1] = 255;
+    check(dgn_index(large, sizeof large, 2, index, sizeof index, fresh(), 1) == 0 && ARE(DGN_INDEX_BYTES), "the most cells");
+    check(DGN_INDEX_ROOM(DGN_FILE_BYTES) == DGN_INDEX_BYTES && DGN_INDEX_ROOM(at + 2) == DGN_INDEX_BYTES, "room for any index");
 }
 
 static void names(void)
@@ -270,6 +298,57 @@ static void names(void)
     check(dgn_unpack(49234, 51080, text, 8) == 0 && memcmp(text, "00417\0\0\1", 8) == 0, "unpack");
     check(refused(dgn_unpack(64000, 0, text, 7), DGN_NAME, 0) && memcmp(text, "00417\0", 7) == 0, "word 64000, and the text stays");
     check(refused(dgn_unpack(1, 0, text, 6), DGN_CALL, 0) && memcmp(text, "00417\0", 7) == 0, "six bytes are too few");
+}
+
+/* cells in file order and by an index, buffers of all lengths, and looks */
+static void indexing(void)
+{
+    uint8_t room[50], nines[50];
+    size_t i;
+    put_parts();
+    fresh_numbers();
+    memset(nines, 9, sizeof nines);
+#define NINES() memcpy(room, nines, sizeof room)
+#define STAYS (memcmp(room, nines, sizeof room) == 0)
+    NINES();
+    check(dgn_cells(parts, sizeof parts, 2, room, 50, fresh(), 4) == 0 && ARE(4, 4, 0, 140), "cells");
+    check(memcmp(room, in_file, 32) == 0 && memcmp(room + 32, nines, 18) == 0, "their entries, and the bytes behind them");
+    NINES();
+    check(dgn_cells(parts, sizeof parts, 2, room, 23, fresh(), 4) == 0 && ARE(4, 4, 0, 140), "room for two cells");
+    check(memcmp(room, in_file, 16) == 0 && memcmp(room + 16, nines, 34) == 0, "two entries");
+    check(dgn_cells(file, len, 2, NULL, 0, fresh(), 4) == 0 && ARE(1, 2, 1, 72), "no room for cells");
+    NINES();
+    check(refused(dgn_cells(parts, sizeof parts, 2, room, 50, fresh(), 3), DGN_CALL, 0) && STAYS, "three numbers for four");
+    check(refused(dgn_cells(parts, 281, 2, room, 50, fresh(), 4), DGN_CALL, 0) && STAYS, "an odd length of cells");
+    check(refused(dgn_cells(parts, 280, 2, room, 50, fresh(), 4), DGN_NO_END, 140) && STAYS, "the file's own refusal of cells");
+
+    for (i = 32; i <= 50; i++) {
+        NINES();
+        check(dgn_index(parts, sizeof parts, 2, room, i, fresh(), 1) == 0 && ARE(32) && memcmp(room, in_index, 32) == 0, "index");
+        for (size_t k = 32; k < 50; k++)
+            if (room[k] != (k < i ? 0 : 9))
+                check(0, "zeros to the buffer's end");
+    }
+    NINES();
+    check(refused(dgn_index(parts, sizeof parts, 2, room, 31, fresh(), 1), DGN_ROOM, 0) && STAYS, "one byte too few");
+    check(refused(dgn_index(parts, sizeof parts, 2, room, 32, fresh(), 0), DGN_CALL, 0) && STAYS, "no out for an index");
+    check(refused(dgn_index(parts, sizeof parts, 4, room, 32, fresh(), 1), DGN_CALL, 0) && STAYS, "an index of dimension 4");
+    check(refused(dgn_index(parts, 280, 2, room, 0, fresh(), 1), DGN_NO_END, 140) && STAYS, "the file's own refusal, before 15");
+    check(dgn_index(parts + 280, 2, 2, NULL, 0, fresh(), 1) == 0 && ARE(0), "no cell");
+    check(dgn_index(file, len, 2, room, DGN_INDEX_ROOM(sizeof file), fresh(), 1) == 0 && ARE(8), "one cell, and room enough");
+
+#define LOOK_UP(used, text, out_len) dgn_look_up(in_index, 32, used, TEXT(text), fresh(), out_len)
+    check(LOOK_UP(32, "417", 2) == 0 && ARE(0, 3), "the lowest place of two");
+    check(LOOK_UP(32, "00417", 2) == 0 && ARE(35, 4), "look up");
+    check(LOOK_UP(32, "A", 2) == 0 && ARE(105, 4), "the first entry");
+    check(refused(LOOK_UP(32, "418", 2), DGN_NO_SUCH, 2), "not there, after two looks");
+    check(refused(LOOK_UP(32, "B", 2), DGN_NO_SUCH, 4), "not there, after four");
+    check(refused(LOOK_UP(0, "417", 2), DGN_NO_SUCH, 0), "no entry, no look");
+    check(LOOK_UP(8, "A", 2) == 0 && ARE(105, 2) && refused(LOOK_UP(8, "B", 2), DGN_NO_SUCH, 1), "one entry");
+    check(refused(LOOK_UP(32, "a", 2), DGN_NAME, 0), "no name to look up");
+    check(refused(LOOK_UP(31, "417", 2), DGN_CALL, 0) && refused(LOOK_UP(40, "417", 2), DGN_CALL, 0), "no whole entries, and beyond the buffer");
+    check(refused(LOOK_UP(32, "417", 1), DGN_CALL, 0), "one number for a place and looks");
+    check(dgn_look_up(in_file, 32, 32, TEXT("417"), fresh(), 2) == 0 && ARE(70, 3), "over entries that are in no order");
 }
 
 /* the line taken out, put back beneath the cell, the cell renamed and marked, then all undone */
@@ -320,6 +399,7 @@ static void session(void)
     s.used = s.jused = 8;
     s.journal = journal;
     s.journal_len = sizeof journal;
+    s.index = NULL;
     s.dimension = 2;
     check(dgn_session_open(&s, 150) == DGN_CALL, "an odd buffer");
     s.file_len = 148;
@@ -339,6 +419,80 @@ static void session(void)
     check(dgn_session_undo(&s) == DGN_NOTHING && s.used == 146 && s.jused == 0, "no fourth");
     check(memcmp(bytes, file, sizeof file) == 0, "the same bytes");
     check(dgn_session_remove(&s, 46) == 0 && s.used == 94 && s.jused == 64, "remove");
+}
+
+/* each edit with an index: the cell renamed, marked, removed and put back, and each undone; what was lent as an index is not looked at */
+static void editing_indexed(void)
+{
+    uint8_t bytes[300], journal[400], index[20], before[20];
+    static const uint8_t old[] = {82, 192, 136, 199, 0, 0, 0, 0}, new[] = {125, 217, 0, 0, 0, 0, 0, 0}, zeros[20] = {0};
+    memset(bytes, 0, sizeof bytes);
+    memcpy(bytes, file, sizeof file);
+    fresh_numbers();
+#define SESSION(used, jused, index_len, iused) bytes, 300, used, journal, 400, jused, index, index_len, iused, 2
+#define INDEX_IS(first) (memcmp(index, first, 8) == 0 && memcmp(index + 8, zeros, 12) == 0)
+    memset(index, 9, 20);
+    check(dgn_mark_indexed(SESSION(146, 0, 20, 16), 46, 0, fresh(), 3) == 0 && ARE(146, 14, 8) && INDEX_IS(old), "mark with an index");
+    memset(index, 9, 20);
+    check(dgn_rename_indexed(SESSION(146, 14, 20, 0), 0, TEXT("417"), fresh(), 3) == 0 && ARE(146, 30, 8) && INDEX_IS(new), "rename with an index");
+    memset(index, 9, 20);
+    check(dgn_remove_indexed(SESSION(146, 30, 20, 8), 0, fresh(), 3) == 0 && ARE(2, 186, 0) && memcmp(index, zeros, 20) == 0, "remove with an index");
+    memset(index, 9, 20);
+    check(dgn_insert_indexed(SESSION(2, 186, 20, 0), DGN_TOP, 0, file, 144, fresh(), 3) == 0 && ARE(146, 198, 8) && INDEX_IS(old), "insert with an index");
+    check(dgn_undo_indexed(SESSION(146, 198, 20, 8), fresh(), 3) == 0 && ARE(2, 186, 0) && memcmp(index, zeros, 20) == 0, "undo of the insert");
+    check(dgn_undo_indexed(SESSION(2, 186, 20, 0), fresh(), 3) == 0 && ARE(146, 30, 8) && INDEX_IS(new), "undo of the remove");
+
+    memset(index, 9, 20);
+    memcpy(before, index, 20);
+#define LEFT (memcmp(index, before, 20) == 0)
+    check(refused(dgn_mark_indexed(SESSION(146, 30, 20, 15), 46, 1, fresh(), 3), DGN_CALL, 0) && LEFT, "mark: no whole entries");
+    check(refused(dgn_rename_indexed(SESSION(146, 30, 20, 24), 0, TEXT("A"), fresh(), 3), DGN_CALL, 0) && LEFT, "rename: beyond the buffer");
+    check(refused(dgn_insert_indexed(SESSION(146, 30, 20, 1), DGN_TOP, 0, file, 144, fresh(), 3), DGN_CALL, 0) && LEFT, "insert: no whole entries");
+    check(refused(dgn_remove_indexed(SESSION(146, 30, 20, 4), 0, fresh(), 3), DGN_CALL, 0) && LEFT, "remove: no whole entries");
+    check(refused(dgn_undo_indexed(SESSION(146, 30, 20, 12), fresh(), 3), DGN_CALL, 0) && LEFT, "undo: no whole entries");
+    check(refused(dgn_mark_indexed(SESSION(146, 30, 7, 0), 46, 1, fresh(), 3), DGN_ROOM, 0) && LEFT, "mark: no room");
+    check(refused(dgn_rename_indexed(SESSION(146, 30, 7, 0), 0, TEXT("A"), fresh(), 3), DGN_ROOM, 0) && LEFT, "rename: no room");
+    check(refused(dgn_insert_indexed(SESSION(146, 30, 15, 0), DGN_TOP, 0, file, 144, fresh(), 3), DGN_ROOM, 0) && LEFT, "insert: no room");
+    check(refused(dgn_remove_indexed(SESSION(146, 30, 7, 0), 46, fresh(), 3), DGN_ROOM, 0) && LEFT, "remove: no room");
+    check(refused(dgn_undo_indexed(SESSION(146, 30, 7, 0), fresh(), 3), DGN_ROOM, 0) && LEFT, "undo: no room");
+    check(refused(dgn_mark_indexed(bytes, 300, 146, journal, 30, 30, index, 7, 0, 2, 46, 1, fresh(), 3), DGN_ROOM, 0) && LEFT, "15 before 16");
+    check(refused(dgn_mark_indexed(bytes, 300, 146, journal, 30, 30, index, 8, 0, 2, 46, 1, fresh(), 3), DGN_JOURNAL, 0) && LEFT, "16 with an index");
+    check(refused(dgn_mark_indexed(SESSION(146, 30, 7, 0), 46, 0, fresh(), 3), DGN_ALREADY, 0) && LEFT, "14 before 15");
+    check(refused(dgn_rename_indexed(SESSION(146, 30, 7, 0), 46, TEXT("A"), fresh(), 3), DGN_NOT_A_CELL, 0) && LEFT, "18 before 15");
+    check(refused(dgn_remove_indexed(SESSION(146, 30, 7, 0), 1, fresh(), 3), DGN_NO_SUCH, 0) && LEFT, "13 before 15");
+    check(refused(dgn_undo_indexed(SESSION(146, 0, 7, 0), fresh(), 3), DGN_NOTHING, 0) && LEFT, "17 before 15");
+    check(refused(dgn_mark_indexed(SESSION(146, 30, 20, 8), 46, 1, fresh(), 2), DGN_CALL, 0) && LEFT, "two numbers for three: mark");
+    check(refused(dgn_rename_indexed(SESSION(146, 30, 20, 8), 0, TEXT("A"), fresh(), 2), DGN_CALL, 0) && LEFT, "rename");
+    check(refused(dgn_insert_indexed(SESSION(146, 30, 20, 8), DGN_TOP, 0, file, 144, fresh(), 2), DGN_CALL, 0) && LEFT, "insert");
+    check(refused(dgn_remove_indexed(SESSION(146, 30, 20, 8), 0, fresh(), 2), DGN_CALL, 0) && LEFT, "remove");
+    check(refused(dgn_undo_indexed(SESSION(146, 30, 20, 8), fresh(), 2), DGN_CALL, 0) && LEFT, "undo");
+    check(refused(dgn_mark_indexed(SESSION(146, 30, 20, 8), 46, 2, fresh(), 3), DGN_CALL, 0) && LEFT, "deleted by 2, with an index");
+    check(dgn_undo_indexed(SESSION(146, 30, 8, 8), fresh(), 3) == 0 && ARE(146, 14, 8) && memcmp(index, old, 8) == 0, "undo in just enough room");
+    check(dgn_undo_indexed(SESSION(146, 14, 20, 8), fresh(), 3) == 0 && ARE(146, 0, 8) && INDEX_IS(old), "undo of the mark");
+    check(memcmp(bytes, file, sizeof file) == 0, "the original again");
+
+    struct dgn_session s;
+    s.file = bytes;
+    s.file_len = sizeof bytes;
+    s.journal = journal;
+    s.journal_len = sizeof journal;
+    s.index = index;
+    s.index_len = 7;
+    s.iused = 99;
+    s.dimension = 2;
+    check(dgn_session_open(&s, 146) == 0 && dgn_session_index(&s) == DGN_ROOM && s.iused == 99, "no room for a session's index");
+    s.index_len = 16;
+    check(dgn_session_index(&s) == 0 && s.iused == 8, "a session's index");
+    check(dgn_session_look_up(&s, "00417", fresh(), 2) == 0 && ARE(0, 2), "look up in it");
+    check(dgn_session_rename(&s, 0, "417") == 0 && s.jused == 16 && s.iused == 8 && memcmp(index, new, 8) == 0, "rename in it");
+    check(refused(dgn_session_look_up(&s, "00417", fresh(), 2), DGN_NO_SUCH, 2), "no more there");
+    check(dgn_session_insert(&s, DGN_TOP, 72, file, 144) == 0 && s.used == 290 && s.iused == 16, "insert in it");
+    check(dgn_session_mark(&s, 72, 1) == 0 && s.iused == 16, "mark in it");
+    check(dgn_session_remove(&s, 0) == 0 && s.used == 146 && s.iused == 8, "remove in it");
+    check(dgn_session_remove(&s, 1) == DGN_NO_SUCH && s.used == 146 && s.iused == 8, "a refusal leaves the lengths");
+    for (size_t i = 0; i < 4; i++)
+        check(dgn_session_undo(&s) == 0, "undo in it");
+    check(dgn_session_undo(&s) == DGN_NOTHING && s.used == 146 && s.jused == 0 && s.iused == 8 && memcmp(index, old, 8) == 0, "all undone");
 }
 
 /* a journal to blocks and back: the bytes of a block, each fault of one, short buffers, the longest journal */
@@ -408,7 +562,7 @@ static void refusals(void)
         check(dgn_refusal_name(n + 256 * 1100) == dgn_refusal_name(n), all[n]);
     }
     check(strcmp(dgn_refusal_name(none), "UNKNOWN") == 0 && strcmp(dgn_refusal_name(DGN_TOP), "UNKNOWN") == 0, "no refusal");
-    check(DGN_VERSION == 0x000200 && strcmp(DGN_VERSION_TEXT, "0.2.0") == 0, "the version");
+    check(DGN_VERSION == 0x000300 && strcmp(DGN_VERSION_TEXT, "0.3.0") == 0, "the version");
 }
 
 int main(void)
@@ -421,8 +575,10 @@ int main(void)
     whole();
     largest();
     names();
+    indexing();
     editing();
     session();
+    editing_indexed();
     stored();
     refusals();
     printf("%zu passed, %zu failed\n", passed, failed);

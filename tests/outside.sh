@@ -140,6 +140,8 @@ for name in host session parts; do
     check "$name calls nothing" test -n "$functions"
     for function in $functions; do
         case $name:$function in
+        # this one has no index
+        parts:*_indexed) continue ;;
         session:dgn_write | session:dgn_pack) status=2 ;;
         session:dgn_record) status=3 ;;
         *) status=1 ;;

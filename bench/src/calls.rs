@@ -1,7 +1,7 @@
 //! What is measured: the proved library by its bindings and the C code, with the second reader's types.
 
 use dgn::raw;
-use reader::{Call, FindRefusal, Found, Judged, Refusal, State};
+use reader::{Call, FindRefusal, Found, Index, Judged, Refusal, State};
 
 extern "C" {
     fn plain_judge(file: *const u8, len: usize, dim: usize, out: *mut usize) -> usize;
@@ -159,7 +159,7 @@ pub fn texts_by_gdal(file: &mut [u8]) -> usize {
     unsafe { gdal_texts(file.as_mut_ptr(), file.len()) }
 }
 
-/// One call of a session, which takes over the new used lengths. Renames are not measured.
+/// One call of a session, which takes over the new used lengths.
 pub fn edit(s: &mut State, call: &Call) -> Result<(), Refusal> {
     let (used, jused, dim) = (s.used as usize, s.jused as usize, s.dim as usize);
     let (file, journal) = (&mut s.file[..], &mut s.journal[..]);
@@ -174,11 +174,34 @@ pub fn edit(s: &mut State, call: &Call) -> Result<(), Refusal> {
         }
         Call::Remove { place } => raw::remove(file, used, journal, jused, dim, *place as usize, &mut out),
         Call::Undo => raw::undo(file, used, journal, jused, dim, &mut out),
-        Call::Rename { .. } => panic!("renames are not measured"),
+        Call::Rename { place, text } => raw::rename(file, used, journal, jused, dim, *place as usize, text, &mut out),
     };
     answer(returned, ())?;
-    s.used = out[0] as u64;
-    s.jused = out[1] as u64;
+    [s.used, s.jused] = out.map(|length| length as u64);
+    Ok(())
+}
+
+/// The same with an index.
+pub fn edit_indexed(s: &mut State, index: &mut Index, call: &Call) -> Result<(), Refusal> {
+    let (used, jused, iused, dim) = (s.used as usize, s.jused as usize, index.used as usize, s.dim as usize);
+    let (f, j, i) = (&mut s.file[..], &mut s.journal[..], &mut index.buffer[..]);
+    let mut out = [0; 3];
+    let returned = match call {
+        Call::Mark { place, deleted } => {
+            raw::mark_indexed(f, used, j, jused, i, iused, dim, *place as usize, usize::from(*deleted), &mut out)
+        }
+        Call::Insert { header, place, piece } => {
+            let header = header.map_or(raw::TOP, |h| h as usize);
+            raw::insert_indexed(f, used, j, jused, i, iused, dim, header, *place as usize, piece, &mut out)
+        }
+        Call::Remove { place } => raw::remove_indexed(f, used, j, jused, i, iused, dim, *place as usize, &mut out),
+        Call::Undo => raw::undo_indexed(f, used, j, jused, i, iused, dim, &mut out),
+        Call::Rename { place, text } => {
+            raw::rename_indexed(f, used, j, jused, i, iused, dim, *place as usize, text, &mut out)
+        }
+    };
+    answer(returned, ())?;
+    [s.used, s.jused, index.used] = out.map(|length| length as u64);
     Ok(())
 }
 

@@ -1,6 +1,7 @@
 //! The answers of all on the same files, accepted and refused. The first difference ends the bench.
 
 use crate::calls;
+use crate::indexes;
 use crate::inputs::{Input, ABSENT, LAST};
 use crate::whole::{self, Fill};
 use dgn::raw;
@@ -28,6 +29,9 @@ impl Checked {
         self.files += 1;
         self.refused += u64::from(ours.is_err());
         if file.len() < 10_000 {
+            for room in [0, 8, 16, 101, 400] {
+                indexes::alike(file, dim, room);
+            }
             for (ours, in_c, _) in FILLS {
                 for (k, room) in [(0, 100), (1, 100), (3, 100), (1000, 100), (0, 17), (0, 18), (0, 36)] {
                     let (mut a, mut b) = (vec![7; room], vec![7; room]);

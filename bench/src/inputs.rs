@@ -108,6 +108,29 @@ fn nest(random: &mut Random, depth: u64) -> Node {
     Node::with(own, under)
 }
 
+/// A cell library: so many cells, each of a name of its own in any order, with so many lines; 2D, and to its end marker.
+pub fn library(cells: usize, lines: usize, seed: u64) -> Vec<u8> {
+    let random = &mut Random::new(seed);
+    let mut names = std::collections::HashSet::new();
+    let mut words = Vec::new();
+    for _ in 0..cells {
+        let mut own = plain(random, 1, elements::fixed(1, 2, 0), false);
+        own[0] &= 0x7fff;
+        let name = loop {
+            // six letters A to Z
+            let word = |random: &mut Random| (0..3).fold(0, |word, _| word * 40 + 1 + random.below(26) as u16);
+            let name = (word(random), word(random));
+            if names.insert(name) {
+                break name;
+            }
+        };
+        (own[16], own[17]) = name;
+        words.extend(lay(&[Node::with(own, (0..lines).map(|_| line(random, true)).collect())]).words);
+    }
+    words.push(65535);
+    bytes_of(&words)
+}
+
 /// A file of that many bytes.
 pub fn make(kind: Kind, bytes: usize, seed: u64) -> Input {
     make_after(&[], kind, bytes, seed)

@@ -1,10 +1,12 @@
 //! The bench: checks that all answer alike, measures them in turn and prints tables of ratios.
-//! `bench FOLDER [ROUNDS [many]]`: FOLDER takes the files that the programs read and write; with `many` the table of many files alone.
+//! `bench FOLDER [ROUNDS [many|index]]`: FOLDER takes the files that the programs read and write; with `many` the table of many files
+//! alone, with `index` those of cells and indexes.
 
 mod blocks;
 mod calls;
 mod checks;
 mod edits;
+mod indexes;
 mod inputs;
 mod many;
 mod programs;
@@ -19,11 +21,13 @@ const ROOT: &str = concat!(env!("CARGO_MANIFEST_DIR"), "/..");
 
 fn main() {
     let mut arguments = std::env::args().skip(1);
-    let folder = arguments.next().expect("bench FOLDER [ROUNDS [many]]");
+    let folder = arguments.next().expect("bench FOLDER [ROUNDS [many|index]]");
     let rounds: usize = arguments.next().map_or(301, |n| n.parse().expect("a number of rounds"));
 
-    if arguments.next().as_deref() == Some("many") {
-        return many::table(&folder, rounds);
+    match arguments.next().as_deref() {
+        Some("many") => return many::table(&folder, rounds),
+        Some("index") => return indexes::tables(rounds),
+        _ => {}
     }
     let all: Vec<Input> = KINDS.iter().map(|&kind| make(kind, 1024 * KIB, 1)).collect();
     let mut checked = checks::Checked::default();
@@ -42,6 +46,7 @@ fn main() {
     whole::points(&all, 1 + rounds / 6);
     whole::texts(&all, 1 + rounds / 6);
     edits::table(rounds);
+    indexes::tables(rounds);
     blocks::table(rounds);
     programs::listing(&folder, rounds);
     reading::growth(1 + rounds / 3);

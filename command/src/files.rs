@@ -179,15 +179,25 @@ pub fn shown(dimension: Dimension) -> &'static str {
 impl Taken {
     /// Takes the dimension that was asked for, or that the file says or fits.
     pub fn of(bytes: &[u8], asked: Option<Dimension>) -> Taken {
+        Taken::by(bytes, asked, |dimension| dgn::judge(bytes, dimension))
+    }
+
+    /// The same with a judge that keeps more of the file. Of the dimensions that it accepts the one that is taken comes last.
+    pub fn by(
+        bytes: &[u8],
+        asked: Option<Dimension>,
+        mut judge: impl FnMut(Dimension) -> Result<Judged, Refusal>,
+    ) -> Taken {
         let told = told(bytes);
-        let one = |dimension, how| Taken { dimension, how, told, judged: dgn::judge(bytes, dimension) };
+        let mut one = |dimension, how| Taken { dimension, how, told, judged: judge(dimension) };
         if let Some(dimension) = asked {
             return one(dimension, How::Asked);
         }
         if let Some(dimension) = told {
             return one(dimension, How::Told);
         }
-        let (two, three) = (one(Dimension::Two, How::Fits), one(Dimension::Three, How::Fits));
+        let three = one(Dimension::Three, How::Fits);
+        let two = one(Dimension::Two, How::Fits);
         match (&two.judged, &three.judged) {
             (Ok(_), Ok(_)) => Taken { how: How::Both, ..two },
             (Ok(_), Err(_)) => two,

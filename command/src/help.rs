@@ -44,6 +44,8 @@ pub const SUBCOMMANDS: &[&Subcommand] = &[
     &reading::list::SUBCOMMAND,
     &reading::parts::SUBCOMMAND,
     &reading::find::SUBCOMMAND,
+    &reading::index::SUBCOMMAND,
+    &reading::lookup::SUBCOMMAND,
     &reading::text::SUBCOMMAND,
     &reading::show::SUBCOMMAND,
     &reading::extract::SUBCOMMAND,
@@ -71,7 +73,7 @@ const COMMON: &[Choice] = &[
     plain(
         "quiet",
         Some('q'),
-        "No warnings, no progress, no totals. check then does not look for codes that stand twice, and is faster.",
+        "No warnings, no progress, no totals. check then does not look for codes that stand twice.",
     ),
     plain("help", Some('h'), "Say what the subcommand does."),
 ];

@@ -220,16 +220,40 @@ pub fn column(word: &(impl AsRef<OsStr> + ?Sized)) -> String {
     escaped(word.as_ref().as_bytes())
 }
 
+/// Puts a number behind a text.
+pub fn push_number(text: &mut String, number: usize) {
+    digits(number, |digits| *text += digits);
+}
+
+/// The same with commas between groups of three digits.
+pub fn push_grouped(text: &mut String, number: usize) {
+    digits(number, |digits| {
+        for (k, digit) in digits.chars().enumerate() {
+            if k > 0 && (digits.len() - k) % 3 == 0 {
+                text.push(',');
+            }
+            text.push(digit);
+        }
+    });
+}
+
+/// Hands the digits of a number over.
+fn digits(mut number: usize, take: impl FnOnce(&str)) {
+    let mut digits = [b'0'; 20];
+    let mut first = digits.len() - 1;
+    while number > 9 {
+        digits[first] += (number % 10) as u8;
+        number /= 10;
+        first -= 1;
+    }
+    digits[first] += number as u8;
+    take(std::str::from_utf8(&digits[first..]).expect("digits"));
+}
+
 /// A number with commas between groups of three digits.
 pub fn grouped(number: usize) -> String {
-    let digits = number.to_string();
     let mut text = String::new();
-    for (k, digit) in digits.chars().enumerate() {
-        if k > 0 && (digits.len() - k) % 3 == 0 {
-            text.push(',');
-        }
-        text.push(digit);
-    }
+    push_grouped(&mut text, number);
     text
 }
 

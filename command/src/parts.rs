@@ -117,11 +117,17 @@ pub fn state(deleted: bool) -> &'static str {
 
 /// A code for a line: as it is, or in quotes where it is empty or has a space.
 pub fn shown(code: &str) -> String {
-    if code.is_empty() || code.contains(' ') {
-        format!("'{code}'")
-    } else {
-        code.into()
-    }
+    let mut text = String::new();
+    show(&mut text, code);
+    text
+}
+
+/// Puts it behind a text.
+pub fn show(text: &mut String, code: &str) {
+    let quote = if code.is_empty() || code.contains(' ') { "'" } else { "" };
+    *text += quote;
+    *text += code;
+    *text += quote;
 }
 
 /// What CODE|PLACE names.

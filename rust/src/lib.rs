@@ -16,10 +16,8 @@
 //! assert_eq!(dgn::extent(&file, Dimension::Two, part.place)?, 111..284);
 //!
 //! // all cells with their names, and all points, in one pass each
-//! for view in dgn::all_views(&file, Dimension::Two)? {
-//!     if let Some(name) = view.name {
-//!         println!("{} {}", view.place, dgn::unpack(name)?);
-//!     }
+//! for cell in dgn::all_cells(&file, Dimension::Two)? {
+//!     println!("{} {}", cell.place, dgn::unpack(cell.name)?);
 //! }
 //! for drawn in dgn::all_points(&file, Dimension::Two)? {
 //!     println!("{}: {:?}", drawn.place, drawn.points);
@@ -39,6 +37,7 @@
 compile_error!("the library's numbers have 64 bits");
 
 mod elements;
+mod indexes;
 mod journals;
 mod names;
 mod numbered;
@@ -53,6 +52,7 @@ mod whole;
 mod writing;
 
 pub use elements::{Bounds, Dimension, DisplayHeader, Linkage, LinkageKind, Point, Type, View};
+pub use indexes::{all_cells, cells, index_room, Cells, Entries, Entry, Index, LookedUp, ENTRY_BYTES};
 pub use journals::{blocks_of_journal, journal_of_blocks, record, Edit, History, Record};
 pub use names::{pack, unpack, Name};
 pub use reading::{extent, find, judge, linkage, point, view, Found, Judged};

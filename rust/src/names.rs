@@ -4,7 +4,7 @@ use crate::raw;
 use crate::refusals::{done, Refusal};
 
 /// A name as it is stored.
-#[derive(Clone, Copy, PartialEq, Eq, Hash, Debug, Default)]
+#[derive(Clone, Copy, PartialEq, Eq, PartialOrd, Ord, Hash, Debug, Default)]
 pub struct Name {
     /// The first three letters.
     pub first: u16,

@@ -96,6 +96,15 @@ functions! {
     /// text: seven bytes, the letters and zeros behind them.
     pub fn unpack(first: usize, second: usize, text: &mut [u8]) = dgn_unpack;
 
+    /// out: how many cells, elements, greatest depth, marker's place.
+    pub fn cells(file: &[u8], dim: usize, entries: &mut [u8], out: &mut [usize]) = dgn_cells;
+
+    /// out: the used length of the index at the front of `index`.
+    pub fn index(file: &[u8], dim: usize, index: &mut [u8], out: &mut [usize]) = dgn_index;
+
+    /// out: the place, how many looks.
+    pub fn look_up(index: &[u8], used: usize, text: &[u8], out: &mut [usize]) = dgn_look_up;
+
     /// out: the words written to the front of `buffer`.
     pub fn write(
         fields: &[usize], points: &[i32], tail: &[u8],
@@ -134,6 +143,36 @@ functions! {
 
     /// out: the used lengths of file and journal.
     pub fn undo(file: &mut [u8], used: usize, journal: &[u8], jused: usize, dim: usize, out: &mut [usize]) = dgn_undo;
+
+    /// out: the used lengths of file, journal and index.
+    pub fn mark_indexed(
+        file: &mut [u8], used: usize, journal: &mut [u8], jused: usize, index: &mut [u8], iused: usize, dim: usize,
+        place: usize, deleted: usize, out: &mut [usize]
+    ) = dgn_mark_indexed;
+
+    /// out: the used lengths of file, journal and index. `text` is the new name.
+    pub fn rename_indexed(
+        file: &mut [u8], used: usize, journal: &mut [u8], jused: usize, index: &mut [u8], iused: usize, dim: usize,
+        place: usize, text: &[u8], out: &mut [usize]
+    ) = dgn_rename_indexed;
+
+    /// out: the used lengths of file, journal and index. `header` is a place or [`TOP`].
+    pub fn insert_indexed(
+        file: &mut [u8], used: usize, journal: &mut [u8], jused: usize, index: &mut [u8], iused: usize, dim: usize,
+        header: usize, place: usize, piece: &[u8], out: &mut [usize]
+    ) = dgn_insert_indexed;
+
+    /// out: the used lengths of file, journal and index.
+    pub fn remove_indexed(
+        file: &mut [u8], used: usize, journal: &mut [u8], jused: usize, index: &mut [u8], iused: usize, dim: usize,
+        place: usize, out: &mut [usize]
+    ) = dgn_remove_indexed;
+
+    /// out: the used lengths of file, journal and index.
+    pub fn undo_indexed(
+        file: &mut [u8], used: usize, journal: &[u8], jused: usize, index: &mut [u8], iused: usize, dim: usize,
+        out: &mut [usize]
+    ) = dgn_undo_indexed;
 
     /// out: kind, header's place or [`TOP`], place, payload words, the used length before the record.
     pub fn record(journal: &[u8], jused: usize, out: &mut [usize]) = dgn_record;

@@ -1,7 +1,6 @@
 //! All views and all points of a file, at once or in parts: each part judges the file once.
 
 use crate::elements::{Dimension, Point, View};
-use crate::names::Name;
 use crate::raw::{self, VIEW_NUMBERS};
 use crate::refusals::{done, Refusal};
 use crate::FILE_BYTES;
@@ -10,17 +9,6 @@ use std::slice::{Chunks, ChunksExact};
 /// The views of a part, in file order.
 #[derive(Clone, Debug)]
 pub struct Views<'n>(ChunksExact<'n, i64>);
-
-impl<'n> Views<'n> {
-    /// The cells among them, each by its place and name, without the rest of their views.
-    pub fn cells(self) -> impl Iterator<Item = (usize, Name)> + 'n {
-        let is_cell = |numbers: &&[i64]| numbers[24] == 1;
-        let cell = |numbers: &[i64]| {
-            (numbers[31] as usize, Name { first: numbers[25] as u16, second: numbers[26] as u16 })
-        };
-        self.0.filter(is_cell).map(cell)
-    }
-}
 
 impl Iterator for Views<'_> {
     type Item = View;

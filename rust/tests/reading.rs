@@ -93,10 +93,6 @@ fn views_in_parts() {
         }
         assert_eq!(got, all);
     }
-    let mut numbers = vec![0; 32 * all.len()];
-    let cells: Vec<_> = dgn::views(&file, TWO, 0, &mut numbers).unwrap().cells().collect();
-    let named: Vec<_> = all.iter().filter_map(|view| view.name.map(|name| (view.place, name))).collect();
-    assert_eq!(cells, named);
     let room = |k: usize, room: usize| dgn::views(&file, TWO, k, &mut vec![7; room]).map(|part| part.len());
     assert_eq!(room(8, 31), Err(refused(Number::Room, 0)));
     assert_eq!(room(9, 31), Ok(0));

@@ -3,7 +3,7 @@
 mod common;
 
 use common::{cell, fields, line, sample, TWO};
-use dgn::{Edit, Fields, Number, Record, Refusal, Session, Type};
+use dgn::{Edit, Fields, Index, Number, Record, Refusal, Session, Type};
 
 fn refused(number: Number, place: usize) -> Result<(), Refusal> {
     Err(Refusal { number, place, count: 0 })
@@ -149,4 +149,120 @@ fn records() {
     // the number of payload words
     journal[12] = 0;
     assert_eq!(number(&journal, 14), Err((Number::BadJournal, 0)));
+}
+
+/// The cell with its line as a piece, for the top and under a header.
+fn piece(component: bool) -> Vec<u8> {
+    let mut piece = cell();
+    piece.truncate(144);
+    piece[0] |= u8::from(component) << 7;
+    piece
+}
+
+/// A session with an index of so many bytes.
+fn indexed(bytes: usize) -> Session {
+    let mut session = session();
+    session.index_with(vec![0xb3; bytes]).unwrap();
+    session
+}
+
+/// The index is that of the file, and zeros stand behind it.
+fn in_step(session: &Session) {
+    let index = session.index().expect("an index");
+    assert_eq!(index.bytes(), Index::of(session.file(), TWO).unwrap().bytes());
+    assert!(index.clone().into_buffer()[index.used()..].iter().all(|&byte| byte == 0));
+}
+
+#[test]
+fn with_an_index() {
+    let mut session = indexed(101);
+    let mut plain = self::session();
+    let original = session.clone();
+    in_step(&session);
+    let both = |session: &mut Session, plain: &mut Session, call: &dyn Fn(&mut Session) -> Result<(), Refusal>| {
+        assert_eq!(call(session), call(plain));
+        assert_eq!((session.file(), session.journal()), (plain.file(), plain.journal()));
+        in_step(session);
+    };
+    both(&mut session, &mut plain, &|s| s.mark(46, false));
+    both(&mut session, &mut plain, &|s| s.rename(0, "417"));
+    both(&mut session, &mut plain, &|s| s.insert(Some(0), 72, &piece(true)));
+    both(&mut session, &mut plain, &|s| s.insert(None, 0, &piece(false)));
+    both(&mut session, &mut plain, &|s| s.mark(0, true));
+    assert_eq!(session.index().map(Index::used), Some(24));
+    assert_eq!(session.index().unwrap().look_up("417").map(|found| found.place), Ok(72));
+    assert_eq!(session.index().unwrap().look_up("00417").map(|found| found.place), Ok(0));
+    both(&mut session, &mut plain, &|s| s.remove(0));
+    both(&mut session, &mut plain, &|s| s.remove(1));
+    both(&mut session, &mut plain, &|s| s.rename(46, "417"));
+    both(&mut session, &mut plain, &|s| s.insert(Some(0), 72, &[0; 4]));
+    for _ in 0..plain.history().count() {
+        both(&mut session, &mut plain, &|s| s.undo());
+    }
+    assert_eq!(session.undo(), refused(Number::Nothing, 0));
+    assert_eq!(session.file(), original.file());
+    assert_eq!(session.index(), original.index());
+    assert_eq!(session.take_index(), original.index().cloned());
+    assert!(session.index().is_none() && session.mark(46, false).is_ok());
+}
+
+#[test]
+fn room_for_the_index() {
+    let four = [piece(true), piece(true)].concat();
+    // room for one entry, then for two, with some bytes that are none
+    for bytes in 8..24 {
+        let mut session = indexed(bytes);
+        let before = session.clone();
+        let inserted = session.insert(None, 0, &piece(false));
+        if bytes < 16 {
+            assert_eq!(inserted, refused(Number::Room, 0));
+            assert_eq!((session.file(), session.journal()), (before.file(), before.journal()));
+            assert_eq!(session.index(), before.index());
+            assert_eq!(session.insert(None, 0, &four), refused(Number::Place, 0));
+        } else {
+            assert_eq!(inserted, Ok(()));
+            assert_eq!(session.insert(Some(0), 46, &piece(true)), refused(Number::Room, 0));
+        }
+        // told before 16, and after the call's own refusals
+        let full = Session::resume(cell(), 146, vec![], 0, TWO);
+        let mut full = full.with_index(Some(Index::resume(vec![0; bytes - 8], 0)));
+        let number = if bytes < 16 { Number::Room } else { Number::Journal };
+        assert_eq!(full.mark(0, true), refused(number, 0));
+        assert_eq!(full.mark(46, true), refused(Number::Already, 0));
+    }
+    let mut session = self::session();
+    assert_eq!(session.index_with(vec![0; 7]), refused(Number::Room, 0));
+    assert!(session.index().is_none());
+}
+
+#[test]
+fn any_index_lent() {
+    for (bytes, used) in [(0, 0), (8, 0), (8, 8), (40, 40), (41, 16), (1000, 992)] {
+        let index = Index::resume((0..bytes).map(|k| (k * 37) as u8).collect::<Vec<u8>>(), used);
+        let mut session = session().with_index(Some(index.clone()));
+        let made = session.rename(0, "417");
+        if bytes < 8 {
+            assert_eq!((made, session.index()), (refused(Number::Room, 0), Some(&index)));
+            continue;
+        }
+        assert_eq!(made, Ok(()));
+        in_step(&session);
+        let mut session = session.with_index(Some(index));
+        assert_eq!(session.undo(), Ok(()));
+        in_step(&session);
+    }
+    for used in [1, 7, 12, 48, usize::MAX, usize::MAX - 7] {
+        let mut session = session().with_index(Some(Index::resume(vec![3; 40], used)));
+        for call in [|s: &mut Session| s.mark(46, false), |s: &mut Session| s.undo(), |s: &mut Session| s.remove(9)] {
+            assert_eq!(call(&mut session), refused(Number::Call, 0), "{used}");
+        }
+        assert_eq!(session.index().map(|index| index.used()), Some(used));
+    }
+    // borrowed
+    let (mut file, mut journal, mut room) = (cell(), [0; 100], [0; 20]);
+    let mut session =
+        Session::resume(&mut file[..], 146, &mut journal[..], 0, TWO).with_index(None::<Index<&mut [u8]>>);
+    session.index_with(&mut room[..]).unwrap();
+    session.rename(0, "A").unwrap();
+    assert_eq!(room[..8], [64, 6, 0, 0, 0, 0, 0, 0]);
 }

@@ -59,7 +59,7 @@ fn run(arguments: &Arguments, output: &mut Output) -> Result<(), Stop> {
         },
     };
     let mut totals = Totals::default();
-    let mut workers: Vec<Worker> = (0..jobs).map(|_| Worker::new(jobs, arguments.dimension(), output)).collect();
+    let mut workers: Vec<Worker> = (0..jobs).map(|_| Worker::new(arguments.dimension(), output)).collect();
     judge(&mut names, every, &mut workers, &mut totals, output)?;
     if let (Some(name), Some(why)) = (from, names.failed()) {
         output.message(names::unread(name, why));

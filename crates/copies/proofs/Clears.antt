@@ -1,10 +1,10 @@
 -- Each turn of clearing writes one zero more; where the bytes do not stand in the buffer it is as it was.
 use Prim.Native.Nat.{ℕ, zero, suc, _+_, _-_, _≤_, _<_}
-use mathlib.Core.Path.{_≡_, refl, sym, ap}
-use mathlib.Core.List.{List, [], _∷_, _++_}
+use mathlib.Core.Path.{_≡_, refl, sym, ap, _∙_}
+use mathlib.Core.List.{List, [], _∷_, _++_, append-nil}
 use mathlib.Core.Bool.{Bool, true, false, cond}
 use native.Mathlib.Omega.{arith}
-use lib.ListN.{length, set, replicate, length-replicate}
+use lib.ListN.{length, take, set, replicate, length-replicate, drop-of-length-le}
 use lib.Dec.{leb}
 use Rattle.words.specs.Words.{over}
 use Rattle.words.proofs.Over.{over-nil, over-snoc}
@@ -41,3 +41,12 @@ cleared-back s a e l = let z : e - a ≡ 0 = omega arith in rw z (go (leb (a + 0
     go : (b : Bool) → s ≡ cond b (over s a []) s
     go true = sym (over-nil s a)
     go false = refl
+
+-- all from a place on
+pub cleared-rest : (s : List ℕ) (a : ℕ) → a ≤ length s → cleared s a (length s) ≡ take a s ++ replicate (length s - a) 0
+unfolding over
+cleared-rest s a h =
+    let r = length-replicate {A = ℕ} (length s - a) 0 in
+    let e : a + length (replicate {A = ℕ} (length s - a) 0) ≡ length s = omega arith in
+    cleared-in s a (length s) h (omega arith)
+    ∙ rw (e, drop-of-length-le s {i = length s} (omega arith), append-nil {A = ℕ} (replicate (length s - a) 0)) refl

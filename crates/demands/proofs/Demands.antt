@@ -1,10 +1,10 @@
 -- The promises, in the order of the demands, each with a one-line proof that cites where it is proved.
-use Prim.Native.Nat.{ℕ, _+_, _-_, _/_, _<_, _≤_}
+use Prim.Native.Nat.{ℕ, _+_, _-_, _/_, _^_, _<_, _≤_}
 use mathlib.Core.Path.{_≡_}
 use mathlib.Core.Logic.{_↔_, _≢_, _⊎_}
 use mathlib.Core.Bool.{true, false}
 use mathlib.Core.List.{List, [], _∷_, _++_}
-use mathlib.Core.Option.{Option, some}
+use mathlib.Core.Option.{Option, none, some}
 use lib.ListN.{length, take, drop}
 use lib.IntN.{ℤ}
 use lib.Signed.{mag}
@@ -49,6 +49,10 @@ use Rattle.finder.specs.Finder.{findOf}
 use Rattle.finder.specs.Meaning.{Finds, Stored}
 use Rattle.finder.specs.declared.Found.the-variants as found
 use Rattle.finder.proofs.Named as named
+use Rattle.lookup.specs.Finding.{IndexHolds, IndexOnly, LookUpFinds, LooksBound}
+use Rattle.lookup.proofs.Finding as indexed
+use Rattle.lookup.specs.LookUp.{lookUpOf}
+use Rattle.indexing.specs.Indexing.{builtBy}
 use Rattle.finder.proofs.Refusals as finds
 use Rattle.walking.specs.Walk.{walkStart}
 use Rattle.linkages.specs.Linkages.{Linkages, fillFrom, linkagesFill, linkageIn}
@@ -71,6 +75,8 @@ use Rattle.round_trips.proofs.Again as again
 use Rattle.demands.specs.Listing.{listingOf, textListingOf, walkLines, walkTexts, walkPlace}
 use Rattle.demands.specs.Starred.{allHold, starred}
 use Rattle.demands.specs.ReadingCalls.{FileRefused, Found}
+use Rattle.demands.specs.IndexPromises.{IndexAsBuilt, BuiltOpens, CellsOk, EntryOrder, EntriesApart}
+use Rattle.demands.proofs.IndexPromises as beside
 use Rattle.demands.proofs.ReadingCalls as reads
 use Rattle.demands.proofs.Listing as listing
 use Rattle.demands.proofs.Starred as worked
@@ -102,6 +108,8 @@ use Rattle.view_numbers.specs.Numbers.{viewNumbers}
 use Rattle.view_numbers.proofs.Below as shown
 use Rattle.dgn.specs.JudgeFind.{judgeReply, findReply}
 use Rattle.dgn.proofs.Small as dgn
+use Rattle.dgn_index.specs.IndexNumbers.{cellsReply, indexReply, lookReply}
+use Rattle.dgn_index.proofs.Small as dgn-index
 use Rattle.dgn_places.specs.ExtentPoint.{extentReply, pointReply}
 use Rattle.dgn_places.proofs.Small as dgn-places
 use Rattle.dgn_views.specs.Views.{viewReply}
@@ -332,7 +340,17 @@ to-blocks-small = small-blocks.to-small
 pub from-blocks-small : (s : List ℕ) (room : ℕ) → SmallReply (movedReply (fromBlocks s room))
 from-blocks-small = small-blocks.from-small
 
--- the numbers that these three put into their slices
+-- the cells of a file, building an index, and the look-up in one of any length in memory
+pub cells-small : (dim : ℕ) (s : List ℕ) (count : ℕ) → SmallReply (cellsReply (judgeOf dim s) count)
+cells-small = dgn-index.cells-small
+
+pub index-small : (dim : ℕ) (s : List ℕ) (used size : ℕ) → SmallReply (indexReply (builtBy (judgeOf dim s) used size))
+index-small = dgn-index.index-small
+
+pub look-small : (s : List ℕ) (used : ℕ) (t : List ℕ) → used < 2 ^ 64 → SmallReply (lookReply (lookUpOf s used t))
+look-small = dgn-index.look-small
+
+-- the numbers that dgn_views, dgn_points and dgn_record put into their slices
 pub views-within : ViewsWithin
 views-within = small-views.views-within
 
@@ -479,6 +497,34 @@ never-another = named.never-another
 pub one-text : (dim : ℕ) (s t u : List ℕ) (place n k : ℕ) → findOf dim s t ≡ found.At place n → findOf dim s u ≡ found.At place k → t ≡ u
 one-text = named.one-text
 
+---- demand 2: an index of a file's cells, and the look-up in it
+
+-- it has the entry of each cell, as often as there is such a cell, and no other, in order; and it is the only such list
+pub index-holds : IndexHolds
+index-holds = indexed.index-holds
+
+pub index-only : IndexOnly
+index-only = indexed.index-only
+
+-- the order of entries as numbers is that by the first word, then the second, then the place, of cells whose words are words and whose
+-- places are longs, as those of an accepted file are; and cells with one entry are one cell
+pub entry-order : EntryOrder
+entry-order = beside.entry-order
+
+pub cells-ok : CellsOk
+cells-ok = beside.cells-ok
+
+pub entries-apart : EntriesApart
+entries-apart = beside.entries-apart
+
+-- over the index of an accepted file the look-up finds the place that the finder finds, or refuses as it does
+pub look-up-finds : LookUpFinds
+look-up-finds = indexed.look-up-file
+
+-- over any bytes it looks at most once more than the number of entries has binary digits
+pub looks-bound : LooksBound
+looks-bound = indexed.looks-any
+
 ---- demand 2: the characters of a text and its fields
 
 -- the characters handed back are the bytes of the file from byte 60 of the text on, 76 in 3D, as many as it counts, within its own
@@ -526,7 +572,7 @@ pub longest-judged : (dim : ℕ) (rest : List ℕ) → dimOk dim ≡ true → le
 longest-judged = lengths.longest-judged
 
 pub longest-edited : (dim : ℕ) (rest journal : List ℕ) → dimOk dim ≡ true → length rest ≡ 1048574 → length journal ≡ 1048576 →
-    step dim (record { file = 255 ∷ 255 ∷ rest; used = 2; journal = journal; jused = 0 }) undo-call .answer ≡ edit.Refused 17 0
+    step dim (record { file = 255 ∷ 255 ∷ rest; used = 2; journal = journal; jused = 0; index = none }) undo-call .answer ≡ edit.Refused 17 0
 longest-edited = lengths.longest-edited
 
 -- more is refused with 1: a file, a buffer of a session in every call, the piece of an insert
@@ -577,16 +623,26 @@ accepted-opens = start.accepted-opens
 pub demand-three : EveryRun
 demand-three = every.demand-three
 
+-- a run may begin with what building of its file's used bytes answers and leaves of a buffer
+pub built-opens : BuiltOpens
+built-opens = beside.built-opens
+
+-- and after every list of calls building of the used bytes, in any buffer as long as the index's, gives just the index as it then is
+pub index-as-built : IndexAsBuilt
+index-as-built = beside.index-as-built
+
 -- of the calls themselves, with any answers and bytes that their contracts allow, each lent what the last one left
 pub every-call : EveryCall
 every-call = runs.every-call
 
--- of the five exported functions, refusals by a short slice or a flag that is neither 0 nor 1 among them, each lent the buffers
--- that the last one left and the used lengths that the slice then held; where it was refused, the last ones
+-- of the exported functions, the five without an index and the five with one, refusals by a short slice or a flag that is neither 0
+-- nor 1 among them, each lent the buffers that the last one left, the index's too, and the used lengths that the slice then held;
+-- where it was refused, the last ones
 pub every-export : EveryExport
 every-export = exported.every-export
 
--- so a host may keep the two used lengths in that slice alone: whatever a call answers, it then holds those of the next one
+-- so a host may keep the used lengths, two or with an index three, in that slice alone: whatever a call answers, it then holds those
+-- of the next one
 pub kept-in-out : KeptInOut
 kept-in-out = exported.kept-in-out
 

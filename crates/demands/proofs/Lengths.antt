@@ -4,7 +4,7 @@ use mathlib.Core.Path.{_≡_, refl}
 use mathlib.Core.Logic.{_⊎_, inl, inr}
 use mathlib.Core.Bool.{Bool, true, false, and-false}
 use mathlib.Core.List.{List, [], _∷_}
-use mathlib.Core.Option.{Option}
+use mathlib.Core.Option.{Option, none}
 use lib.Dec.{eqb}
 use lib.ListN.{length}
 use borrow.Author.Tests.{lt-leb}
@@ -14,7 +14,7 @@ use Rattle.files.specs.Judge.{listFrom, topOf, judgeOf}
 use Rattle.files.specs.declared.Judged.the-variants.{Accepted, Refused}
 use Rattle.grammar.proofs.Exact.{judged-after-marker}
 use Rattle.edits.specs.Allowed.{fault, orElse, unless}
-use Rattle.edits.specs.Calls.{Session, Call, insert-call, undo-call, pieceOk, sessionOk, sessionFault, openFault, undone, step}
+use Rattle.edits.specs.Calls.{Session, indexOk, Call, insert-call, undo-call, pieceOk, sessionOk, sessionFault, openFault, undone, step}
 use Rattle.edits.specs.declared.Edited.the-variants as edit
 use Rattle.blocks.specs.Blocks.{blocksFor}
 use Rattle.blocks.specs.Calls.{toBlocks, fromBlocks}
@@ -42,7 +42,7 @@ longer-judged dim s h = rw (too-long (length s) h, and-false (dimOk dim)) refl
 
 -- a session whose two buffers have 1,048,576 bytes each opens: an undo finds nothing to undo
 pub longest-edited : (dim : ℕ) (rest journal : List ℕ) → dimOk dim ≡ true → length rest ≡ 1048574 → length journal ≡ 1048576 →
-    step dim (record { file = opened rest; used = 2; journal = journal; jused = 0 }) undo-call .answer ≡ edit.Refused 17 0
+    step dim (record { file = opened rest; used = 2; journal = journal; jused = 0; index = none }) undo-call .answer ≡ edit.Refused 17 0
 unfolding step openFault sessionFault sessionOk topOf listFrom stopOf undone
 longest-edited dim rest journal d h k = rw (d, h, k) refl
 
@@ -58,9 +58,9 @@ not-opened dim s c h = rw (h, one (pieceOk c)) refl
 -- with a longer buffer every call is refused with 1
 pub longer-edited : (dim : ℕ) (s : Session) (c : Call) → (1048576 < length (s .file)) ⊎ (1048576 < length (s .journal)) → step dim s c .answer ≡ edit.Refused 1 0
 unfolding sessionOk
-longer-edited dim s c (inl h) = not-opened dim s c (rw (too-long (length (s .file)) h) (and-false (dimOk dim)))
+longer-edited dim s c (inl h) = not-opened dim s c (rw (too-long (length (s .file)) h, and-false (dimOk dim)) (and-false (indexOk (s .index))))
 longer-edited dim s c (inr h) =
-    not-opened dim s c (rw (too-long (length (s .journal)) h, and-false (usedOk (length (s .file)) (s .used))) (and-false (dimOk dim)))
+    not-opened dim s c (rw (too-long (length (s .journal)) h, and-false (usedOk (length (s .file)) (s .used)), and-false (dimOk dim)) (and-false (indexOk (s .index))))
 
 -- an insert of a longer piece is refused with 1
 pub longer-piece : (dim : ℕ) (s : Session) (h : Option ℕ) (p : ℕ) (piece : List ℕ) → 1048576 < length piece →

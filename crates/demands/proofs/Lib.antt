@@ -4,3 +4,4 @@ pub mod Lengths
 pub mod Growth
 pub mod Listing
 pub mod ReadingCalls
+pub mod IndexPromises

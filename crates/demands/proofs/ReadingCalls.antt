@@ -42,6 +42,9 @@ file-refused dim s n p e = record {
   characters = λ at. rw e refl;
   fields = λ at k. rw e refl;
   finder = λ t. rw e refl;
+  cells = rw e refl;
+  index = λ b. rw e refl;
+  buffer = λ b. rw e refl;
 }
 
 pub found-is : (dim : ℕ) (s : List ℕ) (at e d m : ℕ) (x : Spot) → judgeOf dim s ≡ Accepted e d m → spotIn (spotsOf dim (words s)) at ≡ some x → Found dim s at x
@@ -63,4 +66,4 @@ bad-text dim s p t n q e = rw e (go (openFault dim s (rename-call p t)))
     go (fault m r) = refl
     go fine =
         own-refused (startsAt (spotsOf dim (wordsOf s)) p) (isCell (typeAt (wordsOf s) p)) s
-        (editWithin s (wordsBy dim s (rename p 0 0)) (recordBy dim s (rename p 0 0))) (editMade s (wordsBy dim s (rename p 0 0)) (recordBy dim s (rename p 0 0)))
+        (editWithin dim s (wordsBy dim s (rename p 0 0)) (recordBy dim s (rename p 0 0))) (editMade dim s (wordsBy dim s (rename p 0 0)) (recordBy dim s (rename p 0 0)))

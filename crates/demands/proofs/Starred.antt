@@ -22,6 +22,11 @@ use Rattle.edits.specs.Allowed.{markFault, renameFault, gapOk, pieceFault, inse
 use Rattle.edits.specs.Records.{recordOf, recordWords, lastRecord, reversal, reversible}
 use Rattle.edits.specs.Calls.{sessionOk, sessionFault, openFault, stored, editMade, editWithin, edited, undoMade, undone, step}
 use Rattle.blocks.specs.Blocks.{completing, padded, closed, block, blocksFor, stored as storedAs, used, chunk, rest, sound, fewest, most, good, blocksIn, firstBad, flatOf}
+use Rattle.entries.specs.Entries.{entries, image, shown}
+use Rattle.cells.specs.Cells.{cellHere, cellsOf}
+use Rattle.cells.specs.Index.{indexOf, indexBytes}
+use Rattle.indexing.specs.Indexing.{listed}
+use Rattle.lookup.specs.LookUp.{halved, lookUp, lookUpOf}
 use Rattle.demands.specs.Starred.{allHold, starred}
 
 pub starred-hold : allHold starred ≡ true
@@ -31,4 +36,5 @@ unfolding over putWord codeOf letterOf wordFrom packed wordOk nameOk textIn text
     gapOk pieceFault insertFault removeFault restoreFault editFault recordOf recordWords lastRecord reversal reversible sessionOk
     sessionFault openFault stored editMade editWithin edited undoMade undone step completing padded closed block blocksFor storedAs used
     chunk rest sound fewest most good blocksIn firstBad flatOf
+    entries image shown cellHere cellsOf indexOf indexBytes listed halved lookUp lookUpOf
 starred-hold = refl

@@ -2,6 +2,8 @@ pub mod Cases
 pub mod Elements
 pub mod SessionCases
 pub mod BlockCases
+pub mod IndexCases
+pub mod IndexPromises
 pub mod Starred
 pub mod Listing
 pub mod ReadingCalls

@@ -2,6 +2,9 @@
 use Prim.Native.Nat.{ℕ}
 use mathlib.Core.Path.{_≡_}
 use mathlib.Core.List.{List}
+use lib.ListN.{length}
+use Rattle.words.specs.Words.{words}
+use Rattle.files.specs.Judge.{judgeOf}
 use Rattle.files.specs.Spots.{Spot}
 use Rattle.places.specs.Places.{aboveOf}
 use Rattle.places.specs.Extents.{extentAnswer}
@@ -19,8 +22,15 @@ use Rattle.text_views.specs.declared.Characters.the-variants as characters
 use Rattle.text_views.specs.declared.FieldView.the-variants as fields
 use Rattle.finder.specs.Finder.{findOf}
 use Rattle.finder.specs.declared.Found.the-variants as found
+use Rattle.cells.specs.Cells.{cellsOf}
+use Rattle.cells.specs.Index.{indexOf, indexBytes}
+use Rattle.indexing.specs.declared.Built.the-variants as built
+use Rattle.indexing.specs.Indexing.{builtBy, leftBy}
+use Rattle.answers.specs.Answers.{refuse}
+use Rattle.dgn_index.specs.IndexNumbers.{cellsReply}
 
--- at every place, for every number and every text, the refusal n at p; the finder's count is then 0
+-- at every place, for every number, every text and every buffer, the refusal n at p; the finder's count is then 0, and the buffer of an
+-- index as it was
 pub record FileRefused (dim : ℕ) (s : List ℕ) (n p : ℕ) : Type 0 where
   pub extents : (at : ℕ) → extentAnswer dim s at ≡ extents.Refused n p
   pub views : (at : ℕ) → viewOf dim s at ≡ views.Refused n p
@@ -30,6 +40,9 @@ pub record FileRefused (dim : ℕ) (s : List ℕ) (n p : ℕ) : Type 0 where
   pub characters : (at : ℕ) → charactersOf dim s at ≡ characters.Refused n p
   pub fields : (at k : ℕ) → fieldOf dim s at k ≡ fields.Refused n p
   pub finder : (t : List ℕ) → findOf dim s t ≡ found.Refused n p 0
+  pub cells : cellsReply (judgeOf dim s) (length (cellsOf dim (words s))) ≡ refuse n p
+  pub index : (b : List ℕ) → builtBy (judgeOf dim s) (indexBytes dim (words s)) (length b) ≡ built.Refused n p
+  pub buffer : (b : List ℕ) → leftBy (judgeOf dim s) (indexBytes dim (words s)) (indexOf dim (words s)) b ≡ b
 
 -- of the element x that starts at a place: its extent ends where x does, and a view shows its depth and its direct header
 pub record Found (dim : ℕ) (s : List ℕ) (at : ℕ) (x : Spot) : Type 0 where

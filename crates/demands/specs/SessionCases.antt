@@ -21,6 +21,7 @@ session ws behind records free = record {
   used = 2 * (length ws + 1);
   journal = bytes (records ++ free);
   jused = 2 * length records;
+  index = none;
 }
 
 -- both used lengths and every byte of both buffers
@@ -274,17 +275,17 @@ growthCases =
 abbrev pub openCases : List Case
 openCases =
     -- a used file that does not end in the word 65535, and an empty one
-    refuses (record { file = bytes (line 0); used = 52; journal = []; jused = 0 }) undo-call 1 0 ∷
-    refuses (record { file = bytes (65535 ∷ []); used = 0; journal = []; jused = 0 }) undo-call 1 0 ∷
+    refuses (record { file = bytes (line 0); used = 52; journal = []; jused = 0; index = none }) undo-call 1 0 ∷
+    refuses (record { file = bytes (65535 ∷ []); used = 0; journal = []; jused = 0; index = none }) undo-call 1 0 ∷
     -- a used length beyond its buffer, of the file and of the journal, and an odd one
-    refuses (record { file = bytes (65535 ∷ []); used = 4; journal = []; jused = 0 }) undo-call 1 0 ∷
-    refuses (record { file = bytes (65535 ∷ []); used = 2; journal = []; jused = 2 }) undo-call 1 0 ∷
-    refuses (record { file = bytes (65535 ∷ []); used = 1; journal = []; jused = 0 }) undo-call 1 0 ∷
+    refuses (record { file = bytes (65535 ∷ []); used = 4; journal = []; jused = 0; index = none }) undo-call 1 0 ∷
+    refuses (record { file = bytes (65535 ∷ []); used = 2; journal = []; jused = 2; index = none }) undo-call 1 0 ∷
+    refuses (record { file = bytes (65535 ∷ []); used = 1; journal = []; jused = 0; index = none }) undo-call 1 0 ∷
     -- an odd buffer, an odd piece
-    refuses (record { file = 255 ∷ 255 ∷ 0 ∷ []; used = 2; journal = []; jused = 0 }) undo-call 1 0 ∷
+    refuses (record { file = 255 ∷ 255 ∷ 0 ∷ []; used = 2; journal = []; jused = 0; index = none }) undo-call 1 0 ∷
     refuses (session [] (nines 2) [] (nines 6)) (insert-call none 0 (0 ∷ [])) 1 0 ∷
     -- 1 before the file's own, the file's own before 13
-    refuses (record { file = bytes (raw 1 ++ (65535 ∷ [])); used = 6; journal = 0 ∷ []; jused = 0 }) (mark-call 1 true) 1 0 ∷
+    refuses (record { file = bytes (raw 1 ++ (65535 ∷ [])); used = 6; journal = 0 ∷ []; jused = 0; index = none }) (mark-call 1 true) 1 0 ∷
     refuses (session (line 0 ++ raw 1) [] [] []) (mark-call 1 true) 5 26 ∷
     -- the marker before the last used word: 1, before 17
     refuses (session (65535 ∷ []) [] [] []) undo-call 1 0 ∷

@@ -1,24 +1,8 @@
 // The C interface of a session, as in include/dgn.h: inserting and removing. No logic: what the calls are handed and
 // leave is in edit_answers' specs/Editing.
-ghost use mathlib.Core.Path.{_≡_};
 ghost use Rattle.edits.specs.Calls.{insert-call, remove-call};
 ghost use Rattle.opening.specs.Opening.{sessionOf};
-ghost use Rattle.opening.specs.Opening.{headerOf};
 ghost use Rattle.edit_answers.specs.Editing.{StepLeft, headerGiven};
-use places::Above;
-
-// The top, as a header's place.
-const TOP: usize = 18446744073709551615;
-
-// The header by its number.
-fn header_given(header: usize) -> Above
-    ensures { λ r. ⌜ headerOf r ≡ headerGiven header ⌝ }
-{
-    if header == TOP {
-        return Above::Top;
-    }
-    Above::Under { place: header }
-}
 
 #[no_mangle]
 pub extern "C" fn dgn_insert(
@@ -37,7 +21,7 @@ pub extern "C" fn dgn_insert(
     if out.len() < 2 {
         return 1;
     }
-    let above = header_given(header);
+    let above = edit_answers::header_given(header);
     let answer = moving::insert(file, used, journal, jused, dim, above, place, piece);
     edit_answers::put_edited(out, answer)
 }

@@ -18,7 +18,7 @@ use Rattle.names.proofs.OneToOne.{pack-stored}
 use Rattle.edits.specs.Edits.{Edit, mark, rename, insert, remove}
 use Rattle.edits.specs.Allowed.{Fault?, fine, fault, unless, editFault}
 use Rattle.edits.specs.Records.{Rec, Newest, recordOf, recordWords, lastRecord}
-use Rattle.edits.specs.Calls.{Session, Call, mark-call, rename-call, insert-call, remove-call, undo-call, wordsOf, journalOf, pieceOk, openFault, sessionFault, pushed, Result, resultBy, wordsBy, recordBy, editMade, undoMade, wordsBack, reversalFault, undoBy, undone, step}
+use Rattle.edits.specs.Calls.{Session, sizeOf, Call, mark-call, rename-call, insert-call, remove-call, undo-call, wordsOf, journalOf, pieceOk, openFault, sessionFault, pushed, Result, resultBy, wordsBy, recordBy, editMade, undoMade, wordsBack, reversalFault, undoBy, undone, step}
 use Rattle.edits.specs.Book.{wasRefused}
 use Rattle.edits.specs.Demand.{PieceBytes, usedBytes}
 use Rattle.edits.specs.Made.{renameOf, editOf, Allowed}
@@ -32,6 +32,7 @@ use Rattle.edits.proofs.Sound.{sound}
 use Rattle.edits.proofs.Tested.{used-parts, ready-tested, used-call}
 use Rattle.opening.proofs.Opening.{open-accepted}
 use Rattle.opening.proofs.Accepted.{standing}
+use Rattle.opening.proofs.Beside.{bare-ready}
 use Rattle.answers.proofs.Elements.{call-words}
 use Rattle.dgn_record.specs.LastRecord.{recordReply}
 use Rattle.dgn_sessions.specs.History.{Newer, EditShown, Older, UndoShown}
@@ -69,10 +70,10 @@ module _ (dim : ℕ) (s : Session) (c : Call) (e : Edit) (is : editOf c ≡ some
   small =
       let t = ready-tested dim s ready in
       sound dim (wordsOf s) e
-      (standing dim (usedBytes s) _ (open-accepted dim (s .file) (s .used) (s .journal) (s .jused) ready) (below-take 256 (s .used) (s .file) (omega arith) file))
+      (standing dim (usedBytes s) _ (open-accepted dim (s .file) (s .used) (s .journal) (s .jused) (bare-ready dim s ready)) (below-take 256 (s .used) (s .file) (omega arith) file))
       (call-words dim (usedBytes s) (used-call t)) (a .own) (carried c e is piece)
 
-  after-edit : Newer dim s (editMade s (wordsBy dim s e) (recordBy dim s e) .after) e
+  after-edit : Newer dim s (editMade dim s (wordsBy dim s e) (recordBy dim s e) .after) e
   unfolding editMade recordReply
   after-edit =
       let t = ready-tested dim s ready in
@@ -92,7 +93,7 @@ module _ (dim : ℕ) (s : Session) (c : Call) (e : Edit) (is : editOf c ≡ some
 pub edit-shown : EditShown
 edit-shown dim s c e is file journal piece q =
     let a = made-exactly dim s c e is .0 q in
-    let made = step-edit dim s c e (a .opens) is ∙ edit-made dim s e (editFault dim (wordsOf s) e) (a .own) (a .file-room) (a .journal-room) in
+    let made = step-edit dim s c e (a .opens) is ∙ edit-made dim s e (editFault dim (wordsOf s) e) (a .own) (a .file-room) (a .index-room) (a .journal-room) in
     subst (λ r. Newer dim s (r .after) e) (sym made) (after-edit dim s c e is file journal piece a)
 
 ---- an undo
@@ -105,14 +106,14 @@ module _ (dim : ℕ) (s : Session) where
   Goes r = wasRefused (r .answer) ≡ false → Older s (r .after)
 
   back : (r : Rec) (js : List ℕ) → sessionFault dim s ≡ fine → (s .jused ≡ 0 → ⊥) → lastRecord (journalOf s) ≡ some (r, js) → (f : Fault?) →
-      Goes (resultBy f s (undoMade s (wordsBack dim (wordsOf s) r) (2 * length js)))
+      Goes (resultBy f s (undoMade dim s (wordsBack dim (wordsOf s) r) (2 * length js)))
   unfolding undoMade recordReply
   back r js o u k fine q = record { newest = r; was = rw (ready-tested dim s o .journal, ne-eqb (s .jused) 0 u, k) refl; older = λ used. refl }
   back r js o u k (fault n p) q = not-made q
 
   undo-by : sessionFault dim s ≡ fine → (s .jused ≡ 0 → ⊥) → (l : Newest) → lastRecord (journalOf s) ≡ l → Goes (undoBy dim s (wordsOf s) l)
   undo-by o u none k = not-made
-  undo-by o u (some (r, js)) k = back r js o u k (reversalFault dim (wordsOf s) (length (s .file)) r)
+  undo-by o u (some (r, js)) k = back r js o u k (reversalFault dim (wordsOf s) (length (s .file)) (sizeOf (s .index)) r)
 
   undo-used : sessionFault dim s ≡ fine → (b : Bool) → eqb (s .jused) 0 ≡ b → Goes (resultBy (unless (not b) 17) s (undoBy dim s (wordsOf s) (lastRecord (journalOf s))))
   undo-used o true e = not-made

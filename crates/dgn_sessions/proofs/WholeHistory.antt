@@ -9,7 +9,7 @@ use lib.Seq.{take-take, sets}
 use borrow.Author.Tests.{ne-eqb}
 use Rattle.edits.specs.Edits.{Edit, apply}
 use Rattle.edits.specs.Records.{Rec, flag, renamed, inserted, removed, recordOf, recordWords}
-use Rattle.edits.specs.Calls.{Session, wordsOf}
+use Rattle.edits.specs.Calls.{Session, sizeOf, wordsOf}
 use Rattle.edits.specs.Book.{Run, applied}
 use Rattle.edits.specs.Demand.{runOf}
 use Rattle.edits.proofs.Buffers.{Holds, holds-ok, holds-front}
@@ -42,14 +42,14 @@ module _ (dim : ℕ) where
         Shows journal used (recordsOf dim (wordsOf s₀) es)
     unfolding recordReply
     shows journal used es ws js no-edit J = rw (holds-ok J (s₀ .journal) refl (B .journal-ok), J .used) refl
-    shows journal used es ws js (one-more es₀ ws₀ js₀ e r f c l) J =
+    shows journal used es ws js (one-more es₀ ws₀ js₀ e r f c l i) J =
         let rec = recordOf dim ws₀ e in
         let S = sound-at dim (hypotheses dim) s₀ B es₀ ws₀ js₀ e r f c in
         let long = J .used in
         let more = length-append js₀ (recordWords (recordOf dim ws₀ e)) in
         let six = record-long rec in
         let first : recordOf dim ws₀ e ≡ recordOf dim (applied dim (wordsOf s₀) es₀) e =
-        ap (λ u. recordOf dim u e) (replay-applied dim (wordsOf s₀) (length (s₀ .file)) es₀ ws₀ js₀ r) in
+        ap (λ u. recordOf dim u e) (replay-applied dim (wordsOf s₀) (length (s₀ .file)) (sizeOf (s₀ .index)) es₀ ws₀ js₀ r) in
         subst (Shows journal used) (ap (λ x. x ∷ recordsOf dim (wordsOf s₀) es₀) first ∙ sym (records-more (wordsOf s₀) es₀ e)) (
           2 * length js₀,
           rw (holds-ok J (s₀ .journal) refl (B .journal-ok), ne-eqb used 0 (λ z. omega arith), J .words, reads js₀ rec (S .small)) refl,

@@ -67,7 +67,7 @@ pub record HistoryOf (dim : ℕ) (s : Session) (last : Run) : Type 0 where
       (given ≡ fourOf (recordsOf dim (wordsOf s) (last .book))) × (n ≡ 17)
   pub is-there : (given : List (List ℕ)) × (n : ℕ) × WalkedBack (last .session .journal) (last .session .jused) given n
 
--- of every list of calls of the five functions, on a session that opens with an empty journal
+-- of every list of calls of the functions, with an index and without, on a session that opens with an empty journal
 abbrev pub EveryHistory : Type 0
 EveryHistory =
     (dim : ℕ) (s : Session) (xs : List Export) (last : Run) → OpenedEmpty dim s → PiecesBytes (callsOf xs) →

@@ -29,6 +29,7 @@ use Rattle.edits.proofs.Faults.{orElse-fine, unless-fine}
 use Rattle.edits.proofs.Numbers.{every-refusal, piece-place, call-number}
 use Rattle.edits.proofs.Tested.{ready-tested, used-call}
 use Rattle.totals.proofs.Paths.{gap-header}
+use Rattle.opening.proofs.Beside.{bare-ready}
 use Rattle.opening.proofs.Opening.{open-accepted}
 use Rattle.answers.specs.Answers.{Small}
 use Rattle.answers.proofs.Elements.{call-words}
@@ -79,7 +80,7 @@ down-place : (dim : ℕ) (s : Session) (h : Option ℕ) (at q : ℕ) → session
 down-place dim s none at q ready g o = absurd o
 down-place dim s (some h) at q ready g o =
     let xs = spotsOf dim (wordsOf s) in
-    let a = open-accepted dim (s .file) (s .used) (s .journal) (s .jused) ready in
+    let a = open-accepted dim (s .file) (s .used) (s .journal) (s .jused) (bare-ready dim s ready) in
     let x = gap-header (spotsOf dim (wordsOf s)) (wordsOf s) h at g .0 in
     let i = spot-inside dim (usedBytes s) (a .elements) (a .deepest) _ (a .judged) h (x .0) (x .1) in
     let l = one-before (around xs h) h q (around-before xs h) o in
@@ -111,7 +112,8 @@ module _ (dim : ℕ) (s : Session) (h : Option ℕ) (at : ℕ) (piece : List ℕ
   insert-place (causes.opening o) = open-place o
   insert-place (causes.own o k) = own-place o (insert-refused dim (wordsOf s) h at (words piece) n p .0 k)
   insert-place (causes.file-room o k l a b) = omega arith
-  insert-place (causes.journal-room o k l m a b) = omega arith
+  insert-place (causes.index-room o k i a b) = omega arith
+  insert-place (causes.journal-room o k l i m a b) = omega arith
 
 ---- every call
 

@@ -2,7 +2,7 @@
 use Prim.Native.Nat.{ℕ, _+_, _*_, _≤_}
 use mathlib.Core.Path.{_≡_, refl, sym, ap, _∙_}
 use mathlib.Core.Logic.{inl, inr}
-use mathlib.Core.Bool.{Bool, true, false, cond, not}
+use mathlib.Core.Bool.{Bool, true, false, cond, not, _&&_}
 use mathlib.Core.List.{List, [], _∷_}
 use mathlib.Core.Option.{Option, none, some}
 use native.Mathlib.Omega.{arith}
@@ -15,11 +15,11 @@ use Rattle.edits.specs.declared.Edited.the-variants.{Refused}
 use Rattle.edits.specs.Edits.{Edit, insert, downTo}
 use Rattle.edits.specs.Allowed.{Fault?, fine, fault, orElse, unless, gapOk, pieceFault, roomFault, insertFault, editFault}
 use Rattle.edits.specs.Records.{Rec, Newest, lastRecord, reversible}
-use Rattle.edits.specs.Calls.{Session, Call, undo-call, wordsOf, journalOf, sessionFault, openFault, wordsBy, recordBy, resultBy, editMade, editWithin, edited, undoMade, wordsBack, undoBy, undone, callOn, step}
+use Rattle.edits.specs.Calls.{Session, sizeOf, indexFits, roomFor, Call, undo-call, wordsOf, journalOf, sessionFault, openFault, wordsBy, recordBy, resultBy, editMade, editWithin, edited, undoMade, wordsBack, undoBy, undone, callOn, step}
 use Rattle.edits.specs.Made.{editOf}
 use Rattle.edits.specs.Causes as causes
 use Rattle.edits.specs.Causes.{EditCause, EditRefused, Outgrown, InsertCause, InsertRefused, UndoCause, UndoRefused}
-use Rattle.edits.proofs.Allowed.{edit-own, edit-room, edit-full, call-edit, step-edit}
+use Rattle.edits.proofs.Allowed.{no-room, edit-own, edit-room, edit-crowded, edit-full, call-edit, step-edit}
 
 -- the number and the place of a refusal
 same : {m q n p : ℕ} → Refused m q ≡ Refused n p → fault m q ≡ fault n p
@@ -40,27 +40,35 @@ module _ (dim : ℕ) (s : Session) (c : Call) (e : Edit) (n p : ℕ) (is : editO
   cause-edit (causes.own o k) = ap (λ r. r .answer) (step-edit dim s c e o is ∙ edit-own dim s e (editFault dim (wordsOf s) e) n p k)
   cause-edit (causes.file-room o k h a b) =
       ap (λ r. r .answer) (step-edit dim s c e o is ∙ edit-room dim s e (editFault dim (wordsOf s) e) k h) ∙ rw (a, b) refl
-  cause-edit (causes.journal-room o k h l a b) =
-      ap (λ r. r .answer) (step-edit dim s c e o is ∙ edit-full dim s e (editFault dim (wordsOf s) e) k h l) ∙ rw (a, b) refl
+  cause-edit (causes.index-room o k h a b) =
+      ap (λ r. r .answer) (step-edit dim s c e o is ∙ edit-crowded dim s e (editFault dim (wordsOf s) e) k h) ∙ rw (a, b) refl
+  cause-edit (causes.journal-room o k h i l a b) =
+      ap (λ r. r .answer) (step-edit dim s c e o is ∙ edit-full dim s e (editFault dim (wordsOf s) e) k h i l) ∙ rw (a, b) refl
 
   edit-cause : step dim s c .answer ≡ Refused n p → EditCause dim s c e n p
   unfolding step edited editWithin editMade
   edit-cause = opens (openFault dim s c) refl
     where
       full : (b : Bool) → leb (s .jused + 2 * length (recordBy dim s e)) (length (s .journal)) ≡ b → openFault dim s c ≡ fine → editFault dim (wordsOf s) e ≡ fine →
-          2 * length (wordsBy dim s e) ≤ length (s .file) → resultBy (unless b 16) s (editMade s (wordsBy dim s e) (recordBy dim s e)) .answer ≡ Refused n p → EditCause dim s c e n p
-      full true t o k h q = let z : _≡_ {A = ℕ} 0 1 = cc in absurd (omega arith)
-      full false t o k h q = causes.journal-room o k h (leb-false _ _ t) (number q) (place q)
+          2 * length (wordsBy dim s e) ≤ length (s .file) → indexFits dim (wordsBy dim s e) (sizeOf (s .index)) ≡ true → resultBy (unless b 16) s (editMade dim s (wordsBy dim s e) (recordBy dim s e)) .answer ≡ Refused n p → EditCause dim s c e n p
+      full true t o k h i q = let z : _≡_ {A = ℕ} 0 1 = cc in absurd (omega arith)
+      full false t o k h i q = causes.journal-room o k h i (leb-false _ _ t) (number q) (place q)
 
-      room : (b : Bool) → leb (2 * length (wordsBy dim s e)) (length (s .file)) ≡ b → openFault dim s c ≡ fine → editFault dim (wordsOf s) e ≡ fine →
-          resultBy (orElse (unless b 15) (unless (leb (s .jused + 2 * length (recordBy dim s e)) (length (s .journal))) 16)) s (editMade s (wordsBy dim s e) (recordBy dim s e)) .answer ≡ Refused n p →
+      room : (b : Bool) → leb (2 * length (wordsBy dim s e)) (length (s .file)) ≡ b → indexFits dim (wordsBy dim s e) (sizeOf (s .index)) ≡ true →
+          openFault dim s c ≡ fine → editFault dim (wordsOf s) e ≡ fine → resultBy (orElse (unless b 15) (unless (leb (s .jused + 2 * length (recordBy dim s e)) (length (s .journal))) 16)) s (editMade dim s (wordsBy dim s e) (recordBy dim s e)) .answer ≡ Refused n p →
           EditCause dim s c e n p
-      room true t o k q = full (leb (s .jused + 2 * length (recordBy dim s e)) (length (s .journal))) refl o k (leb-true _ _ t) q
-      room false t o k q = causes.file-room o k (leb-false _ _ t) (number q) (place q)
+      room true t i o k q = full (leb (s .jused + 2 * length (recordBy dim s e)) (length (s .journal))) refl o k (leb-true _ _ t) i q
+      room false t i o k q = causes.file-room o k (leb-false _ _ t) (number q) (place q)
+
+      beside : (b : Bool) → indexFits dim (wordsBy dim s e) (sizeOf (s .index)) ≡ b → openFault dim s c ≡ fine → editFault dim (wordsOf s) e ≡ fine →
+          resultBy (orElse (unless (b && leb (2 * length (wordsBy dim s e)) (length (s .file))) 15) (unless (leb (s .jused + 2 * length (recordBy dim s e)) (length (s .journal))) 16)) s
+          (editMade dim s (wordsBy dim s e) (recordBy dim s e)) .answer ≡ Refused n p → EditCause dim s c e n p
+      beside true i o k q = room (leb (2 * length (wordsBy dim s e)) (length (s .file))) refl i o k q
+      beside false i o k q = causes.index-room o k i (number q) (place q)
 
       owns : (f : Fault?) → editFault dim (wordsOf s) e ≡ f → openFault dim s c ≡ fine → edited dim s e f .answer ≡ Refused n p → EditCause dim s c e n p
       owns (fault m r) k o q = causes.own o (k ∙ same q)
-      owns fine k o q = room (leb (2 * length (wordsBy dim s e)) (length (s .file))) refl o k q
+      owns fine k o q = beside (indexFits dim (wordsBy dim s e) (sizeOf (s .index))) refl o k q
 
       opens : (f : Fault?) → openFault dim s c ≡ f → resultBy f s (callOn dim s (wordsOf s) c) .answer ≡ Refused n p → EditCause dim s c e n p
       opens (fault m r) o q = causes.opening (o ∙ same q)
@@ -120,7 +128,11 @@ module _ (dim : ℕ) (s : Session) (n p : ℕ) where
   cause-undo (causes.ill-formed o u l a b) = rw (o, ne-eqb (s .jused) 0 u, l, a, b) refl
   cause-undo (causes.not-allowed o u r js l v a b) = rw (o, ne-eqb (s .jused) 0 u, l, v, a, b) refl
   cause-undo (causes.room o u r js l v h a b) =
-      rw (o, ne-eqb (s .jused) 0 u, l, v, lt-leb (2 * length (wordsBack dim (wordsOf s) r)) (length (s .file)) h, a, b) refl
+      let full : roomFor dim (length (s .file)) (sizeOf (s .index)) (wordsBack dim (wordsOf s) r) ≡ false =
+      no-room (indexFits dim (wordsBack dim (wordsOf s) r) (sizeOf (s .index))) (leb (2 * length (wordsBack dim (wordsOf s) r)) (length (s .file)))
+      (lt-leb (2 * length (wordsBack dim (wordsOf s) r)) (length (s .file)) h) in
+      rw (o, ne-eqb (s .jused) 0 u, l, v, full, a, b) refl
+  cause-undo (causes.index-room o u r js l v h a b) = rw (o, ne-eqb (s .jused) 0 u, l, v, h, a, b) refl
 
   undo-cause : step dim s undo-call .answer ≡ Refused n p → UndoCause dim s n p
   unfolding step openFault undone undoMade
@@ -128,14 +140,21 @@ module _ (dim : ℕ) (s : Session) (n p : ℕ) where
     where
       rooms : (r : Rec) (js : List ℕ) (b : Bool) → leb (2 * length (wordsBack dim (wordsOf s) r)) (length (s .file)) ≡ b →
           reversible dim (wordsOf s) r ≡ true → lastRecord (journalOf s) ≡ some (r, js) → (s .jused ≡ 0 → ⊥) → sessionFault dim s ≡ fine →
-          resultBy (unless b 15) s (undoMade s (wordsBack dim (wordsOf s) r) (2 * length js)) .answer ≡ Refused n p → UndoCause dim s n p
+          resultBy (unless b 15) s (undoMade dim s (wordsBack dim (wordsOf s) r) (2 * length js)) .answer ≡ Refused n p → UndoCause dim s n p
       rooms r js true t v l u o q = let z : _≡_ {A = ℕ} 0 1 = cc in absurd (omega arith)
       rooms r js false t v l u o q = causes.room o u r js l v (leb-false _ _ t) (number q) (place q)
 
+      beside : (r : Rec) (js : List ℕ) (b : Bool) → indexFits dim (wordsBack dim (wordsOf s) r) (sizeOf (s .index)) ≡ b →
+          reversible dim (wordsOf s) r ≡ true → lastRecord (journalOf s) ≡ some (r, js) → (s .jused ≡ 0 → ⊥) → sessionFault dim s ≡ fine →
+          resultBy (unless (b && leb (2 * length (wordsBack dim (wordsOf s) r)) (length (s .file))) 15) s
+          (undoMade dim s (wordsBack dim (wordsOf s) r) (2 * length js)) .answer ≡ Refused n p → UndoCause dim s n p
+      beside r js true i v l u o q = rooms r js (leb (2 * length (wordsBack dim (wordsOf s) r)) (length (s .file))) refl v l u o q
+      beside r js false i v l u o q = causes.index-room o u r js l v i (number q) (place q)
+
       allows : (r : Rec) (js : List ℕ) (b : Bool) → reversible dim (wordsOf s) r ≡ b → lastRecord (journalOf s) ≡ some (r, js) → (s .jused ≡ 0 → ⊥) → sessionFault dim s ≡ fine →
-          resultBy (orElse (unless b 19) (unless (leb (2 * length (wordsBack dim (wordsOf s) r)) (length (s .file))) 15)) s
-          (undoMade s (wordsBack dim (wordsOf s) r) (2 * length js)) .answer ≡ Refused n p → UndoCause dim s n p
-      allows r js true v l u o q = rooms r js (leb (2 * length (wordsBack dim (wordsOf s) r)) (length (s .file))) refl v l u o q
+          resultBy (orElse (unless b 19) (unless (roomFor dim (length (s .file)) (sizeOf (s .index)) (wordsBack dim (wordsOf s) r)) 15)) s
+          (undoMade dim s (wordsBack dim (wordsOf s) r) (2 * length js)) .answer ≡ Refused n p → UndoCause dim s n p
+      allows r js true v l u o q = beside r js (indexFits dim (wordsBack dim (wordsOf s) r) (sizeOf (s .index))) refl v l u o q
       allows r js false v l u o q = causes.not-allowed o u r js l v (number q) (place q)
 
       lasts : (l : Newest) → lastRecord (journalOf s) ≡ l → (s .jused ≡ 0 → ⊥) → sessionFault dim s ≡ fine → undoBy dim s (wordsOf s) l .answer ≡ Refused n p → UndoCause dim s n p

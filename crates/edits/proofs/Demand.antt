@@ -17,7 +17,7 @@ use Rattle.files.specs.declared.Verdict.{Verdict}
 use Rattle.files.specs.declared.Verdict.the-variants.{Good, Fault}
 use Rattle.edits.specs.Edits.{Edit}
 use Rattle.edits.specs.Allowed.{fine, unless}
-use Rattle.edits.specs.Calls.{Session, Call, usedWords, wordsOf, endsInMarker, sessionOk, fileFault, sessionFault}
+use Rattle.edits.specs.Calls.{Session, sizeOf, Call, usedWords, wordsOf, endsInMarker, sessionOk, fileFault, sessionFault}
 use Rattle.edits.specs.Book.{Run, ran, applied, undos}
 use Rattle.edits.specs.Demand.{OpenedEmpty, PiecesBytes, runOf, usedBytes, AcceptedFile, Demand3, EveryRun}
 use Rattle.edits.proofs.Accepted.{Accepted}
@@ -60,11 +60,13 @@ begin dim hyp s O =
       file = used-holds (s .file) (s .used) (O .file-bytes) (t .file);
       journal = record { whole = refl; bytes = O .journal-bytes; used = none; within = omega arith; words = ap (usedWords (s .journal)) none };
       tree = file-tree dim hyp u (words-below (take (s .used) (s .file)) (below-take 256 (s .used) (s .file) (omega arith) (O .file-bytes))) (t .ends) (two .1);
+      index = O .index-built;
+      index-fits = O .index-fits;
     }
 
 module _ (dim : ℕ) (hyp : Hypotheses dim) (s₀ : Session) (B : Begun dim s₀) where
   first : KeptRun dim s₀ (record { session = s₀; book = [] })
-  first = record { ws = wordsOf s₀; js = []; replay = no-edit; file = B .file; journal = B .journal }
+  first = record { ws = wordsOf s₀; js = []; replay = no-edit; file = B .file; journal = B .journal; index = B .index }
 
   ---- what a run keeps, read off
 
@@ -94,8 +96,8 @@ module _ (dim : ℕ) (hyp : Hypotheses dim) (s₀ : Session) (B : Begun dim s₀
   kept-back : (s : Session) (es : List Edit) → es ≡ [] → Kept dim s₀ s es → Back s
   kept-back s es e K =
       let same : K .ws ≡ wordsOf s₀ =
-      replay-applied dim (wordsOf s₀) (length (s₀ .file)) es (K .ws) (K .js) (K .replay) ∙ ap (applied dim (wordsOf s₀)) e in
-      let empty : K .js ≡ [] = replay-empty dim (wordsOf s₀) (length (s₀ .file)) es (K .ws) (K .js) (K .replay) e in
+      replay-applied dim (wordsOf s₀) (length (s₀ .file)) (sizeOf (s₀ .index)) es (K .ws) (K .js) (K .replay) ∙ ap (applied dim (wordsOf s₀)) e in
+      let empty : K .js ≡ [] = replay-empty dim (wordsOf s₀) (length (s₀ .file)) (sizeOf (s₀ .index)) es (K .ws) (K .js) (K .replay) e in
       let H : Holds (length (s₀ .file)) (s .file) (s .used) (wordsOf s₀) = subst (Holds (length (s₀ .file)) (s .file) (s .used)) same (K .file) in
       record {
         journal = K .journal .used ∙ ap (λ l. 2 * length l) empty;
@@ -110,12 +112,13 @@ module _ (dim : ℕ) (hyp : Hypotheses dim) (s₀ : Session) (B : Begun dim s₀
       let clear = undos-clear dim hyp s₀ B (length es) s es refl K in
       let z = ran dim r (undos es) in
       let back = kept-back (z .session) (z .book) (clear .1) (kept-run dim hyp s₀ B (undos es) r (undos-bytes es) K) in
-      let same = replay-applied dim (wordsOf s₀) (length (s₀ .file)) es (K .ws) (K .js) (K .replay) in
+      let same = replay-applied dim (wordsOf s₀) (length (s₀ .file)) (sizeOf (s₀ .index)) es (K .ws) (K .js) (K .replay) in
       record {
         accepted = kept-judged s es K;
         ready = kept-ready dim hyp s₀ B s es K;
         file-length = K .file .whole;
         journal-length = K .journal .whole;
+        index = rw (K .file .words) (K .index);
         equals = K .file .words ∙ same;
         equals-bytes = holds-bytes (length (s₀ .file)) (s .file) (s .used) (K .ws) (K .file) ∙ ap bytes same;
         undo-refused = undo-refused dim hyp s₀ B s es K;

@@ -22,7 +22,8 @@ use Rattle.edits.specs.Edits.{flagged}
 use Rattle.edits.proofs.Tests.{rule-of}
 use Rattle.edits.proofs.Parts.{set2, length-set2, set2-other, set2-first, set2-second, set2-back, below-set}
 use Rattle.grammar.proofs.Rules.{own-two}
-use Rattle.edits.proofs.OwnLaws.{Alike, own-alike, own-fixed}
+use Rattle.cells.proofs.Own.{own-fixed}
+use Rattle.edits.proofs.OwnLaws.{Alike, own-alike}
 
 -- the extent is the same where the total is
 extent-alike : {dim : ℕ} {own own′ : List ℕ} (inside k : ℕ) → Alike dim own own′ → wordAt own′ 18 ≡ wordAt own 18 →
@@ -38,7 +39,7 @@ extent-alike {own = own} {own′} inside k a t x = rw (a .type) (go (isHeader (t
 abbrev pub marked : Bool → List ℕ → List ℕ
 marked deleted own = set own 0 (flagged deleted (wordAt own 0))
 
-type-flagged : (d : Bool) (w : ℕ) → typeOf (flagged d w) ≡ typeOf w
+pub type-flagged : (d : Bool) (w : ℕ) → typeOf (flagged d w) ≡ typeOf w
 type-flagged true w = omega arith
 type-flagged false w = omega arith
 
@@ -127,9 +128,6 @@ cell-types : (own : List ℕ) → isCell (typeAt own 0) ≡ true → (typeAt own
 cell-types own e = each-named (λ k. (k ≡ 1) ⊎ (k ≡ 2)) (1 ∷ 2 ∷ []) (typeAt own 0) (inl refl, (inr refl, tt)) e
 
 module _ {dim depth under inside k : ℕ} {own : List ℕ} (o : OwnTests dim depth under own inside k) where
-  pub cell-words : isCell (typeAt own 0) ≡ true → 21 ≤ length own
-  cell-words e = let l = cell-long dim (typeAt own 0) (sizingAt dim own 0) e in let f = own-fixed o in omega arith
-
   -- the name that stands there is one
   pub cell-named : isCell (typeAt own 0) ≡ true → nameOk (wordAt own (nameIn own)) (wordAt own (nameIn own + 1)) ≡ true
   unfolding storedNameOk

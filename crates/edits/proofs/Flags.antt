@@ -1,7 +1,8 @@
 -- Deleted flags written at places: no other bit changes, and the old flags written there give the old words back, whatever
 -- was written between.
-use Prim.Native.Nat.{ℕ, zero, suc, _/_, _%_, _<_}
+use Prim.Native.Nat.{ℕ, zero, suc, _/_, _%_, _≤_, _<_}
 use native.Mathlib.Omega.{arith}
+use native.Mathlib.Decide.{decLe, ℕ-discrete}
 use mathlib.Core.Path.{_≡_, refl, sym, ap, _∙_}
 use mathlib.Core.Logic.{_≢_}
 use mathlib.Core.Bool.{Bool, true, false}
@@ -11,10 +12,11 @@ use lib.Seq.{getD-set-same, getD-set-other, set-out, ext-getD}
 use lib.Dec.{eqb, ltb}
 use borrow.Author.Tests.{eqb-true, eqb-false, ltb-true, ltb-false}
 use Rattle.words.specs.Words.{Below, wordAt}
-use Rattle.kinds.specs.FirstWord.{deletedOf}
+use Rattle.kinds.specs.FirstWord.{deletedOf, typeOf}
+use Rattle.headers.specs.Header.{typeAt}
 use Rattle.edits.specs.Edits.{flagged, flagsAt, withFlags}
 use Rattle.edits.proofs.Parts.{below-set}
-use Rattle.edits.proofs.Fields.{flagged-small}
+use Rattle.edits.proofs.Fields.{flagged-small, type-flagged}
 
 ---- lists of places and flags
 
@@ -56,6 +58,22 @@ pub below-flags : (qs : List ℕ) (bs : List Bool) (ws : List ℕ) → Below 655
 below-flags [] bs ws b = b
 below-flags (q ∷ qs) [] ws b = b
 below-flags (q ∷ qs) (f ∷ bs) ws b = below-flags qs bs (set ws q (flagged f (wordAt ws q))) (below-set ws q _ b (flagged-small f (wordAt ws q)))
+
+---- types
+
+type-set : (b : Bool) (ws : List ℕ) (q i : ℕ) → typeAt (set ws q (flagged b (wordAt ws q))) i ≡ typeAt ws i
+type-set b ws q i = go (ℕ-discrete i q) (decLe (length ws) q)
+  where
+    go : Dec (i ≡ q) → Dec (length ws ≤ q) → typeAt (set ws q (flagged b (wordAt ws q))) i ≡ typeAt ws i
+    go (no n) d = ap typeOf (getD-set-other ws q i (flagged b (wordAt ws q)) 0 n)
+    go (yes e) (yes l) = ap (λ u. typeAt u i) (set-out ws q (flagged b (wordAt ws q)) l)
+    go (yes e) (no l) = rw e (ap typeOf (getD-set-same ws q (flagged b (wordAt ws q)) 0 (omega arith)) ∙ type-flagged b (wordAt ws q))
+
+-- flags change no type
+pub type-flags : (qs : List ℕ) (bs : List Bool) (ws : List ℕ) (i : ℕ) → typeAt (withFlags qs bs ws) i ≡ typeAt ws i
+type-flags [] bs ws i = refl
+type-flags (q ∷ qs) [] ws i = refl
+type-flags (q ∷ qs) (b ∷ bs) ws i = type-flags qs bs (set ws q (flagged b (wordAt ws q))) i ∙ type-set b ws q i
 
 ---- one word
 

@@ -22,7 +22,8 @@ use Rattle.kinds.proofs.Types.{header-long, header-unsized, each-named}
 use Rattle.edits.specs.Edits.{moved, countMoved, corrected}
 use Rattle.edits.proofs.Tests.{both-and, rule-of, of-rule}
 use Rattle.edits.proofs.Parts.{read-in, read-first, set-in}
-use Rattle.edits.proofs.OwnLaws.{Alike, own-alike, own-fixed}
+use Rattle.cells.proofs.Own.{own-fixed}
+use Rattle.edits.proofs.OwnLaws.{Alike, own-alike}
 
 -- the header's own words, corrected
 abbrev pub grown : Bool → ℕ → Bool → List ℕ → List ℕ
@@ -71,7 +72,7 @@ module _ (up : Bool) (n : ℕ) (direct : Bool) (own : List ℕ) where
       rw e (getD-set-same (set own 18 v) 19 (moved up 1 (wordAt (set own 18 v) 19)) 0 (omega arith)
       ∙ ap (moved up 1) (getD-set-other own 18 19 v 0 (omega arith)))
 
-  count-kept : (direct && isCounted (typeAt own 0)) ≡ false → wordAt (grown up n direct own) 19 ≡ wordAt own 19
+  pub count-kept : (direct && isCounted (typeAt own 0)) ≡ false → wordAt (grown up n direct own) 19 ≡ wordAt own 19
   unfolding corrected
   count-kept e = rw e (getD-set-other own 18 19 (moved up n (wordAt own 18)) 0 (omega arith))
 
@@ -122,7 +123,7 @@ grown-back up n direct own h t c =
 
 ---- a header has no N, and a type 2 no count
 
-cell-uncounted : (direct : Bool) (t : ℕ) → t ≡ 2 → (direct && isCounted t) ≡ false
+pub cell-uncounted : (direct : Bool) (t : ℕ) → t ≡ 2 → (direct && isCounted t) ≡ false
 cell-uncounted true t e = rw e refl
 cell-uncounted false t e = refl
 

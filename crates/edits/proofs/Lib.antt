@@ -32,6 +32,7 @@ pub mod Causes
 pub mod PlainEdits
 pub mod Refusals
 pub mod Numbers
+pub mod Indexed
 pub mod Replay
 pub mod Steps
 pub mod Undos
@@ -40,3 +41,4 @@ pub mod Every
 pub mod Marks
 pub mod Start
 pub mod Examples
+pub mod Results

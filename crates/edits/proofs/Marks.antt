@@ -8,7 +8,7 @@ use mathlib.Core.List.{List, _++_}
 use lib.ListN.{length, take, drop, replicate, length-append, take-append-drop}
 use lib.Seq.{drop-at}
 use lib.Dec.{eqb, leb}
-use borrow.Author.Tests.{leb-true, eq-eqb}
+use borrow.Author.Tests.{le-leb, leb-true, eq-eqb}
 use Rattle.words.specs.Words.{words, bytes, wordAt, Below}
 use Rattle.words.proofs.Laws.{length-bytes, words-below}
 use Rattle.files.specs.Judge.{topOf, answer, judgeOf}
@@ -20,7 +20,7 @@ use Rattle.grammar.proofs.Exact.{accepted-is}
 use Rattle.edits.specs.Edits.{mark, extentIn, placesFrom, extentPlaces, apply}
 use Rattle.edits.specs.Allowed.{fine, unless, startsAt, flagDiffers, markFault, editFault}
 use Rattle.edits.specs.Records.{recordOf, reversal, reversible}
-use Rattle.edits.specs.Calls.{Session, mark-call, undo-call, wordsOf, journalOf, endsInMarker, sessionOk, fileFault, sessionFault, openFault, stored, recordBy, editMade, undoMade, step}
+use Rattle.edits.specs.Calls.{Session, sizeOf, indexFits, roomFor, afresh, mark-call, undo-call, wordsOf, journalOf, endsInMarker, sessionOk, fileFault, sessionFault, openFault, stored, recordBy, editMade, undoMade, step}
 use Rattle.edits.specs.Book.{wasRefused}
 use Rattle.edits.specs.Demand.{usedBytes}
 use Rattle.edits.specs.Made.{Allowed}
@@ -29,7 +29,7 @@ use Rattle.edits.proofs.Accepted.{Accepted, Sound}
 use Rattle.edits.proofs.Bounds.{below-take}
 use Rattle.edits.proofs.Faults.{orElse-fine, unless-fine}
 use Rattle.edits.proofs.Tested.{used-parts, session-ok, ready-tested, used-call}
-use Rattle.edits.proofs.Flags.{flags-beside}
+use Rattle.edits.proofs.Flags.{flags-beside, type-flags}
 use Rattle.edits.proofs.Alike.{place-in, place-out, alike-there}
 use Rattle.edits.proofs.Lengths.{length-mark}
 use Rattle.edits.proofs.Judging.{judged-top, judged-tree, tree-judged}
@@ -39,6 +39,7 @@ use Rattle.edits.proofs.Buffers.{Holds, used-holds, holds-ok, holds-sto
 use Rattle.edits.proofs.Allowed.{made-exactly, step-made}
 use Rattle.edits.proofs.Demand.{file-tree}
 use Rattle.edits.proofs.Undos.{step-undo, undone-last}
+use Rattle.edits.proofs.Indexed.{index-size, index-ok, cells-same, fits-same}
 use Rattle.edits.proofs.Every.{hypotheses}
 
 ---- the file of a session that opens
@@ -136,11 +137,11 @@ module _ (dim : ℕ) (s : Session) (p : ℕ) (deleted : Bool) (below : Below 256
   sound : Sound dim ws (mark p deleted)
   sound = mark-sound dim ws p deleted tree limit (allowed .own)
 
-  result : step dim s (mark-call p deleted) ≡ editMade s after (recordBy dim s (mark p deleted))
+  result : step dim s (mark-call p deleted) ≡ editMade dim s after (recordBy dim s (mark p deleted))
   result = step-made dim s (mark-call p deleted) (mark p deleted) refl allowed
 
   abbrev t : Session
-  t = editMade s after (recordBy dim s (mark p deleted)) .after
+  t = editMade dim s after (recordBy dim s (mark p deleted)) .after
 
   after-is : afterMark dim s p deleted ≡ t
   after-is = ap (λ r. r .after) result
@@ -190,11 +191,12 @@ module _ (dim : ℕ) (s : Session) (p : ℕ) (deleted : Bool) (below : Below 256
     jholds-after = holds-pushed jholds (recordBy dim s (mark p deleted)) (record-below (recordOf dim ws (mark p deleted)) (sound .small)) (allowed .journal-room)
 
     after-ready : sessionFault dim t ≡ fine
-    unfolding sessionFault
+    unfolding sessionFault editMade
     after-ready =
         let q = ready-tested dim s ready in
         let v = tree-judged dim after (sound .kept) in
         let ok = session-ok {dim = dim} {s = t} (record {
+          index = index-ok dim after (sizeOf (s .index)) (allowed .index-room);
           dimension = q .dimension;
           file = holds-ok holds-after (s .file) refl (used-parts (length (s .file)) (s .used) (q .file) .size-ok);
           journal = holds-ok jholds-after (s .journal) refl (used-parts (length (s .journal)) (s .jused) (q .journal) .size-ok);
@@ -202,7 +204,15 @@ module _ (dim : ℕ) (s : Session) (p : ℕ) (deleted : Bool) (below : Below 256
         }) in
         rw (ok, holds-after .words, v .3, eq-eqb (length after - 1) (length after - 1) refl) refl
 
-    undone-is : step dim t undo-call ≡ undoMade t ws (2 * length (journalOf s))
+    -- as many cells as before, so the index fits
+    cells-fit : indexFits dim ws (sizeOf (s .index)) ≡ true
+    unfolding apply
+    cells-fit =
+        let qs = extentPlaces (spotsOf dim ws) p in
+        fits-same dim after ws (sizeOf (s .index)) (cells-same dim after ws (λ i. type-flags qs (replicate (length qs) deleted) ws i) spots-same) (allowed .index-room)
+
+    undone-is : step dim t undo-call ≡ undoMade dim t ws (2 * length (journalOf s))
+    unfolding editMade
     undone-is =
         let six = record-long (recordOf dim ws (mark p deleted)) in
         let more = length-append (journalOf s) (recordBy dim s (mark p deleted)) in
@@ -210,14 +220,21 @@ module _ (dim : ℕ) (s : Session) (p : ℕ) (deleted : Bool) (below : Below 256
         let w = holds .within in
         let u = holds .used in
         let l = holds-after .whole in
+        let size = index-size dim after (sizeOf (s .index)) (allowed .index-room) in
+        let beside : indexFits dim ws (sizeOf (t .index)) ≡ true = rw size cells-fit in
+        let file-room : leb (2 * length ws) (length (t .file)) ≡ true = le-leb (2 * length ws) (length (t .file)) (omega arith) in
         step-undo dim t after-ready
-        ∙ undone-last dim t ws (journalOf s) (mark p deleted) (holds-after .words) (jholds-after .words) sound (λ z. omega arith) (omega arith)
+        ∙ undone-last dim t ws (journalOf s) (mark p deleted) (holds-after .words) (jholds-after .words) sound (λ z. omega arith) (and-eq-true-iff _ _ .1 (beside, file-room))
 
     -- the old words stored over the new ones
     file-back : stored (t .file) (t .used) ws ≡ s .file
     unfolding editMade
     file-back =
         stored-back (s .file) (s .used) after ws (length-mark dim ws p deleted) (holds .used) (holds-bytes (length (s .file)) (s .file) (s .used) ws holds)
+
+    size-back : sizeOf (t .index) ≡ sizeOf (s .index)
+    unfolding editMade
+    size-back = index-size dim after (sizeOf (s .index)) (allowed .index-room)
 
     pub mark-undone′ : GivesBack dim s (afterMark dim s p deleted)
     unfolding undoMade
@@ -228,6 +245,7 @@ module _ (dim : ℕ) (s : Session) (p : ℕ) (deleted : Bool) (below : Below 256
           file = ap (λ v. v .after .file) r ∙ file-back;
           used = ap (λ v. v .after .used) r ∙ sym (holds .used);
           jused = ap (λ v. v .after .jused) r ∙ sym (jholds .used);
+          index = ap (λ v. v .after .index) r ∙ ap (afresh dim ws) size-back;
         }
 
 ---- the statements

@@ -30,12 +30,11 @@ use Rattle.edits.specs.declared.Edited.the-variants.{Refused}
 use Rattle.edits.specs.Edits.{Edit, mark, insert, remove, apply, downTo}
 use Rattle.edits.specs.Allowed.{Fault?, fine, fault, orElse, unless, startsAt, flagDiffers, markFault, renameFault, gapOk, depthUnder, typeUnder, wholeBy, pieceFault, roomFault, insertFault, removeFault, editFault}
 use Rattle.edits.specs.Records.{Newest, lastRecord, reversal, reversible}
-use Rattle.edits.specs.Calls.{Session, Call, mark-call, rename-call, insert-call, remove-call, undo-call, wordsOf, journalOf, sessionOk, pieceOk, fileFault, sessionFault, openFault}
-use Rattle.edits.specs.Calls.{Result, refused, resultBy, wordsBy, recordBy, editMade, editWithin, edited, undoMade, reversalFault, undoBy, undone, nameOfText, textOk, callOn, step}
+use Rattle.edits.specs.Calls.{Session, sizeOf, Call, mark-call, rename-call, insert-call, remove-call, undo-call, wordsOf, journalOf, sessionOk, pieceOk, fileFault, sessionFault, openFault}
+use Rattle.edits.specs.Calls.{Result, refused, resultBy, wordsBy, recordBy, editMade, roomFor, editWithin, edited, undoMade, reversalFault, undoBy, undone, nameOfText, textOk, callOn, step}
 use Rattle.edits.specs.Demand.{usedBytes}
 use Rattle.edits.specs.Refusals.{ownNumbers, PieceRefused, RefusedSo, EveryRefusal, PiecePlace}
 use Rattle.edits.proofs.Tested.{tested, used-call}
-use Rattle.edits.proofs.Lengths.{mark-fits, text-fits, remove-fits}
 
 ---- one of a list, by a test
 
@@ -103,20 +102,16 @@ module _ (dim : ℕ) (s : Session) (c : Call) where
 
   ---- an edit: its own refusals, 15, 16
 
-  -- no 15 where the words have room
-  room-so : (ws : List ℕ) → 2 * length ws ≤ length (s .file) → So dim s c (unless (leb (2 * length ws) (length (s .file))) 15)
-  room-so ws h = rw (le-leb (2 * length ws) (length (s .file)) h) tt
-
-  made-so : (e : Edit) (f : Fault?) → So dim s c f → So dim s c (unless (leb (2 * length (wordsBy dim s e)) (length (s .file))) 15) →
-      isOneOf (ownNumbers c) 16 ≡ true → Answered dim s c (edited dim s e f)
+  made-so : (e : Edit) (f : Fault?) → So dim s c f → isOneOf (ownNumbers c) 15 ≡ true → isOneOf (ownNumbers c) 16 ≡ true → Answered dim s c (edited dim s e f)
   unfolding edited editMade editWithin
   made-so e f h room full =
       let w = wordsBy dim s e in
       let r = recordBy dim s e in
-      by-so (orElse f (editWithin s w r)) (editMade s w r)
-      (or-so f (editWithin s w r) h
-      (or-so (unless (leb (2 * length w) (length (s .file))) 15) (unless (leb (s .jused + 2 * length r) (length (s .journal))) 16)
-      room (unless-so (leb (s .jused + 2 * length r) (length (s .journal))) 16 full)))
+      let fits = roomFor dim (length (s .file)) (sizeOf (s .index)) w in
+      by-so (orElse f (editWithin dim s w r)) (editMade dim s w r)
+      (or-so f (editWithin dim s w r) h
+      (or-so (unless fits 15) (unless (leb (s .jused + 2 * length r) (length (s .journal))) 16)
+      (unless-so fits 15 room) (unless-so (leb (s .jused + 2 * length r) (length (s .journal))) 16 full)))
       (λ n p q. let z : _≡_ {A = ℕ} 0 1 = cc in absurd (omega arith))
 
 ---- the own refusals of each edit
@@ -177,9 +172,9 @@ undo-so dim s ws none = answer-so dim s undo-call 19 0 (own dim s undo-call 19 r
 undo-so dim s ws (some l) =
     let c = undo-call in
     let back = apply dim ws (reversal ws (l .0)) in
-    let fits = leb (2 * length back) (length (s .file)) in
+    let fits = roomFor dim (length (s .file)) (sizeOf (s .index)) back in
     let may = reversible dim ws (l .0) in
-    by-so dim s c (reversalFault dim ws (length (s .file)) (l .0)) (undoMade s back (2 * length (l .1)))
+    by-so dim s c (reversalFault dim ws (length (s .file)) (sizeOf (s .index)) (l .0)) (undoMade dim s back (2 * length (l .1)))
     (or-so dim s c (unless may 19) (unless fits 15) (unless-so dim s c may 19 refl) (unless-so dim s c fits 15 refl))
     (λ n p q. let z : _≡_ {A = ℕ} 0 1 = cc in absurd (omega arith))
 
@@ -187,19 +182,17 @@ call-so : (dim : ℕ) (s : Session) (c : Call) → Answered dim s c (callOn dim 
 unfolding undone
 call-so dim s (mark-call p d) =
     let c = mark-call p d in
-    made-so dim s c (mark p d) (editFault dim (wordsOf s) (mark p d)) (mark-so dim s p d) (room-so dim s c (wordsBy dim s (mark p d)) (mark-fits dim s p d)) refl
+    made-so dim s c (mark p d) (editFault dim (wordsOf s) (mark p d)) (mark-so dim s p d) refl refl
 call-so dim s (rename-call p text) =
     let c = rename-call p text in
-    made-so dim s c (nameOfText (packed text) p) (renameFault (spotsOf dim (wordsOf s)) (wordsOf s) p (textOk (packed text))) (rename-so dim s p text (textOk (packed text)))
-    (room-so dim s c (wordsBy dim s (nameOfText (packed text) p)) (text-fits dim s (packed text) p)) refl
+    made-so dim s c (nameOfText (packed text) p) (renameFault (spotsOf dim (wordsOf s)) (wordsOf s) p (textOk (packed text))) (rename-so dim s p text (textOk (packed text))) refl refl
 call-so dim s (insert-call h p piece) =
     let c = insert-call h p piece in
     let x = words piece in
-    made-so dim s c (insert h p x) (editFault dim (wordsOf s) (insert h p x)) (insert-so dim s h p piece)
-    (unless-so dim s c (leb (2 * length (wordsBy dim s (insert h p x))) (length (s .file))) 15 refl) refl
+    made-so dim s c (insert h p x) (editFault dim (wordsOf s) (insert h p x)) (insert-so dim s h p piece) refl refl
 call-so dim s (remove-call p) =
     let c = remove-call p in
-    made-so dim s c (remove p) (editFault dim (wordsOf s) (remove p)) (remove-so dim s p) (room-so dim s c (wordsBy dim s (remove p)) (remove-fits dim s p)) refl
+    made-so dim s c (remove p) (editFault dim (wordsOf s) (remove p)) (remove-so dim s p) refl refl
 call-so dim s undo-call =
     let empty = not (eqb (s .jused) 0) in
     by-so dim s undo-call (unless empty 17) (undoBy dim s (wordsOf s) (lastRecord (journalOf s))) (unless-so dim s undo-call empty 17 refl) (undo-so dim s (wordsOf s) (lastRecord (journalOf s)))

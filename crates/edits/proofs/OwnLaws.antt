@@ -21,7 +21,6 @@ use Rattle.headers.specs.Flags.{reservedOk, placeOk}
 use Rattle.elements.specs.Rules.{sizedOk, pointsOk, fixedOk, textFieldsOk, storedNameOk, countOk}
 use Rattle.grammar.proofs.Tests.{OwnTests, Extent}
 use Rattle.kinds.proofs.Types.{fixed-any, sizing-late, pointed-sized}
-use Rattle.elements.proofs.Laws.{fixed-least}
 use Rattle.edits.proofs.Tests.{both-and, rule-of, of-rule}
 
 -- own′ has the length of own and the words that the rules read: those of the first two, for a type that a word sizes all
@@ -36,12 +35,6 @@ pub record Alike (dim : ℕ) (own own′ : List ℕ) : Type 0 where
   pub index : isLinked (typeAt own 0) ≡ true → wordAt own′ 15 ≡ wordAt own 15
   pub properties : isLinked (typeAt own 0) ≡ true → wordAt own′ 16 ≡ wordAt own 16
   pub tail : isLinked (typeAt own 0) ≡ true → (i : ℕ) → fixedPart dim (typeAt own 0) (sizingAt dim own 0) ≤ i → wordAt own′ i ≡ wordAt own i
-
-pub own-fixed : {dim depth under inside n : ℕ} {own : List ℕ} → OwnTests dim depth under own inside n → fixedPart dim (typeAt own 0) (sizingAt dim own 0) ≤ length own
-own-fixed {dim} {own = own} o =
-    let l = fixed-least dim own 0 (o .fixed) in
-    let s = o .size in
-    omega arith
 
 -- the parts of rule 11
 attribute-parts : (dim : ℕ) (own : List ℕ) → attributesOk dim own 0 ≡ true →

@@ -22,7 +22,7 @@ use Rattle.edits.specs.Bits.{flagSize}
 use Rattle.edits.specs.Edits.{mark, rename, insert, remove, extentIn, extentPlaces, flagsAt}
 use Rattle.edits.specs.Allowed.{fine, startsAt, flagDiffers, markFault, renameFault, removeFault, editFault}
 use Rattle.edits.specs.Records.{headerBy, six, oldFlags, recordOf, recordWords}
-use Rattle.edits.specs.Calls.{Session, mark-call, rename-call, insert-call, remove-call, wordsOf, sessionFault, openFault, wordsBy, recordBy, step}
+use Rattle.edits.specs.Calls.{Session, sizeOf, indexFits, mark-call, rename-call, insert-call, remove-call, wordsOf, sessionFault, openFault, wordsBy, recordBy, step}
 use Rattle.edits.specs.Book.{wasRefused}
 use Rattle.edits.specs.Made.{renameOf, markBytes, MarkMade, RenameMade, InsertMade, RemoveMade}
 use Rattle.edits.proofs.Faults.{fine-test, fine-both}
@@ -48,33 +48,35 @@ module _ (dim : ℕ) (s : Session) (opens : sessionFault dim s ≡ fine) where
       let long = six-long 1 none p (length x) in
       omega arith
 
-  mark-plain : (p : ℕ) (d : Bool) → startsAt (spotsOf dim (wordsOf s)) p ≡ true → flagDiffers d (wordAt (wordsOf s) p) ≡ true →
+  mark-plain : (p : ℕ) (d : Bool) → startsAt (spotsOf dim (wordsOf s)) p ≡ true → indexFits dim (wordsBy dim s (mark p d)) (sizeOf (s .index)) ≡ true → flagDiffers d (wordAt (wordsOf s) p) ≡ true →
       s .jused + markBytes dim (wordsOf s) p ≤ length (s .journal) → step dim s (mark-call p d) .answer ≡ Made (s .used) (s .jused + markBytes dim (wordsOf s) p)
   unfolding editFault markFault openFault
-  mark-plain p d there differs free =
+  mark-plain p d there beside differs free =
       let record-is = mark-record p d in
       edits-made dim s (mark-call p d) (mark p d) refl
-      (record { opens = opens; own = fine-both (fine-test 13 there) (fine-test 14 differs); file-room = mark-fits dim s p d; journal-room = omega arith })
+      (record { opens = opens; own = fine-both (fine-test 13 there) (fine-test 14 differs); file-room = mark-fits dim s p d; index-room = beside; journal-room = omega arith })
       ∙ rw (record-is, length-mark dim (wordsOf s) p d, used-is) refl
 
-  rename-plain : (p : ℕ) (text : List ℕ) (a b : ℕ) → startsAt (spotsOf dim (wordsOf s)) p ≡ true → isCell (typeAt (wordsOf s) p) ≡ true → packed text ≡ name.Words a b →
+  rename-plain : (p : ℕ) (text : List ℕ) (a b : ℕ) → startsAt (spotsOf dim (wordsOf s)) p ≡ true → indexFits dim (wordsBy dim s (rename p a b)) (sizeOf (s .index)) ≡ true →
+      isCell (typeAt (wordsOf s) p) ≡ true → packed text ≡ name.Words a b →
       s .jused + 16 ≤ length (s .journal) → step dim s (rename-call p text) .answer ≡ Made (s .used) (s .jused + 16)
   unfolding editFault renameFault openFault recordOf recordWords
-  rename-plain p text a b there cell text-is free =
+  rename-plain p text a b there beside cell text-is free =
       edits-made dim s (rename-call p text) (rename p a b) (ap (λ q. renameOf q p) text-is)
       (record {
         opens = opens;
         own = fine-both (fine-test 13 there) (fine-both (fine-test 18 cell) (fine-test 12 (pack-stored text a b text-is .ok)));
         file-room = text-fits dim s (name.Words a b) p;
+        index-room = beside;
         journal-room = free;
       })
       ∙ ap (λ n. Made (2 * n) (s .jused + 16)) (length-rename dim (wordsOf s) p a b) ∙ ap (λ n. Made n (s .jused + 16)) used-is
 
-  insert-plain : (h : Option ℕ) (p : ℕ) (piece : List ℕ) → sizeOk (length piece) ≡ true → editFault dim (wordsOf s) (insert h p (words piece)) ≡ fine →
+  insert-plain : (h : Option ℕ) (p : ℕ) (piece : List ℕ) → sizeOk (length piece) ≡ true → indexFits dim (wordsBy dim s (insert h p (words piece))) (sizeOf (s .index)) ≡ true → editFault dim (wordsOf s) (insert h p (words piece)) ≡ fine →
       s .used + length piece ≤ length (s .file) → s .jused + 12 ≤ length (s .journal) →
       step dim s (insert-call h p piece) .answer ≡ Made (s .used + length piece) (s .jused + 12)
   unfolding openFault recordOf recordWords
-  insert-plain h p piece ok own room free =
+  insert-plain h p piece ok beside own room free =
       let even : length piece % 2 ≡ 0 = eqb-true (length piece % 2) 0 (and-eq-true-iff (eqb (length piece % 2) 0) (leb (length piece) 1048576) .0 ok .0) in
       let l = length-insert dim (wordsOf s) p h (words piece) in
       let w = length-words piece in
@@ -83,20 +85,20 @@ module _ (dim : ℕ) (s : Session) (opens : sessionFault dim s ≡ fine) where
       let long : 2 * length (wordsBy dim s (insert h p (words piece))) ≡ s .used + length piece = omega arith in
       let record-is : 2 * length (recordBy dim s (insert h p (words piece))) ≡ 12 = omega arith in
       edits-made dim s (insert-call h p piece) (insert h p (words piece)) refl
-      (record { opens = fine-both (fine-test 1 ok) opens; own = own; file-room = omega arith; journal-room = omega arith })
+      (record { opens = fine-both (fine-test 1 ok) opens; own = own; file-room = omega arith; index-room = beside; journal-room = omega arith })
       ∙ rw (long, record-is) refl
 
-  remove-plain : (p : ℕ) → startsAt (spotsOf dim (wordsOf s)) p ≡ true → s .jused + (2 * extentIn (spotsOf dim (wordsOf s)) p + 12) ≤ length (s .journal) →
+  remove-plain : (p : ℕ) → startsAt (spotsOf dim (wordsOf s)) p ≡ true → indexFits dim (wordsBy dim s (remove p)) (sizeOf (s .index)) ≡ true → s .jused + (2 * extentIn (spotsOf dim (wordsOf s)) p + 12) ≤ length (s .journal) →
       wasRefused (step dim s (remove-call p) .answer) ≡ false
   unfolding editFault removeFault openFault recordOf recordWords
-  remove-plain p there free =
+  remove-plain p there beside free =
       let h = headerBy (spotIn (spotsOf dim (wordsOf s)) p) in
       let x = take (extentIn (spotsOf dim (wordsOf s)) p) (drop p (wordsOf s)) in
       let long = six-long 4 h p (length x) in
       let l = length-append x (six 4 h p (length x)) in
       let t = length-take (extentIn (spotsOf dim (wordsOf s)) p) (drop p (wordsOf s)) in
       made-exactly dim s (remove-call p) (remove p) refl .1
-      (record { opens = opens; own = fine-test 13 there; file-room = remove-fits dim s p; journal-room = omega arith })
+      (record { opens = opens; own = fine-test 13 there; file-room = remove-fits dim s p; index-room = beside; journal-room = omega arith })
 
 pub mark-made : MarkMade
 mark-made dim s p d opens = mark-plain dim s opens p d

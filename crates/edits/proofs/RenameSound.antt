@@ -20,7 +20,8 @@ use Rattle.edits.specs.Records.{renamed, recordOf, reversal}
 use Rattle.edits.proofs.Accepted.{Accepted, Sound}
 use Rattle.grammar.proofs.Rules.{own-two}
 use Rattle.edits.proofs.Parts.{set2, length-set2, set2-in, below-left, below-right}
-use Rattle.edits.proofs.Fields.{named, nameIn, type-named, named-back, own-named, cell-words, cell-named, below-named}
+use Rattle.cells.proofs.Own.{cell-words}
+use Rattle.edits.proofs.Fields.{named, nameIn, type-named, named-back, own-named, cell-named, below-named}
 use Rattle.edits.proofs.Ways.{Way, plug, front, depthOf, typeOver, elem-of}
 use Rattle.edits.proofs.Faults.{orElse-fine, unless-fine, fine-test, fine-both}
 use Rattle.edits.proofs.Reversed.{sound-of, marker, behind, own-words, word-there, first-there, starts-there, place-small, swapped-wf, swapped, there}
@@ -31,7 +32,7 @@ name-there : (dim : ℕ) (w : Way) (own : List ℕ) (k r : Forest) (ws : List �
 name-there dim w own k r ws p ep ew l = ap (λ v. p + nameWord (typeOf v)) (first-there dim w own k r ws ew p ep (omega arith))
 
 -- the edit on the words is the edit on the element's own
-rename-words : (dim a b : ℕ) (w : Way) (own : List ℕ) (k r : Forest) (ws : List ℕ) (p : ℕ) → p ≡ length (front w) → ws ≡ flat (plug w (node own k r)) ++ marker →
+pub rename-words : (dim a b : ℕ) (w : Way) (own : List ℕ) (k r : Forest) (ws : List ℕ) (p : ℕ) → p ≡ length (front w) → ws ≡ flat (plug w (node own k r)) ++ marker →
     21 ≤ length own → apply dim ws (rename p a b) ≡ flat (plug w (node (named a b own) k r)) ++ marker
 unfolding apply
 rename-words dim a b w own k r ws p ep ew l =

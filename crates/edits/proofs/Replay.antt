@@ -3,12 +3,14 @@
 use Prim.Native.Nat.{ℕ, _*_, _≤_}
 use mathlib.Core.Path.{_≡_, refl, sym, ap, _∙_}
 use mathlib.Core.List.{List, [], _∷_, _++_}
+use mathlib.Core.Bool.{true}
+use mathlib.Core.Option.{Option}
 use native.Mathlib.Omega.{arith}
 use lib.ListN.{length, length-append}
 use Rattle.edits.specs.Edits.{Edit, apply}
 use Rattle.edits.specs.Allowed.{fine, editFault}
 use Rattle.edits.specs.Records.{recordOf, recordWords}
-use Rattle.edits.specs.Calls.{undo-call}
+use Rattle.edits.specs.Calls.{undo-call, indexFits}
 use Rattle.edits.specs.Book.{struck, applied, undos}
 use Rattle.edits.proofs.Accepted.{Accepted, Carried, Sound, Law}
 
@@ -32,37 +34,41 @@ more-not-nil es e q = let l = length-append es (e ∷ []) in let z : length (es 
 
 ---- the replay
 
--- most: the bytes that the file's buffer holds
-pub data Replay (dim : ℕ) (orig : List ℕ) (most : ℕ) : List Edit → List ℕ → List ℕ → Type 0 where
-  no-edit : Replay dim orig most [] orig []
-  one-more : (es : List Edit) (ws js : List ℕ) (e : Edit) → Replay dim orig most es ws js →
-      editFault dim ws e ≡ fine → Carried e → 2 * length (apply dim ws e) ≤ most →
-      Replay dim orig most (es ++ (e ∷ [])) (apply dim ws e) (js ++ recordWords (recordOf dim ws e))
+-- most: the bytes that the file's buffer holds; beside: those that an index's does
+pub data Replay (dim : ℕ) (orig : List ℕ) (most : ℕ) (beside : Option ℕ) : List Edit → List ℕ → List ℕ → Type 0 where
+  no-edit : Replay dim orig most beside [] orig []
+  one-more : (es : List Edit) (ws js : List ℕ) (e : Edit) → Replay dim orig most beside es ws js →
+      editFault dim ws e ≡ fine → Carried e → 2 * length (apply dim ws e) ≤ most → indexFits dim (apply dim ws e) beside ≡ true →
+      Replay dim orig most beside (es ++ (e ∷ [])) (apply dim ws e) (js ++ recordWords (recordOf dim ws e))
 
-module _ (dim : ℕ) (orig : List ℕ) (most : ℕ) (law : Law dim) (first : Accepted dim orig) (room : 2 * length orig ≤ most) (limit : most ≤ 1048576) where
-  pub replay-room : (es : List Edit) (ws js : List ℕ) → Replay dim orig most es ws js → 2 * length ws ≤ most
+module _ (dim : ℕ) (orig : List ℕ) (most : ℕ) (beside : Option ℕ) (law : Law dim) (first : Accepted dim orig) (room : 2 * length orig ≤ most) (fits : indexFits dim orig beside ≡ true) (limit : most ≤ 1048576) where
+  pub replay-room : (es : List Edit) (ws js : List ℕ) → Replay dim orig most beside es ws js → 2 * length ws ≤ most
   replay-room es ws js no-edit = room
-  replay-room es ws js (one-more es₀ ws₀ js₀ e r f c l) = l
+  replay-room es ws js (one-more es₀ ws₀ js₀ e r f c l i) = l
 
-  pub replay-accepted : (es : List Edit) (ws js : List ℕ) → Replay dim orig most es ws js → Accepted dim ws
+  pub replay-fits : (es : List Edit) (ws js : List ℕ) → Replay dim orig most beside es ws js → indexFits dim ws beside ≡ true
+  replay-fits es ws js no-edit = fits
+  replay-fits es ws js (one-more es₀ ws₀ js₀ e r f c l i) = i
+
+  pub replay-accepted : (es : List Edit) (ws js : List ℕ) → Replay dim orig most beside es ws js → Accepted dim ws
   replay-accepted es ws js no-edit = first
-  replay-accepted es ws js (one-more es₀ ws₀ js₀ e r f c l) =
+  replay-accepted es ws js (one-more es₀ ws₀ js₀ e r f c l i) =
       let a = replay-accepted es₀ ws₀ js₀ r in
       let b = replay-room es₀ ws₀ js₀ r in
       law ws₀ e a (omega arith) f c .kept
 
   -- of one more edit, all that the law says
-  pub replay-sound : (es : List Edit) (ws js : List ℕ) (e : Edit) → Replay dim orig most es ws js
+  pub replay-sound : (es : List Edit) (ws js : List ℕ) (e : Edit) → Replay dim orig most beside es ws js
       → editFault dim ws e ≡ fine → Carried e → Sound dim ws e
   replay-sound es ws js e r f c =
       let b = replay-room es ws js r in
       law ws e (replay-accepted es ws js r) (omega arith) f c
 
-pub replay-applied : (dim : ℕ) (orig : List ℕ) (most : ℕ) (es : List Edit) (ws js : List ℕ) → Replay dim orig most es ws js → ws ≡ applied dim orig es
-replay-applied dim orig most es ws js no-edit = refl
-replay-applied dim orig most es ws js (one-more es₀ ws₀ js₀ e r f c l) =
-    ap (λ u. apply dim u e) (replay-applied dim orig most es₀ ws₀ js₀ r) ∙ sym (applied-more dim orig es₀ e)
+pub replay-applied : (dim : ℕ) (orig : List ℕ) (most : ℕ) (beside : Option ℕ) (es : List Edit) (ws js : List ℕ) → Replay dim orig most beside es ws js → ws ≡ applied dim orig es
+replay-applied dim orig most beside es ws js no-edit = refl
+replay-applied dim orig most beside es ws js (one-more es₀ ws₀ js₀ e r f c l i) =
+    ap (λ u. apply dim u e) (replay-applied dim orig most beside es₀ ws₀ js₀ r) ∙ sym (applied-more dim orig es₀ e)
 
-pub replay-empty : (dim : ℕ) (orig : List ℕ) (most : ℕ) (es : List Edit) (ws js : List ℕ) → Replay dim orig most es ws js → es ≡ [] → js ≡ []
-replay-empty dim orig most es ws js no-edit q = refl
-replay-empty dim orig most es ws js (one-more es₀ ws₀ js₀ e r f c l) q = absurd (more-not-nil es₀ e q)
+pub replay-empty : (dim : ℕ) (orig : List ℕ) (most : ℕ) (beside : Option ℕ) (es : List Edit) (ws js : List ℕ) → Replay dim orig most beside es ws js → es ≡ [] → js ≡ []
+replay-empty dim orig most beside es ws js no-edit q = refl
+replay-empty dim orig most beside es ws js (one-more es₀ ws₀ js₀ e r f c l i) q = absurd (more-not-nil es₀ e q)

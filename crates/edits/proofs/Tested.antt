@@ -11,7 +11,7 @@ use borrow.Author.Tests.{le-leb, leb-true, eq-eqb, eqb-true}
 use Rattle.limits.specs.Limits.{dimOk, sizeOk, usedOk, callOk}
 use Rattle.words.proofs.Laws.{length-words}
 use Rattle.edits.specs.Allowed.{fine, unless}
-use Rattle.edits.specs.Calls.{Session, usedWords, wordsOf, endsInMarker, sessionOk, sessionFault}
+use Rattle.edits.specs.Calls.{Session, indexOk, usedWords, wordsOf, endsInMarker, sessionOk, sessionFault}
 use Rattle.edits.specs.Demand.{usedBytes}
 use Rattle.edits.proofs.Faults.{orElse-fine, unless-fine}
 use Rattle.edits.proofs.Tests.{both-and}
@@ -39,6 +39,7 @@ used-twice s n u =
     omega arith
 
 pub record Tested (dim : ℕ) (s : Session) : Type 0 where
+  pub index : indexOk (s .index) ≡ true
   pub dimension : dimOk dim ≡ true
   pub file : usedOk (length (s .file)) (s .used) ≡ true
   pub journal : usedOk (length (s .journal)) (s .jused) ≡ true
@@ -46,15 +47,16 @@ pub record Tested (dim : ℕ) (s : Session) : Type 0 where
 
 pub session-ok : {dim : ℕ} {s : Session} → Tested dim s → sessionOk dim s ≡ true
 unfolding sessionOk
-session-ok t = both-and (t .dimension) (both-and (t .file) (both-and (t .journal) (t .ends)))
+session-ok t = both-and (t .index) (both-and (t .dimension) (both-and (t .file) (both-and (t .journal) (t .ends))))
 
 pub tested : (dim : ℕ) (s : Session) → sessionOk dim s ≡ true → Tested dim s
 unfolding sessionOk
 tested dim s e =
-    let p = and-eq-true-iff (dimOk dim) _ .0 e in
+    let i = and-eq-true-iff (indexOk (s .index)) _ .0 e in
+    let p = and-eq-true-iff (dimOk dim) _ .0 (i .1) in
     let q = and-eq-true-iff (usedOk (length (s .file)) (s .used)) _ .0 (p .1) in
     let r = and-eq-true-iff (usedOk (length (s .journal)) (s .jused)) (endsInMarker (wordsOf s)) .0 (q .1) in
-    record { dimension = p .0; file = q .0; journal = r .0; ends = r .1 }
+    record { index = i .0; dimension = p .0; file = q .0; journal = r .0; ends = r .1 }
 
 -- a session that opens has passed them
 pub ready-tested : (dim : ℕ) (s : Session) → sessionFault dim s ≡ fine → Tested dim s

@@ -7,12 +7,13 @@ use mathlib.Core.Bool.{true, false, not, false≢true, and-eq-true-iff}
 use mathlib.Core.List.{List, [], _∷_, _++_}
 use native.Mathlib.Omega.{arith}
 use lib.ListN.{length, length-append}
+use lib.Dec.{leb}
 use borrow.Author.Tests.{le-leb, ne-eqb}
 use Rattle.edits.specs.declared.Edited.the-variants.{Refused}
 use Rattle.edits.specs.Edits.{Edit, apply}
 use Rattle.edits.specs.Allowed.{fine}
 use Rattle.edits.specs.Records.{recordOf, recordWords}
-use Rattle.edits.specs.Calls.{Session, Call, undo-call, sessionFault, openFault, journalOf, wordsOf, Result, refused, undoMade, undone, callOn, step}
+use Rattle.edits.specs.Calls.{Session, sizeOf, indexFits, afresh, roomFor, Call, undo-call, sessionFault, openFault, journalOf, wordsOf, Result, refused, undoMade, undone, callOn, step}
 use Rattle.edits.specs.Book.{Run, ran, struck, noted, noting, wasRefused, undos}
 use Rattle.edits.specs.Demand.{PieceBytes, PiecesBytes, noneRefused}
 use Rattle.edits.proofs.Accepted.{Sound}
@@ -20,7 +21,7 @@ use Rattle.edits.proofs.Journal.{reads, record-long}
 use Rattle.edits.proofs.Buffers.{Holds, holds-stored, holds-front}
 use Rattle.edits.proofs.Replay.{no-edit, one-more, replay-room, struck-more, undos-more, more-not-nil}
 use Rattle.edits.proofs.Hypotheses.{Hypotheses}
-use Rattle.edits.proofs.Steps.{Replayed, Begun, Kept, KeptRun, room, limit, sound-at, accepted-at, after-by, kept-call, kept-ready}
+use Rattle.edits.proofs.Steps.{Replayed, Begun, Kept, KeptRun, room, limit, sound-at, accepted-at, fits-at, same-size, after-by, kept-call, kept-ready}
 
 ---- an undo, by the journal
 
@@ -37,10 +38,10 @@ undone-nothing dim s e = rw e refl
 -- the last record taken off, and its edit turned back
 pub undone-last : (dim : ℕ) (s : Session) (ws js : List ℕ) (e : Edit) → wordsOf s ≡ apply dim ws e
     → journalOf s ≡ js ++ recordWords (recordOf dim ws e) → Sound dim ws e
-    → (s .jused ≡ 0 → ⊥) → 2 * length ws ≤ length (s .file) → undone dim s ≡ undoMade s ws (2 * length js)
+    → (s .jused ≡ 0 → ⊥) → roomFor dim (length (s .file)) (sizeOf (s .index)) ws ≡ true → undone dim s ≡ undoMade dim s ws (2 * length js)
 unfolding undone
 undone-last dim s ws js e w j S some-used l =
-    rw (ne-eqb (s .jused) 0 some-used, w, j, reads js (recordOf dim ws e) (S .small), S .back, S .same, le-leb (2 * length ws) (length (s .file)) l) refl
+    rw (ne-eqb (s .jused) 0 some-used, w, j, reads js (recordOf dim ws e) (S .small), S .back, S .same, l) refl
 
 -- undos carry no piece
 pub undos-bytes : (es : List Edit) → PiecesBytes (undos es)
@@ -61,30 +62,34 @@ module _ (dim : ℕ) (hyp : Hypotheses dim) (s₀ : Session) (B : Begun dim s₀
         Kept dim s₀ (r .after) es₀ → UndoStep s es
 
   undo-by : (s : Session) (es : List Edit) (ws js : List ℕ) → step dim s undo-call ≡ undone dim s → Replayed dim s₀ es ws js
-      → Holds (length (s₀ .file)) (s .file) (s .used) ws → Holds (length (s₀ .journal)) (s .journal) (s .jused) js → UndoStep s es
+      → Holds (length (s₀ .file)) (s .file) (s .used) ws → Holds (length (s₀ .journal)) (s .journal) (s .jused) js → s .index ≡ afresh dim ws (sizeOf (s₀ .index)) → UndoStep s es
   unfolding undoMade
-  undo-by s es ws js u no-edit F J = nothing refl (u ∙ undone-nothing dim s (J .used))
-  undo-by s es ws js u (one-more es₀ ws₀ js₀ e r f c l) F J =
+  undo-by s es ws js u no-edit F J I = nothing refl (u ∙ undone-nothing dim s (J .used))
+  undo-by s es ws js u (one-more es₀ ws₀ js₀ e r f c l i) F J I =
       let rec = recordWords (recordOf dim ws₀ e) in
       let S = sound-at dim hyp s₀ B es₀ ws₀ js₀ e r f c in
       let A = accepted-at dim hyp s₀ B es₀ ws₀ js₀ r in
-      let fits = replay-room dim (wordsOf s₀) (length (s₀ .file)) (hyp .sound) (B .tree) (room dim hyp s₀ B) (limit dim hyp s₀ B) es₀ ws₀ js₀ r in
+      let fits = replay-room dim (wordsOf s₀) (length (s₀ .file)) (sizeOf (s₀ .index)) (hyp .sound) (B .tree) (room dim hyp s₀ B) (B .index-fits) (limit dim hyp s₀ B) es₀ ws₀ js₀ r in
       let whole = F .whole in
+      let size = same-size dim hyp s₀ B s es ws js (one-more es₀ ws₀ js₀ e r f c l i) I in
+      let file-room : leb (2 * length ws₀) (length (s .file)) ≡ true = le-leb (2 * length ws₀) (length (s .file)) (omega arith) in
+      let index-room : indexFits dim ws₀ (sizeOf (s .index)) ≡ true = rw size (fits-at dim hyp s₀ B es₀ ws₀ js₀ r) in
       let long = J .used in
       let more = length-append js₀ (recordWords (recordOf dim ws₀ e)) in
       let six = record-long (recordOf dim ws₀ e) in
-      taken es₀ e (undoMade s ws₀ (2 * length js₀)) refl
-      (u ∙ undone-last dim s ws₀ js₀ e (F .words) (J .words) S (λ z. omega arith) (omega arith)) refl
+      taken es₀ e (undoMade dim s ws₀ (2 * length js₀)) refl
+      (u ∙ undone-last dim s ws₀ js₀ e (F .words) (J .words) S (λ z. omega arith) (and-eq-true-iff _ _ .1 (index-room, file-room))) refl
       (record {
         ws = ws₀;
         js = js₀;
         replay = r;
         file = holds-stored F ws₀ (A .below) fits;
         journal = holds-front (length (s₀ .journal)) (s .journal) (s .jused) js₀ rec J;
+        index = ap (afresh dim ws₀) size;
       })
 
   pub undo-step : (s : Session) (es : List Edit) → Kept dim s₀ s es → UndoStep s es
-  undo-step s es K = undo-by s es (K .ws) (K .js) (step-undo dim s (kept-ready dim hyp s₀ B s es K)) (K .replay) (K .file) (K .journal)
+  undo-step s es K = undo-by s es (K .ws) (K .js) (step-undo dim s (kept-ready dim hyp s₀ B s es K)) (K .replay) (K .file) (K .journal) (K .index)
 
   ---- every call, and every list of calls
 

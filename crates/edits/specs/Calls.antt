@@ -1,4 +1,4 @@
--- The calls of a session on its two lent buffers, with their refusals in order (RULES.md, "Order of checks") and what every byte and
+-- The calls of a session on its lent buffers, with their refusals in order (RULES.md, "Order of checks") and what every byte and
 -- length then is.
 use Prim.Native.Nat.{ℕ, _+_, _-_, _*_, max}
 use mathlib.Core.List.{List, [], _∷_, _++_}
@@ -15,18 +15,46 @@ use Rattle.files.specs.Judge.{topOf}
 use Rattle.files.specs.Spots.{spotsOf}
 use Rattle.files.specs.declared.Verdict.{Verdict}
 use Rattle.files.specs.declared.Verdict.the-variants.{Good, Fault}
+use Rattle.entries.specs.Entries.{shown, entriesOk}
+use Rattle.cells.specs.Index.{indexOf, indexBytes}
 use Rattle.edits.specs.declared.Edited.{Edited}
 use Rattle.edits.specs.declared.Edited.the-variants.{Made, Refused}
 use Rattle.edits.specs.Edits.{Edit, mark, rename, insert, remove, apply}
 use Rattle.edits.specs.Allowed.{Fault?, fine, fault, orElse, unless, editFault, renameFault}
 use Rattle.edits.specs.Records.{Rec, Newest, recordOf, recordWords, lastRecord, reversal, reversible}
 
--- a session: the file's buffer and used length, the journal's buffer and used length, in bytes
+-- an index that is lent: its buffer, and its used length in bytes
+pub record Index : Type 0 where
+  pub buffer : List ℕ
+  pub iused : ℕ
+
+-- a session: the file's buffer and used length, the journal's buffer and used length, in bytes, and an index, or none
 pub record Session : Type 0 where
   pub file : List ℕ
   pub used : ℕ
   pub journal : List ℕ
   pub jused : ℕ
+  pub index : Option Index
+
+-- the length of an index's buffer
+abbrev pub sizeOf : Option Index → Option ℕ
+sizeOf none = none
+sizeOf (some i) = some (length (i .buffer))
+
+-- 1 unless the used length of an index is whole entries and within its buffer, which may have any length
+abbrev pub indexOk : Option Index → Bool
+indexOk none = true
+indexOk (some i) = entriesOk (length (i .buffer)) (i .iused)
+
+-- whether the index of a file's words fits a buffer of that length
+abbrev pub indexFits : ℕ → List ℕ → Option ℕ → Bool
+indexFits dim ws none = true
+indexFits dim ws (some n) = leb (indexBytes dim ws) n
+
+-- the index of a file's words built afresh in a buffer of that length, zeros past it
+abbrev pub afresh : ℕ → List ℕ → Option ℕ → Option Index
+afresh dim ws none = none
+afresh dim ws (some n) = some (record { buffer = shown n (indexOf dim ws); iused = indexBytes dim ws })
 
 -- the calls with their arguments; texts and pieces are bytes
 pub data Call : Type 0 where
@@ -51,11 +79,12 @@ journalOf s = usedWords (s .journal) (s .jused)
 abbrev pub endsInMarker : List ℕ → Bool
 endsInMarker ws = leb 1 (length ws) && eqb (wordAt ws (length ws - 1)) 65535
 
--- 1 unless the dimension, the buffers, the used lengths and the last used word are right
+-- 1 unless the dimension, the buffers, the used lengths, an index's too, and the last used word are right
 unfoldable pub sessionOk : ℕ → Session → Bool
 sessionOk dim s =
-    dimOk dim
-    && (usedOk (length (s .file)) (s .used) && (usedOk (length (s .journal)) (s .jused) && endsInMarker (wordsOf s)))
+    indexOk (s .index)
+    && (dimOk dim
+    && (usedOk (length (s .file)) (s .used) && (usedOk (length (s .journal)) (s .jused) && endsInMarker (wordsOf s))))
 
 -- 1 unless the piece of an insert may be lent
 abbrev pub pieceOk : Call → Bool
@@ -96,17 +125,32 @@ pub record Result : Type 0 where
 abbrev pub refused : Session → ℕ → ℕ → Result
 refused s n p = record { answer = Refused n p; after = s }
 
--- an edit made: ws are the used words after it, the record's words r stand behind the journal
-unfoldable pub editMade : Session → List ℕ → List ℕ → Result
-editMade s ws r = record {
-  answer = Made (2 * length ws) (s .jused + 2 * length r);
-  after = record { file = stored (s .file) (s .used) ws; used = 2 * length ws; journal = pushed (s .journal) (s .jused) r; jused = s .jused + 2 * length r };
+-- the session with the words ws used, this journal, and a lent index of these words built afresh
+abbrev pub sessionMade : ℕ → Session → List ℕ → List ℕ → ℕ → Session
+sessionMade dim s ws journal jused = record {
+  file = stored (s .file) (s .used) ws;
+  used = 2 * length ws;
+  journal = journal;
+  jused = jused;
+  index = afresh dim ws (sizeOf (s .index));
 }
 
--- 15 and 16, before anything changes
-unfoldable pub editWithin : Session → List ℕ → List ℕ → Fault?
-editWithin s ws r =
-    orElse (unless (leb (2 * length ws) (length (s .file))) 15) (unless (leb (s .jused + 2 * length r) (length (s .journal))) 16)
+-- an edit made: ws are the used words after it, the record's words r stand behind the journal
+unfoldable pub editMade : ℕ → Session → List ℕ → List ℕ → Result
+editMade dim s ws r = record {
+  answer = Made (2 * length ws) (s .jused + 2 * length r);
+  after = sessionMade dim s ws (pushed (s .journal) (s .jused) r) (s .jused + 2 * length r);
+}
+
+-- the words fit a file's buffer of so many bytes, and their index an index's, if there is one
+abbrev pub roomFor : ℕ → ℕ → Option ℕ → List ℕ → Bool
+roomFor dim size beside ws = indexFits dim ws beside && leb (2 * length ws) size
+
+-- 15, of the file and of the index, and 16, before anything changes
+unfoldable pub editWithin : ℕ → Session → List ℕ → List ℕ → Fault?
+editWithin dim s ws r =
+    orElse (unless (roomFor dim (length (s .file)) (sizeOf (s .index)) ws) 15)
+    (unless (leb (s .jused + 2 * length r) (length (s .journal))) 16)
 
 abbrev pub resultBy : Fault? → Session → Result → Result
 resultBy fine s r = r
@@ -122,29 +166,27 @@ recordBy dim s e = recordWords (recordOf dim (wordsOf s) e)
 -- an edit on the used words: its own refusals, 15, 16, or it is made
 unfoldable pub edited : ℕ → Session → Edit → Fault? → Result
 edited dim s e own =
-    resultBy (orElse own (editWithin s (wordsBy dim s e) (recordBy dim s e))) s (editMade s (wordsBy dim s e) (recordBy dim s e))
+    resultBy (orElse own (editWithin dim s (wordsBy dim s e) (recordBy dim s e))) s (editMade dim s (wordsBy dim s e) (recordBy dim s e))
 
 -- an undo made: the words ws used, the journal's bytes as they were and its used length back before the record
-unfoldable pub undoMade : Session → List ℕ → ℕ → Result
-undoMade s ws jused = record {
-  answer = Made (2 * length ws) jused;
-  after = record { file = stored (s .file) (s .used) ws; used = 2 * length ws; journal = s .journal; jused = jused };
-}
+unfoldable pub undoMade : ℕ → Session → List ℕ → ℕ → Result
+undoMade dim s ws jused = record { answer = Made (2 * length ws) jused; after = sessionMade dim s ws (s .journal) jused }
 
 -- the words after a record's reversal
 abbrev pub wordsBack : ℕ → List ℕ → Rec → List ℕ
 wordsBack dim ws rec = apply dim ws (reversal ws rec)
 
--- 19 and 15 of a record's reversal on the words ws, in a file's buffer of so many bytes
-abbrev pub reversalFault : ℕ → List ℕ → ℕ → Rec → Fault?
-reversalFault dim ws size rec =
-    orElse (unless (reversible dim ws rec) 19) (unless (leb (2 * length (wordsBack dim ws rec)) size) 15)
+-- 19 and 15 of a record's reversal on the words ws, in buffers of so many bytes
+abbrev pub reversalFault : ℕ → List ℕ → ℕ → Option ℕ → Rec → Fault?
+reversalFault dim ws size beside rec =
+    orElse (unless (reversible dim ws rec) 19) (unless (roomFor dim size beside (wordsBack dim ws rec)) 15)
 
 -- an undo by the last record: 19 where it is ill-formed or may not be reversed, 15, or it is made
 abbrev pub undoBy : ℕ → Session → List ℕ → Newest → Result
 undoBy dim s ws none = refused s 19 0
 undoBy dim s ws (some l) =
-    resultBy (reversalFault dim ws (length (s .file)) (l .0)) s (undoMade s (wordsBack dim ws (l .0)) (2 * length (l .1)))
+    resultBy (reversalFault dim ws (length (s .file)) (sizeOf (s .index)) (l .0)) s
+    (undoMade dim s (wordsBack dim ws (l .0)) (2 * length (l .1)))
 
 -- an undo: 17 where the journal is empty, then these
 unfoldable pub undone : ℕ → Session → Result

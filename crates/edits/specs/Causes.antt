@@ -13,7 +13,7 @@ use Rattle.edits.specs.declared.Edited.the-variants.{Refused}
 use Rattle.edits.specs.Edits.{Edit, insert, downTo}
 use Rattle.edits.specs.Allowed.{fine, fault, gapOk, pieceFault, editFault}
 use Rattle.edits.specs.Records.{Rec, lastRecord, reversible}
-use Rattle.edits.specs.Calls.{Session, Call, undo-call, wordsOf, journalOf, sessionFault, openFault, wordsBy, recordBy, wordsBack, step}
+use Rattle.edits.specs.Calls.{Session, sizeOf, indexFits, Call, undo-call, wordsOf, journalOf, sessionFault, openFault, wordsBy, recordBy, wordsBack, step}
 use Rattle.edits.specs.Made.{editOf}
 
 -- an edit e that the call c asks for, refused with n at p
@@ -25,9 +25,12 @@ pub data EditCause (dim : ℕ) (s : Session) (c : Call) (e : Edit) (n p : ℕ) :
   -- 15: the words after it do not fit
   file-room : openFault dim s c ≡ fine → editFault dim (wordsOf s) e ≡ fine → length (s .file) < 2 * length (wordsBy dim s e) →
       n ≡ 15 → p ≡ 0 → EditCause dim s c e n p
-  -- 16: they fit, and its record does not
+  -- 15: the index after it does not fit
+  index-room : openFault dim s c ≡ fine → editFault dim (wordsOf s) e ≡ fine → indexFits dim (wordsBy dim s e) (sizeOf (s .index)) ≡ false →
+      n ≡ 15 → p ≡ 0 → EditCause dim s c e n p
+  -- 16: both fit, and its record does not
   journal-room : openFault dim s c ≡ fine → editFault dim (wordsOf s) e ≡ fine → 2 * length (wordsBy dim s e) ≤ length (s .file) →
-      length (s .journal) < s .jused + 2 * length (recordBy dim s e) → n ≡ 16 → p ≡ 0 → EditCause dim s c e n p
+      indexFits dim (wordsBy dim s e) (sizeOf (s .index)) ≡ true → length (s .journal) < s .jused + 2 * length (recordBy dim s e) → n ≡ 16 → p ≡ 0 → EditCause dim s c e n p
 
 abbrev pub EditRefused : Type 0
 EditRefused =
@@ -60,6 +63,9 @@ pub data UndoCause (dim : ℕ) (s : Session) (n p : ℕ) : Type 0 where
       reversible dim (wordsOf s) r ≡ false → n ≡ 19 → p ≡ 0 → UndoCause dim s n p
   room : sessionFault dim s ≡ fine → s .jused ≢ 0 → (r : Rec) (js : List ℕ) → lastRecord (journalOf s) ≡ some (r, js) →
       reversible dim (wordsOf s) r ≡ true → length (s .file) < 2 * length (wordsBack dim (wordsOf s) r) →
+      n ≡ 15 → p ≡ 0 → UndoCause dim s n p
+  index-room : sessionFault dim s ≡ fine → s .jused ≢ 0 → (r : Rec) (js : List ℕ) → lastRecord (journalOf s) ≡ some (r, js) →
+      reversible dim (wordsOf s) r ≡ true → indexFits dim (wordsBack dim (wordsOf s) r) (sizeOf (s .index)) ≡ false →
       n ≡ 15 → p ≡ 0 → UndoCause dim s n p
 
 abbrev pub UndoRefused : Type 0

@@ -10,7 +10,7 @@ use Rattle.files.specs.Judge.{judgeOf}
 use Rattle.files.specs.declared.Judged.the-variants.{Accepted}
 use Rattle.edits.specs.declared.Edited.the-variants.{Refused}
 use Rattle.edits.specs.Allowed.{fine}
-use Rattle.edits.specs.Calls.{Session, Call, mark-call, rename-call, insert-call, remove-call, undo-call, wordsOf, sessionFault, step}
+use Rattle.edits.specs.Calls.{Session, sizeOf, indexFits, afresh, Call, mark-call, rename-call, insert-call, remove-call, undo-call, wordsOf, sessionFault, step}
 use Rattle.edits.specs.Book.{Run, ran, noting, wasRefused, applied, undos}
 
 -- what a run starts with
@@ -23,6 +23,9 @@ pub record OpenedEmpty (dim : ℕ) (s : Session) : Type 0 where
   pub journal-empty : s .jused ≡ 0
   -- no refusal by 1 (dimension, buffers, used lengths, last used word), by the file's own, or by an earlier marker
   pub ready : sessionFault dim s ≡ fine
+  -- a lent index is the one built afresh of the file, zeros past it, and fits its buffer; where none is lent both say nothing
+  pub index-built : s .index ≡ afresh dim (wordsOf s) (sizeOf (s .index))
+  pub index-fits : indexFits dim (wordsOf s) (sizeOf (s .index)) ≡ true
 
 -- the pieces of a list of calls are bytes
 abbrev pub PieceBytes : Call → Type 0
@@ -66,6 +69,8 @@ pub record Demand3 (dim : ℕ) (s : Session) (r : Run) : Type 0 where
   pub file-length : length (r .session .file) ≡ length (s .file)
   -- the journal's buffer keeps its length
   pub journal-length : length (r .session .journal) ≡ length (s .journal)
+  -- a lent index is the one built afresh of the file in the same buffer, zeros past it; where none was lent there is none
+  pub index : r .session .index ≡ afresh dim (wordsOf (r .session)) (sizeOf (s .index))
   -- the listed edits, applied to the original's used words first to last, give the file's used words
   pub equals : wordsOf (r .session) ≡ applied dim (wordsOf s) (r .book)
   -- and its used bytes are those of these words

@@ -19,7 +19,7 @@ use Rattle.edits.specs.declared.Edited.the-variants.{Made}
 use Rattle.edits.specs.Bits.{flagSize}
 use Rattle.edits.specs.Edits.{Edit, mark, rename, insert, remove, extentIn, extentPlaces}
 use Rattle.edits.specs.Allowed.{fine, startsAt, flagDiffers, editFault}
-use Rattle.edits.specs.Calls.{Session, Call, mark-call, rename-call, insert-call, remove-call, undo-call, wordsOf, sessionFault, openFault, wordsBy, recordBy, step}
+use Rattle.edits.specs.Calls.{Session, sizeOf, indexFits, Call, mark-call, rename-call, insert-call, remove-call, undo-call, wordsOf, sessionFault, openFault, wordsBy, recordBy, step}
 use Rattle.edits.specs.Book.{wasRefused}
 
 -- the rename that a text asks for, none where the text is no name
@@ -43,6 +43,8 @@ pub record Allowed (dim : ℕ) (s : Session) (c : Call) (e : Edit) : Type 0 wher
   pub own : editFault dim (wordsOf s) e ≡ fine
   -- not 15: the words after it fit the file's buffer
   pub file-room : 2 * length (wordsBy dim s e) ≤ length (s .file)
+  -- nor by a lent index: the one after it fits
+  pub index-room : indexFits dim (wordsBy dim s e) (sizeOf (s .index)) ≡ true
   -- not 16: its record fits behind the used journal
   pub journal-room : s .jused + 2 * length (recordBy dim s e) ≤ length (s .journal)
 
@@ -56,7 +58,7 @@ EditsMade =
     (dim : ℕ) (s : Session) (c : Call) (e : Edit) → editOf c ≡ some e → Allowed dim s c e →
     step dim s c .answer ≡ Made (2 * length (wordsBy dim s e)) (s .jused + 2 * length (recordBy dim s e))
 
----- the same in plain facts, of a session that opens
+---- the same in plain facts, of a session that opens; where an index is lent, the one after the edit fits it
 
 -- the bytes of a mark's record: 12, and two for each sixteen elements of the extent, a part of sixteen too
 abbrev pub markBytes : ℕ → List ℕ → ℕ → ℕ
@@ -66,13 +68,14 @@ markBytes dim ws p = 2 * flagSize (length (extentPlaces (spotsOf dim ws) p)) + 1
 abbrev pub MarkMade : Type 0
 MarkMade =
     (dim : ℕ) (s : Session) (p : ℕ) (deleted : Bool) → sessionFault dim s ≡ fine → startsAt (spotsOf dim (wordsOf s)) p ≡ true →
-    flagDiffers deleted (wordAt (wordsOf s) p) ≡ true → s .jused + markBytes dim (wordsOf s) p ≤ length (s .journal) →
+    indexFits dim (wordsBy dim s (mark p deleted)) (sizeOf (s .index)) ≡ true → flagDiffers deleted (wordAt (wordsOf s) p) ≡ true → s .jused + markBytes dim (wordsOf s) p ≤ length (s .journal) →
     step dim s (mark-call p deleted) .answer ≡ Made (s .used) (s .jused + markBytes dim (wordsOf s) p)
 
 -- a cell starts at the place, the text is a name, and 16 bytes of the journal are free
 abbrev pub RenameMade : Type 0
 RenameMade =
     (dim : ℕ) (s : Session) (p : ℕ) (text : List ℕ) (a b : ℕ) → sessionFault dim s ≡ fine → startsAt (spotsOf dim (wordsOf s)) p ≡ true →
+    indexFits dim (wordsBy dim s (rename p a b)) (sizeOf (s .index)) ≡ true →
     isCell (typeAt (wordsOf s) p) ≡ true → packed text ≡ name.Words a b → s .jused + 16 ≤ length (s .journal) →
     step dim s (rename-call p text) .answer ≡ Made (s .used) (s .jused + 16)
 
@@ -80,6 +83,7 @@ RenameMade =
 abbrev pub InsertMade : Type 0
 InsertMade =
     (dim : ℕ) (s : Session) (h : Option ℕ) (p : ℕ) (piece : List ℕ) → sessionFault dim s ≡ fine → sizeOk (length piece) ≡ true →
+    indexFits dim (wordsBy dim s (insert h p (words piece))) (sizeOf (s .index)) ≡ true →
     editFault dim (wordsOf s) (insert h p (words piece)) ≡ fine → s .used + length piece ≤ length (s .file) → s .jused + 12 ≤ length (s .journal) →
     step dim s (insert-call h p piece) .answer ≡ Made (s .used + length piece) (s .jused + 12)
 
@@ -87,4 +91,5 @@ InsertMade =
 abbrev pub RemoveMade : Type 0
 RemoveMade =
     (dim : ℕ) (s : Session) (p : ℕ) → sessionFault dim s ≡ fine → startsAt (spotsOf dim (wordsOf s)) p ≡ true →
+    indexFits dim (wordsBy dim s (remove p)) (sizeOf (s .index)) ≡ true →
     s .jused + (2 * extentIn (spotsOf dim (wordsOf s)) p + 12) ≤ length (s .journal) → wasRefused (step dim s (remove-call p) .answer) ≡ false

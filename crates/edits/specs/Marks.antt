@@ -11,7 +11,7 @@ use Rattle.files.specs.declared.Judged.the-variants.{Accepted}
 use Rattle.edits.specs.Edits.{mark, extentIn, extentPlaces, flagged, withFlags, apply}
 use Rattle.edits.specs.Allowed.{startsAt}
 use Rattle.edits.specs.Records.{recordOf, reversal, reversible}
-use Rattle.edits.specs.Calls.{Session, mark-call, undo-call, wordsOf, step}
+use Rattle.edits.specs.Calls.{Session, sizeOf, afresh, mark-call, undo-call, wordsOf, step}
 use Rattle.edits.specs.Book.{wasRefused}
 use Rattle.edits.specs.Demand.{usedBytes}
 
@@ -53,6 +53,8 @@ pub record GivesBack (dim : ℕ) (s t : Session) : Type 0 where
   pub file : step dim t undo-call .after .file ≡ s .file
   pub used : step dim t undo-call .after .used ≡ s .used
   pub jused : step dim t undo-call .after .jused ≡ s .jused
+  -- a lent index is then that of the file of s
+  pub index : step dim t undo-call .after .index ≡ afresh dim (wordsOf s) (sizeOf (s .index))
 
 -- a mark and its undo give the same bytes, whatever mixture of flags the extent had
 abbrev pub MarkUndone : Type 0

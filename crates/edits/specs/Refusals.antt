@@ -18,10 +18,10 @@ use Rattle.edits.specs.Demand.{usedBytes}
 
 -- the numbers that a call answers at place 0 beside the file's own
 abbrev pub ownNumbers : Call → List ℕ
-ownNumbers (mark-call p deleted) = 1 ∷ 13 ∷ 14 ∷ 16 ∷ []
-ownNumbers (rename-call p text) = 1 ∷ 13 ∷ 18 ∷ 12 ∷ 16 ∷ []
+ownNumbers (mark-call p deleted) = 1 ∷ 13 ∷ 14 ∷ 15 ∷ 16 ∷ []
+ownNumbers (rename-call p text) = 1 ∷ 13 ∷ 18 ∷ 12 ∷ 15 ∷ 16 ∷ []
 ownNumbers (insert-call h p piece) = 1 ∷ 13 ∷ 15 ∷ 16 ∷ []
-ownNumbers (remove-call p) = 1 ∷ 13 ∷ 16 ∷ []
+ownNumbers (remove-call p) = 1 ∷ 13 ∷ 15 ∷ 16 ∷ []
 ownNumbers undo-call = 1 ∷ 17 ∷ 19 ∷ 15 ∷ []
 
 -- of an insert alone: the piece's own, at its place within the piece, and 8 at a header from the top down to the named one

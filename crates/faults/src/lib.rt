@@ -6,8 +6,6 @@
 ghost use mathlib.Core.Path.{_≡_};
 ghost use Rattle.words.specs.Words.{words};
 ghost use Rattle.edits.specs.Allowed.{flagDiffers, pieceRefusal};
-ghost use Rattle.headers.specs.Header.{typeAt};
-ghost use Rattle.kinds.specs.Kinds.{isCell};
 ghost use mathlib.Core.Bool.{_||_};
 ghost use lib.Dec.{eqb};
 ghost use Rattle.places.specs.declared.Above.the-variants.{Under};
@@ -74,23 +72,12 @@ pub fn mark_fault(used: &[u8], found: Spotted, place: usize, deleted: bool) -> u
     13
 }
 
-// Whether the type at a place is 1 or 2.
-fn is_cell(used: &[u8], place: usize) -> bool
-    ensures { λ r. ⌜ r ≡ isCell (typeAt (words (now (used .entry))) place) ⌝ }
-{
-    let t = headers::type_at(used, place);
-    if t == 1 {
-        return true;
-    }
-    t == 2
-}
-
 // The number that renaming a cell answers, 0 for none; the text is a name or it is not.
 pub fn rename_fault(used: &[u8], found: Spotted, place: usize, named: bool) -> usize
     ensures { λ r. ⌜ r ≡ renameNumber (words (now (used .entry))) found place named ⌝ }
 {
     let there = is_at(found);
-    let cell = is_cell(used, place);
+    let cell = cells::is_cell(used, place);
     if !there {
         return 13;
     }

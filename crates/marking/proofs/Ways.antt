@@ -126,7 +126,7 @@ module _ (dim : ℕ) (file : List ℕ) (used : ℕ) (journal : List ℕ) (jused 
       mark-full h =
           let l = mark-long in
           let j = (jused-within o) in
-          edit-step dim s _ _ _ refl (o .ready) refl (edit-journal dim s (mark p deleted) (editFault dim ws (mark p deleted)) mark-fine mark-fits (omega arith))
+          edit-step dim s _ _ _ refl (o .ready) refl (edit-journal dim s (mark p deleted) (editFault dim ws (mark p deleted)) mark-fine refl mark-fits (omega arith))
 
       module _ (room : 2 * size + 12 ≤ length journal - jused) where
         -- the old flags and the six words behind the journal
@@ -148,7 +148,7 @@ module _ (dim : ℕ) (file : List ℕ) (used : ℕ) (journal : List ℕ) (jused 
         mark-done part out journal′ f g j =
             let l = mark-long in
             let w = (jused-within o) in
-            edit-step dim s _ _ _ refl (o .ready) refl (edit-done dim s (mark p deleted) (editFault dim ws (mark p deleted)) mark-fine mark-fits (omega arith)
+            edit-step dim s _ _ _ refl (o .ready) refl (edit-done dim s (mark p deleted) (editFault dim ws (mark p deleted)) mark-fine refl mark-fits (omega arith)
             used (jused + 2 * size + 12) (part ++ drop used file) journal′ (sym (made.mark-length dim file used m below (used-even o) (used-within o) (open-used o) p deleted)) (omega arith)
             (ap (λ x. x ++ drop used file) f
             ∙ made.mark-made dim file used m below (used-even o) (used-within o) (open-used o) p end (there .depth) (there .above) located deleted)
@@ -197,7 +197,7 @@ module _ (dim : ℕ) (file : List ℕ) (used : ℕ) (journal : List ℕ) (jused 
       rename-full h =
           let l = rename-record in
           let j = (jused-within o) in
-          edit-journal dim s (rename p a b) (renameFault (spotsOf dim ws) ws p named) rename-fine rename-fits (omega arith)
+          edit-journal dim s (rename p a b) (renameFault (spotsOf dim ws) ws p named) rename-fine refl rename-fits (omega arith)
 
       pub rename-done : 16 ≤ length journal - jused → a < 65536 → b < 65536 → (part old journal′ : List ℕ) → part ≡ namePut p a b (take used file) → old ≡ cellName ws p →
           journal′ ≡ recordPushed journal jused 2 4294967295 p old → Leaves (cellRenamed dim s p named a b) (Made used (jused + 16)) (part ++ drop used file) journal′
@@ -205,7 +205,7 @@ module _ (dim : ℕ) (file : List ℕ) (used : ℕ) (journal : List ℕ) (jused 
           let l = rename-record in
           let k = old-four in
           let w = (jused-within o) in
-          edit-done dim s (rename p a b) (renameFault (spotsOf dim ws) ws p named) rename-fine rename-fits (omega arith)
+          edit-done dim s (rename p a b) (renameFault (spotsOf dim ws) ws p named) rename-fine refl rename-fits (omega arith)
           used (jused + 16) (part ++ drop used file) journal′ (sym rename-long′) (omega arith)
           (ap (λ x. x ++ drop used file) f ∙ made.rename-made dim file used m below (used-even o) (used-within o) (open-used o) p a b x y)
           (j ∙ ap (recordPushed journal jused 2 4294967295 p) q ∙ record-pushed (recordOf dim ws (rename p a b)) 2 4294967295 p (cellName ws p) old-even old-laid journal jused (jused-even o) (omega arith))

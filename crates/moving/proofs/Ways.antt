@@ -102,7 +102,7 @@ module _ (dim : ℕ) (file : List ℕ) (used : ℕ) (journal : List ℕ) (jused 
         insert-full l =
             let n = insert-record in
             let w = (jused-within o) in
-            edit-step dim s _ _ _ lent (o .ready) refl (edit-journal dim s put (editFault dim ws put) insert-fine insert-fits (omega arith))
+            edit-step dim s _ _ _ lent (o .ready) refl (edit-journal dim s put (editFault dim ws put) insert-fine refl insert-fits (omega arith))
 
         pub insert-done : 12 ≤ length journal - jused → (header : ℕ) (file′ journal′ : List ℕ) → file′ ≡ pieceIn file used h p piece →
             header ≡ numberOf h → journal′ ≡ recordPushed journal jused 3 header p [] → Stepped dim s call (Made (used + length piece) (jused + 12)) file′ journal′
@@ -111,7 +111,7 @@ module _ (dim : ℕ) (file : List ℕ) (used : ℕ) (journal : List ℕ) (jused 
             let n = insert-record in
             let w = (jused-within o) in
             let u = (used-within o) in
-            edit-step dim s _ _ _ lent (o .ready) refl (edit-done dim s put (editFault dim ws put) insert-fine insert-fits (omega arith)
+            edit-step dim s _ _ _ lent (o .ready) refl (edit-done dim s put (editFault dim ws put) insert-fine refl insert-fits (omega arith)
             (used + length piece) (jused + 12) file′ journal′ (sym insert-long) (omega arith)
             (f ∙ made.insert-made dim file used m below (used-even o) (used-within o) (open-used o) h p piece piece-even insert-fine (omega arith))
             (j ∙ ap (λ n. recordPushed journal jused 3 n p []) q ∙ record-pushed (recordOf dim ws put) 3 (numberOf h) p [] refl insert-laid journal jused (jused-even o) (omega arith)))
@@ -177,7 +177,7 @@ module _ (dim : ℕ) (file : List ℕ) (used : ℕ) (journal : List ℕ) (jused 
     remove-full l =
         let n = remove-record in
         let w = (jused-within o) in
-        edit-step dim s _ _ _ refl (o .ready) refl (edit-journal dim s (remove p) (editFault dim ws (remove p)) remove-fine remove-fits (omega arith))
+        edit-step dim s _ _ _ refl (o .ready) refl (edit-journal dim s (remove p) (editFault dim ws (remove p)) remove-fine refl remove-fits (omega arith))
 
     pub remove-done : 2 * (end - p) + 12 ≤ length journal - jused → (header : ℕ) (file′ journal′ : List ℕ) → file′ ≡ extentOut file used above p (end - p) →
         header ≡ numberOf above → journal′ ≡ recordPushed journal jused 4 header p payload →
@@ -186,7 +186,7 @@ module _ (dim : ℕ) (file : List ℕ) (used : ℕ) (journal : List ℕ) (jused 
         let n = remove-record in
         let k = payload-long in
         let w = (jused-within o) in
-        edit-step dim s _ _ _ refl (o .ready) refl (edit-done dim s (remove p) (editFault dim ws (remove p)) remove-fine remove-fits (omega arith)
+        edit-step dim s _ _ _ refl (o .ready) refl (edit-done dim s (remove p) (editFault dim ws (remove p)) remove-fine refl remove-fits (omega arith)
         (used - 2 * (end - p)) (jused + 2 * (end - p) + 12) file′ journal′ (sym remove-long) (omega arith)
         (f ∙ made.remove-made dim file used m below (used-even o) (used-within o) (open-used o) p end depth above located)
         (j ∙ ap (λ n. recordPushed journal jused 4 n p payload) q ∙ record-pushed (recordOf dim ws (remove p)) 4 (numberOf above) p payload payload-even remove-laid journal jused (jused-even o) (omega arith)))

@@ -3,3 +3,4 @@ pub mod Accepted
 pub mod Steps
 pub mod OpenSession
 pub mod Pushed
+pub mod Beside

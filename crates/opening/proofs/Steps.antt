@@ -8,7 +8,7 @@ use Rattle.edits.specs.declared.Edited.{Edited}
 use Rattle.edits.specs.declared.Edited.the-variants.{Made, Refused}
 use Rattle.edits.specs.Edits.{Edit}
 use Rattle.edits.specs.Allowed.{Fault?, fine, fault}
-use Rattle.edits.specs.Calls.{Session, Call, pieceOk, wordsOf, sessionFault, openFault, stored, pushed, Result, refused, editMade, edited, callOn, step, wordsBy, recordBy}
+use Rattle.edits.specs.Calls.{Session, sizeOf, indexFits, Call, pieceOk, wordsOf, sessionFault, openFault, stored, pushed, Result, refused, editMade, edited, callOn, step, wordsBy, recordBy}
 use Rattle.edits.proofs.Allowed as edits
 use Rattle.opening.specs.Steps.{Leaves, Stepped}
 
@@ -64,9 +64,10 @@ module _ (dim : ℕ) (s : Session) (e : Edit) (own : Fault?) where
     pub edit-room : length (s .file) < 2 * length (wordsBy dim s e) → Leaves (edited dim s e own) (Refused 15 0) (s .file) (s .journal)
     edit-room h = left (refused s 15 0) (edits.edit-room dim s e own fine′ h)
 
-    module _ (fits : 2 * length (wordsBy dim s e) ≤ length (s .file)) where
+    -- none of these is reached where a lent index does not fit
+    module _ (beside : indexFits dim (wordsBy dim s e) (sizeOf (s .index)) ≡ true) (fits : 2 * length (wordsBy dim s e) ≤ length (s .file)) where
       pub edit-journal : length (s .journal) < s .jused + 2 * length (recordBy dim s e) → Leaves (edited dim s e own) (Refused 16 0) (s .file) (s .journal)
-      edit-journal h = left (refused s 16 0) (edits.edit-full dim s e own fine′ fits h)
+      edit-journal h = left (refused s 16 0) (edits.edit-full dim s e own fine′ fits beside h)
 
       -- made: the buffers and the lengths are those stored and pushed
       pub edit-done : s .jused + 2 * length (recordBy dim s e) ≤ length (s .journal) → (used jused : ℕ) (file journal : List ℕ) →
@@ -74,4 +75,4 @@ module _ (dim : ℕ) (s : Session) (e : Edit) (own : Fault?) where
           file ≡ stored (s .file) (s .used) (wordsBy dim s e) → journal ≡ pushed (s .journal) (s .jused) (recordBy dim s e) →
           Leaves (edited dim s e own) (Made used jused) file journal
       unfolding editMade
-      edit-done h used jused file journal u j f g = rw (u, j, f, g) (left (editMade s (wordsBy dim s e) (recordBy dim s e)) (edits.edit-made dim s e own fine′ fits h))
+      edit-done h used jused file journal u j f g = rw (u, j, f, g) (left (editMade dim s (wordsBy dim s e) (recordBy dim s e)) (edits.edit-made dim s e own fine′ fits beside h))

@@ -6,7 +6,7 @@ use mathlib.Core.List.{List}
 use mathlib.Core.Option.{Option, none, some}
 use lib.ListN.{length}
 use Rattle.edits.specs.Allowed.{Fault?, fine, fault}
-use Rattle.edits.specs.Calls.{Session, usedWords, sessionFault}
+use Rattle.edits.specs.Calls.{Index, Session, usedWords, sessionFault}
 use Rattle.places.specs.declared.Above.{Above}
 use Rattle.places.specs.declared.Above.the-variants.{Top, Under}
 use Rattle.places.specs.Descent.{locateOf}
@@ -18,9 +18,13 @@ abbrev pub openedBy : Fault? → List ℕ → ℕ → Opened
 openedBy fine ws at = Ready (length ws - 1) (locateOf ws at (length ws - 1))
 openedBy (fault n p) ws at = Refused n p
 
--- a session: the file's buffer and used length, the journal's buffer and used length
+-- a session: the file's buffer and used length, the journal's buffer and used length, and an index or none
+abbrev pub sessionWith : List ℕ → ℕ → List ℕ → ℕ → Option Index → Session
+sessionWith file used journal jused index = record { file = file; used = used; journal = journal; jused = jused; index = index }
+
+-- one that is lent no index
 abbrev pub sessionOf : List ℕ → ℕ → List ℕ → ℕ → Session
-sessionOf file used journal jused = record { file = file; used = used; journal = journal; jused = jused }
+sessionOf file used journal jused = sessionWith file used journal jused none
 
 -- the header place that is named, none for the top
 abbrev pub headerOf : Above → Option ℕ

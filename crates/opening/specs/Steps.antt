@@ -5,6 +5,7 @@ use Prim.Native.Nat.{ℕ, _-_}
 use mathlib.Core.Path.{_≡_}
 use mathlib.Core.List.{List}
 use mathlib.Core.Bool.{cond}
+use mathlib.Core.Option.{Option}
 use lib.ListN.{length}
 use lib.Dec.{eqb}
 use Rattle.places.specs.declared.Above.{Above}
@@ -13,7 +14,7 @@ use Rattle.places.specs.declared.Spotted.{Spotted}
 use Rattle.places.specs.Descent.{locateOf}
 use Rattle.edits.specs.declared.Edited.{Edited}
 use Rattle.edits.specs.Allowed.{fine}
-use Rattle.edits.specs.Calls.{Session, Call, usedWords, sessionFault, Result, step}
+use Rattle.edits.specs.Calls.{Index, Session, Call, usedWords, sessionFault, Result, step}
 use Rattle.opening.specs.Opening.{sessionOf}
 
 -- what is answered and left in the two buffers is what a result says
@@ -22,7 +23,15 @@ pub record Leaves (q : Result) (r : Edited) (file journal : List ℕ) : Type 0 w
   pub file-is : file ≡ q .after .file
   pub journal-is : journal ≡ q .after .journal
 
--- of a call: what its step says
+-- and in a lent index
+pub record LeavesAll (q : Result) (r : Edited) (file journal : List ℕ) (index : Option Index) : Type 0 where
+  pub buffers : Leaves q r file journal
+  pub index-is : index ≡ q .after .index
+
+abbrev pub SteppedAll : ℕ → Session → Call → Edited → List ℕ → List ℕ → Option Index → Type 0
+SteppedAll dim s c r file journal index = LeavesAll (step dim s c) r file journal index
+
+-- of a call that is lent no index: what its step says
 abbrev pub Stepped : ℕ → Session → Call → Edited → List ℕ → List ℕ → Type 0
 Stepped dim s c r file journal = Leaves (step dim s c) r file journal
 

@@ -1,6 +1,7 @@
 // Undoing the last edit of a session on its two lent buffers: the record is read, the session is opened (1, the file's own
 // refusals, 1 for an early marker) and so the record's place is found, then 17, 19 and 15, and the file is changed last.
-// Contract: one step of edits' specs/Calls.
+// Contract: one step of edits' specs/Calls. Whether the index of the file after it would not fit is told by the caller, `full`:
+// false where no index is lent.
 ghost use mathlib.Core.Path.{_≡_};
 ghost use Prim.Native.Nat.{_%_, _≤_};
 ghost use lib.ListN.{length, take};
@@ -9,13 +10,26 @@ ghost use Rattle.edits.specs.Records.{flag, renamed, inserted, removed, placeOf
 ghost use Rattle.edits.specs.Calls.{undo-call};
 ghost use Rattle.journals.specs.Journals.{LastRead};
 ghost use Rattle.opening.specs.Opening.{sessionOf};
-ghost use Rattle.opening.specs.Steps.{Stepped, lastPlace, Open};
-ghost use Rattle.undoing.specs.Undoing.{OpenFile, placeIn, Reversed};
+ghost use Rattle.opening.specs.Steps.{Leaves, Stepped, lastPlace, Open};
+ghost use Rattle.undoing.specs.Undoing.{OpenFile, RecordBy, placeIn, backNumber, Reversed, undoTold};
 use edits::Edited;
 use journals::Last;
 use opening::Opened;
 use places::Above;
 use places::Spotted;
+
+// The number that a reversal is refused by, 0 for none: 19 where it is not allowed, then 15 where the index is full.
+fn back_fault(reverses: bool, full: bool) -> usize
+    ensures { λ r. ⌜ r ≡ backNumber reverses full ⌝ }
+{
+    if !reverses {
+        return 19;
+    }
+    if full {
+        return 15;
+    }
+    0
+}
 
 // Writes the old flags back over those of the extent at a place, whatever they are.
 fn undo_flag(
@@ -27,13 +41,16 @@ fn undo_flag(
     found: Spotted,
     old: &[u8],
     before: usize,
+    full: bool,
 ) -> Edited
     requires { ⌜ OpenFile dim (now file) used place found ⌝ }
     requires { ⌜ marker ≡ lastPlace (now file) used ⌝ }
-    ensures { λ r. ⌜ Reversed dim (now (file .entry)) used (flag place (words (now (old .entry)))) before r (now (file .exit)) ⌝ }
+    ensures { λ r. ⌜ Reversed dim (now (file .entry)) used (flag place (words (now (old .entry)))) full before r (now (file .exit)) ⌝ }
 {
-    if !faults::reversible(&file[..used], dim, marker, found, 1, Above::Top, place, old) {
-        return opening::refused(19);
+    let reverses = faults::reversible(&file[..used], dim, marker, found, 1, Above::Top, place, old);
+    let number = back_fault(reverses, full);
+    if number != 0 {
+        return opening::refused(number);
     }
     flags::restore(&mut file[..used], place, faults::end_of(found), old);
     Edited::Made {
@@ -53,13 +70,14 @@ fn undo_renamed(
     first: u16,
     second: u16,
     before: usize,
+    full: bool,
 ) -> Edited
     requires { ⌜ OpenFile dim (now file) used place found ⌝ }
     requires { ⌜ marker ≡ lastPlace (now file) used ⌝ }
-    ensures { λ r. ⌜ Reversed dim (now (file .entry)) used (renamed place first second) before r (now (file .exit)) ⌝ }
+    ensures { λ r. ⌜ Reversed dim (now (file .entry)) used (renamed place first second) full before r (now (file .exit)) ⌝ }
 {
     let payload = changes::name_bytes(first, second);
-    if !faults::reversible(
+    let reverses = faults::reversible(
         &file[..used],
         dim,
         marker,
@@ -68,8 +86,10 @@ fn undo_renamed(
         Above::Top,
         place,
         &payload,
-    ) {
-        return opening::refused(19);
+    );
+    let number = back_fault(reverses, full);
+    if number != 0 {
+        return opening::refused(number);
     }
     changes::rename_cell(&mut file[..used], place, first, second);
     Edited::Made {
@@ -87,9 +107,10 @@ fn undo_inserted(
     place: usize,
     found: Spotted,
     before: usize,
+    full: bool,
 ) -> Edited
     requires { ⌜ OpenFile dim (now file) used place found ⌝ }
-    ensures { λ r. ⌜ Reversed dim (now (file .entry)) used (inserted (placeOf header) place) before r (now (file .exit)) ⌝ }
+    ensures { λ r. ⌜ Reversed dim (now (file .entry)) used (inserted (placeOf header) place) full before r (now (file .exit)) ⌝ }
 {
     match found {
         Spotted::Refused {
@@ -101,8 +122,10 @@ fn undo_inserted(
             depth: _,
             above,
         } => {
-            if !faults::same_above(above, opening::header_at(header)) {
-                return opening::refused(19);
+            let reverses = faults::same_above(above, opening::header_at(header));
+            let number = back_fault(reverses, full);
+            if number != 0 {
+                return opening::refused(number);
             }
             let n = end - place;
             changes::remove_extent(file, used, above, place, n);
@@ -125,15 +148,18 @@ fn undo_removed(
     found: Spotted,
     piece: &[u8],
     before: usize,
+    full: bool,
 ) -> Edited
     requires { ⌜ OpenFile dim (now file) used place found ⌝ }
     requires { ⌜ marker ≡ lastPlace (now file) used ⌝ }
     requires { ⌜ length (now piece) % 2 ≡ 0 ⌝ }
-    ensures { λ r. ⌜ Reversed dim (now (file .entry)) used (removed (placeOf header) place (words (now (piece .entry)))) before r (now (file .exit)) ⌝ }
+    ensures { λ r. ⌜ Reversed dim (now (file .entry)) used (removed (placeOf header) place (words (now (piece .entry)))) full before r (now (file .exit)) ⌝ }
 {
     let above = opening::header_at(header);
-    if !faults::reversible(&file[..used], dim, marker, found, 4, above, place, piece) {
-        return opening::refused(19);
+    let reverses = faults::reversible(&file[..used], dim, marker, found, 4, above, place, piece);
+    let number = back_fault(reverses, full);
+    if number != 0 {
+        return opening::refused(number);
     }
     if file.len() - used < piece.len() {
         return opening::refused(15);
@@ -146,8 +172,8 @@ fn undo_removed(
 }
 
 // The last record of a journal by its used length; a bad one where that is beyond the journal.
-fn record_by(journal: &[u8], jused: usize) -> Last
-    ensures { λ r. ⌜ (jused ≤ length (now (journal .entry)) → LastRead (take jused (now (journal .entry))) r) ⌝ }
+pub fn record_by(journal: &[u8], jused: usize) -> Last
+    ensures { λ r. ⌜ RecordBy (now (journal .entry)) jused r ⌝ }
 {
     if jused <= journal.len() {
         return journals::last_record(&journal[..jused]);
@@ -196,11 +222,12 @@ fn undo_opened(
     marker: usize,
     last: Last,
     found: Spotted,
+    full: bool,
 ) -> Edited
     requires { ⌜ Open dim (now file) used (now journal) jused (placeIn last) found ⌝ }
     requires { ⌜ marker ≡ lastPlace (now file) used ⌝ }
     requires { ⌜ LastRead (take jused (now journal)) last ⌝ }
-    ensures { λ r. ⌜ Stepped dim (sessionOf (now (file .entry)) used (now (journal .entry)) jused) undo-call r (now (file .exit)) (now (journal .entry)) ⌝ }
+    ensures { λ r. ⌜ Leaves (undoTold dim (sessionOf (now (file .entry)) used (now (journal .entry)) jused) full) r (now (file .exit)) (now (journal .entry)) ⌝ }
 {
     if jused == 0 {
         return opening::refused(17);
@@ -220,6 +247,7 @@ fn undo_opened(
             found,
             &journal[before..before + 2 * count],
             before,
+            full,
         ),
         Last::Renamed {
             place,
@@ -236,12 +264,13 @@ fn undo_opened(
             first as u16,
             second as u16,
             before,
+            full,
         ),
         Last::Inserted {
             header,
             place,
             before,
-        } => undo_inserted(file, used, dim, header, place, found, before),
+        } => undo_inserted(file, used, dim, header, place, found, before, full),
         Last::Removed {
             header,
             place,
@@ -257,14 +286,22 @@ fn undo_opened(
             found,
             &journal[before..before + 2 * count],
             before,
+            full,
         ),
     }
 }
 
-// Undoes the last edit: its record is taken off the journal, whose bytes stay, and reversed. The record is read first, so
-// that its place is found while the file is judged.
-pub fn undo(file: &mut [u8], used: usize, journal: &[u8], jused: usize, dim: usize) -> Edited
-    ensures { λ r. ⌜ Stepped dim (sessionOf (now (file .entry)) used (now (journal .entry)) jused) undo-call r (now (file .exit)) (now (journal .entry)) ⌝ }
+// Undoes the last edit, with an index or none: 15 also where the index of the file after it would not fit, which the caller tells.
+// The record is read first, so that its place is found while the file is judged.
+pub fn undo_within(
+    file: &mut [u8],
+    used: usize,
+    journal: &[u8],
+    jused: usize,
+    dim: usize,
+    full: bool,
+) -> Edited
+    ensures { λ r. ⌜ Leaves (undoTold dim (sessionOf (now (file .entry)) used (now (journal .entry)) jused) full) r (now (file .exit)) (now (journal .entry)) ⌝ }
 {
     let last = record_by(journal, jused);
     let place = place_in(last);
@@ -277,7 +314,14 @@ pub fn undo(file: &mut [u8], used: usize, journal: &[u8], jused: usize, dim: usi
             place: fault,
         },
         Opened::Ready { marker, found } => {
-            undo_opened(file, used, journal, jused, dim, marker, last, found)
+            undo_opened(file, used, journal, jused, dim, marker, last, found, full)
         }
     }
+}
+
+// Undoes the last edit: its record is taken off the journal, whose bytes stay, and reversed.
+pub fn undo(file: &mut [u8], used: usize, journal: &[u8], jused: usize, dim: usize) -> Edited
+    ensures { λ r. ⌜ Stepped dim (sessionOf (now (file .entry)) used (now (journal .entry)) jused) undo-call r (now (file .exit)) (now (journal .entry)) ⌝ }
+{
+    undo_within(file, used, journal, jused, dim, false)
 }

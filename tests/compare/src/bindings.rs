@@ -2,8 +2,9 @@
 
 use crate::runs::{text_numbers, Runs};
 use dgn::{
-    Bounds, Dimension, DisplayHeader, Fields, LinkageKind, Point, Session, TextAt, TextFields, Turn, Type, View,
+    Bounds, Dimension, DisplayHeader, Fields, Index, LinkageKind, Point, Session, TextAt, TextFields, Turn, Type, View,
 };
+use reader::generate::indexes::built;
 use reader::generate::places::scan;
 use reader::generate::sessions::fresh_state;
 use reader::generate::text_writes::good_text;
@@ -82,6 +83,33 @@ fn text_numbers_of(text: &dgn::Text) -> [i64; 15] {
     [first[0], first[1], first[2], first[3], a, b, c, d, x, y, z, last[0], last[1], last[2], last[3]]
 }
 
+/// The cells of a file in file order and by its index, and names looked up in that.
+fn cells(file: &[u8], dim: u64) {
+    let d = dimension(dim);
+    let of = |entry: dgn::Entry| reader::Entry {
+        first: entry.name.first,
+        second: entry.name.second,
+        place: entry.place as u32,
+    };
+    let entries = reader::index::entries(file, dim);
+    let index = Index::of(file, d).map_err(plain);
+    assert_eq!(index.clone().map(|index| index.entries().map(of).collect()), entries);
+    let listed = dgn::all_cells(file, d).map_err(plain);
+    let in_order = entries.clone().map(|mut entries| {
+        entries.sort_by_key(|entry| entry.place);
+        entries
+    });
+    assert_eq!(listed.map(|cells| cells.into_iter().map(of).collect()), in_order);
+    let Ok(index) = index else { return };
+    assert_eq!(index.used(), 8 * entries.map_or(0, |entries| entries.len()));
+    for text in [&b"00417"[..], b"417", b"ABC", b"", b"small"] {
+        let ours = index.look_up(text).map(|found| (found.place as u64, found.looks as u64));
+        let ours = ours.map_err(|r| (r.number as u32, r.place as u64, r.count as u64));
+        let theirs = reader::look_up(index.bytes(), index.used() as u64, text).map(|found| (found.place, found.looked));
+        assert_eq!(ours, theirs.map_err(|r| (r.number, r.place, r.count)));
+    }
+}
+
 /// Every reading call on a file.
 pub fn file(runs: &mut Runs, file: &[u8], dim: u64) {
     let d = dimension(dim);
@@ -89,6 +117,7 @@ pub fn file(runs: &mut Runs, file: &[u8], dim: u64) {
     let judged = reader::judge(file, dim);
     let ours = dgn::judge(file, d).map(|j| (j.elements as u64, j.deepest as u64, j.marker as u64));
     assert_eq!(ours.map_err(plain), judged.clone().map(|j| (j.elements, j.deepest, j.marker)));
+    cells(file, dim);
     for text in [&b"00417"[..], b"417", b"", b"small"] {
         let ours = dgn::find(file, d, text).map(|f| (f.place as u64, f.looked_at as u64));
         let ours = ours.map_err(|r| (r.number as u32, r.place as u64, r.count as u64));
@@ -233,12 +262,23 @@ fn session(random: &mut Random, runs: &mut Runs, start: State) {
     let read = file.len();
     let mut ours = Session::open(file, read, journal, dimension(dim)).expect("an accepted file");
     let mut theirs = start;
+    // every other one with an index
+    let mut index = random.one_in(2).then(|| built(random, theirs.used_file(), dim));
+    if let Some(index) = &index {
+        ours.index_with(vec![7; index.buffer.len()]).expect("room for the index");
+    }
     let mut listed: Vec<usize> = Vec::new();
     for _ in 0..20 {
         let call = reader::generate::next_call(random, theirs.used_file(), dim);
         let before = theirs.jused as usize;
         let answer = made(&mut ours, &call);
-        assert_eq!(answer, theirs.run(&call), "{call:?}");
+        let expected = match &mut index {
+            Some(index) => theirs.run_indexed(index, &call),
+            None => theirs.run(&call),
+        };
+        assert_eq!(answer, expected, "{call:?}");
+        let kept = ours.index().map(|index| (index.clone().into_buffer(), index.used() as u64));
+        assert_eq!(kept, index.clone().map(|index| (index.buffer, index.used)));
         assert_eq!((ours.used() as u64, ours.journal_used() as u64), (theirs.used, theirs.jused));
         assert_eq!(ours.file(), theirs.used_file());
         match (&call, answer) {

@@ -8,6 +8,7 @@ use reader::generate::places::scan;
 use reader::generate::text_writes::{long_text, TextWrite};
 use reader::generate::writes::{long_line, Write};
 use reader::generate::{changes, large, valid, Random, Valid};
+use reader::Index;
 
 /// The lengths at which a call could go wrong: none, one byte, odd ones, the longest allowed, one word more.
 const LENGTHS: [usize; 8] = [0, 1, 2, 3, 4097, 1_048_575, 1_048_576, 1_048_578];
@@ -42,12 +43,19 @@ pub fn lengths(random: &mut Random, runs: &mut Runs) {
                     for (k, room) in [(0, 0), (0, 96), (u64::MAX, 0)] {
                         runs.part(&bytes, dim, k, room);
                     }
+                    runs.index(&bytes, dim, length);
                 }
                 for used in [0, 12, length as u64, u64::MAX] {
                     let _ = runs.record(&bytes, used);
                 }
                 runs.find(&[255, 255], 2, &bytes);
                 runs.pack(&bytes);
+                // as an index, and as a text that is looked up
+                let index = Index { used: length as u64 / 8 * 8, buffer: bytes.clone() };
+                for text in [&b"00417"[..], b"", b"999999"] {
+                    let _ = runs.look_up(&index, text);
+                }
+                let _ = runs.look_up(&Index { buffer: vec![0; 8], used: 8 }, &bytes);
                 // as the tail, and as the room, of a written element
                 runs.write(&Write { tail: bytes.clone(), room: length, fill: 7, ..long_line(26) });
                 runs.write(&Write { room: length, fill: 7, ..long_line(26) });
@@ -88,6 +96,7 @@ pub fn cut_at_a_page(random: &mut Random, runs: &mut Runs, times: u64) {
                 }
                 runs.find(cut, dim, b"00417");
                 runs.part(cut, dim, 1, 64);
+                runs.index(cut, dim, 24);
             }
         }
     }
@@ -103,7 +112,7 @@ pub fn small_stack() {
             break v;
         }
     };
-    let files: [Valid; 8] = [
+    let files: [Valid; 9] = [
         large::most_elements(),
         large::longest_file(),
         large::longest_file_of_cells(),
@@ -111,6 +120,7 @@ pub fn small_stack() {
         large::most_linkages(),
         large::most_text(&mut random, 3),
         large::most_texts(&mut random, 2),
+        large::most_cells(417),
         deep,
     ];
     for v in files {
@@ -127,7 +137,9 @@ pub fn small_stack() {
             runs.write(&long_line(65_535));
             runs.write_text(&long_text(65_535, 3));
             runs.unpack(63_999, 63_999);
-            sessions::large_session(&mut runs, &v.file, v.dim);
+            runs.index(&v.file, v.dim, 119_832);
+            sessions::large_session(&mut runs, &v.file, v.dim, false);
+            sessions::large_session(&mut runs, &v.file, v.dim, true);
         };
         std::thread::Builder::new().stack_size(256 * 1024).spawn(run).unwrap().join().expect("256 KiB are enough");
     }

@@ -18,6 +18,9 @@ pub struct Edited {
     bad: [u64; 5],
     /// Headers that would grow too large.
     pub grown: u64,
+    /// Calls with an index that are made, and refused with 15.
+    indexed: [[u64; 5]; 2],
+    full: [[u64; 5]; 2],
 }
 
 fn which(call: &Call) -> usize {
@@ -40,13 +43,23 @@ pub fn judging(number: usize) -> bool {
 }
 
 impl Edited {
-    /// An answer; `good` says whether the used file was accepted, `kind` is that of the journal's last record.
-    pub fn note(&mut self, dim: u64, call: &Call, answer: &Result<(), Refusal>, good: bool, kind: usize) {
+    /// An answer; `good` says whether the used file was accepted, `kind` is that of the journal's last record, `indexed` whether an
+    /// index was lent.
+    pub fn note(
+        &mut self,
+        dim: u64,
+        call: &Call,
+        answer: &Result<(), Refusal>,
+        good: bool,
+        kind: usize,
+        indexed: bool,
+    ) {
         let (d, c) = (usize::from(dim == 3), which(call));
         let kind = if kind < 5 { kind } else { 0 };
         match answer {
             Ok(()) => {
                 self.made[d][c] += 1;
+                self.indexed[d][c] += u64::from(indexed);
                 self.undone[kind] += u64::from(c == 4);
             }
             Err(r) => {
@@ -55,6 +68,8 @@ impl Edited {
                     self.own[d][n] += 1;
                 } else if c == 2 && n != 2 && judging(n) {
                     self.piece[d][n] += 1;
+                } else if indexed && n == 15 {
+                    self.full[d][c] += 1;
                 } else {
                     assert!(NUMBERS[c].contains(&n), "{n} is no answer of {call:?}");
                     self.refused[d][c][n] += 1;
@@ -64,12 +79,13 @@ impl Edited {
         }
     }
 
-    /// Every call was made and refused by each of its numbers, in both dimensions; every kind of record was undone and
+    /// Every call was made and refused by each of its numbers, in both dimensions, with an index also by 15; every kind of record was undone and
     /// refused; every number of a file, of a piece and of a growing header came up.
     pub fn check(&self) {
         for d in 0..2 {
             for (c, numbers) in NUMBERS.iter().enumerate() {
                 assert!(self.made[d][c] > 0, "call {c}, {}D", d + 2);
+                assert!(self.indexed[d][c] > 0 && self.full[d][c] > 0, "call {c} with an index, {}D", d + 2);
                 for &n in *numbers {
                     assert!(self.refused[d][c][n] > 0, "call {c} refused by {n}, {}D", d + 2);
                 }
@@ -96,8 +112,9 @@ impl Edited {
                 })
                 .sum()
         };
-        let made: u64 = self.made.iter().flatten().sum();
+        let [made, indexed, full] =
+            [self.made, self.indexed, self.full].map(|numbers| numbers.iter().flatten().sum::<u64>());
         let each: Vec<String> = (1..=20).map(|n| format!("{n}: {}", sum(n))).collect();
-        format!("made {made}; refused by {}", each.join(", "))
+        format!("made {made}, {indexed} with an index; refused by {}; with an index by 15: {full}", each.join(", "))
     }
 }

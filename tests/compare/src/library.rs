@@ -6,7 +6,7 @@
 use crate::guard::{Guard, Side};
 use dgn::raw;
 use reader::generate::moves::Way;
-use reader::{Call, Field, FindRefusal, Found, Judged, Linkage, LinkageKind, Refusal, State};
+use reader::{Call, Field, FindRefusal, Found, Index, Judged, Linkage, LinkageKind, Refusal, State};
 use std::cell::Cell;
 use std::hint::black_box;
 use std::slice::{from_raw_parts, from_raw_parts_mut};
@@ -37,6 +37,7 @@ struct Lending {
     tail: Guard,
     buffer: Guard,
     journal: Guard,
+    index: Guard,
     moved_from: Guard,
     moved_to: Guard,
     numbers: Guard,
@@ -57,6 +58,7 @@ thread_local! {
         tail: Guard::new(LONGEST),
         buffer: Guard::new(LONGEST),
         journal: Guard::new(LONGEST),
+        index: Guard::new(LONGEST),
         moved_from: Guard::new(LONGEST_STORED),
         moved_to: Guard::new(LONGEST_STORED),
         numbers: Guard::new(8 * MOST_NUMBERS),
@@ -181,15 +183,43 @@ pub fn judge(file: &[u8], dim: u64) -> Result<Judged, Refusal> {
     Ok(Judged { elements: o[0] as u64, deepest: o[1] as u64, marker: o[2] as u64 })
 }
 
-/// The detail of 13 is the count of all elements.
-pub fn find(file: &[u8], dim: u64, text: &[u8]) -> Result<Found, FindRefusal> {
-    let given = LENDING
-        .with(|l| lent(l, &l.text, text, |t| of_file::<_, 2>(file, |f, o| raw::find(f, dim as usize, t, o))));
+/// A place and a count; the detail of 13 is a count too.
+fn found(given: Result<[usize; 2], Refused>) -> Result<Found, FindRefusal> {
     match given {
         Ok(o) => Ok(Found { place: o[0] as u64, looked: o[1] as u64 }),
         Err(Refused { number: 13, detail }) => Err(FindRefusal { number: 13, place: 0, count: detail }),
         Err(Refused { number, detail }) => Err(FindRefusal { number, place: detail, count: 0 }),
     }
+}
+
+pub fn find(file: &[u8], dim: u64, text: &[u8]) -> Result<Found, FindRefusal> {
+    found(LENDING.with(|l| lent(l, &l.text, text, |t| of_file(file, |f, o| raw::find(f, dim as usize, t, o)))))
+}
+
+/// Looks a name up in an index.
+pub fn look_up(index: &[u8], used: u64, text: &[u8]) -> Result<Found, FindRefusal> {
+    found(LENDING.with(|l| {
+        lent(l, &l.text, text, |t| {
+            lent(l, &l.index, index, |i| answer(l, |o| raw::look_up(i, used as usize, t, o)))
+        })
+    }))
+}
+
+/// Builds the index of a file in a copy of the buffer, which is copied back: its used length.
+pub fn build(file: &[u8], dim: u64, index: &mut [u8]) -> Result<u64, Refusal> {
+    let out: [usize; 1] = LENDING.with(|l| {
+        lent_to_write(l, &l.index, index, |i| of_file(file, |f, o| raw::index(f, dim as usize, i, o)))
+    })?;
+    Ok(out[0] as u64)
+}
+
+/// Puts the cells of a file into a copy of the buffer, which is copied back: how many there are, and what judging gives.
+pub fn cells(file: &[u8], dim: u64, entries: &mut [u8]) -> Result<(u64, Judged), Refusal> {
+    let out: [usize; 4] = LENDING.with(|l| {
+        lent_to_write(l, &l.index, entries, |e| of_file(file, |f, o| raw::cells(f, dim as usize, e, o)))
+    })?;
+    let [count, elements, deepest, marker] = out.map(|number| number as u64);
+    Ok((count, Judged { elements, deepest, marker }))
 }
 
 pub fn extent(file: &[u8], dim: u64, place: u64) -> Result<(u64, u64), Refusal> {
@@ -365,25 +395,35 @@ impl TextCall<'_> {
     }
 }
 
-/// The buffers of a session as they are lent, and its numbers.
+/// The buffers of a session as they are lent, and its numbers; an index too, where there is one.
 struct Lent<'a> {
     file: &'a mut [u8],
     used: usize,
     journal: &'a mut [u8],
     jused: usize,
+    index: Option<(&'a mut [u8], usize)>,
     dim: usize,
 }
+
+/// What lends an answer slice to a call.
+type Asked<'a> = &'a mut dyn FnMut(&mut [usize]) -> usize;
 
 /// Lends the buffers of a session as copies, which are copied back.
 fn in_session<R>(
     l: &Lending,
     state: &mut State,
+    index: Option<&mut Index>,
     call: impl FnOnce(Lent) -> Result<R, Refused>,
 ) -> Result<R, Refused> {
     let (used, jused, dim) = (state.used as usize, state.jused as usize, state.dim as usize);
     let State { file, journal, .. } = state;
     lent_to_write(l, &l.buffer, file, |file| {
-        lent_to_write(l, &l.journal, journal, |journal| call(Lent { file, used, journal, jused, dim }))
+        lent_to_write(l, &l.journal, journal, |journal| match index {
+            None => call(Lent { file, used, journal, jused, index: None, dim }),
+            Some(Index { buffer, used: iused }) => lent_to_write(l, &l.index, buffer, |index| {
+                call(Lent { file, used, journal, jused, index: Some((index, *iused as usize)), dim })
+            }),
+        })
     })
 }
 
@@ -391,28 +431,43 @@ fn in_session<R>(
 fn edited<R>(
     l: &Lending,
     state: &mut State,
+    index: Option<&mut Index>,
     call: &Call,
-    ask: impl FnOnce(&Lending, &mut dyn FnMut(&mut [usize]) -> usize) -> Result<R, Refused>,
+    ask: impl FnOnce(&Lending, Asked) -> Result<R, Refused>,
 ) -> Result<R, Refused> {
     match call {
-        Call::Mark { place, deleted } => marked(l, state, *place, usize::from(*deleted), ask),
+        Call::Mark { place, deleted } => marked(l, state, index, *place, usize::from(*deleted), ask),
         Call::Rename { place, text } => lent(l, &l.text, text, |t| {
-            in_session(l, state, |s| {
-                ask(l, &mut |o| raw::rename(s.file, s.used, s.journal, s.jused, s.dim, *place as usize, t, o))
+            let p = *place as usize;
+            in_session(l, state, index, |mut s| {
+                ask(l, &mut |o| match &mut s.index {
+                    None => raw::rename(s.file, s.used, s.journal, s.jused, s.dim, p, t, o),
+                    Some((i, n)) => raw::rename_indexed(s.file, s.used, s.journal, s.jused, i, *n, s.dim, p, t, o),
+                })
             })
         }),
         Call::Insert { header, place, piece } => lent(l, &l.tail, piece, |x| {
             let (h, p) = (header.unwrap_or(TOP) as usize, *place as usize);
-            in_session(l, state, |s| {
-                ask(l, &mut |o| raw::insert(s.file, s.used, s.journal, s.jused, s.dim, h, p, x, o))
+            in_session(l, state, index, |mut s| {
+                ask(l, &mut |o| match &mut s.index {
+                    None => raw::insert(s.file, s.used, s.journal, s.jused, s.dim, h, p, x, o),
+                    Some((i, n)) => raw::insert_indexed(s.file, s.used, s.journal, s.jused, i, *n, s.dim, h, p, x, o),
+                })
             })
         }),
-        Call::Remove { place } => in_session(l, state, |s| {
-            ask(l, &mut |o| raw::remove(s.file, s.used, s.journal, s.jused, s.dim, *place as usize, o))
+        Call::Remove { place } => in_session(l, state, index, |mut s| {
+            let p = *place as usize;
+            ask(l, &mut |o| match &mut s.index {
+                None => raw::remove(s.file, s.used, s.journal, s.jused, s.dim, p, o),
+                Some((i, n)) => raw::remove_indexed(s.file, s.used, s.journal, s.jused, i, *n, s.dim, p, o),
+            })
         }),
-        Call::Undo => in_session(l, state, |s| {
+        Call::Undo => in_session(l, state, index, |mut s| {
             l.journal.read_only();
-            let given = ask(l, &mut |o| raw::undo(s.file, s.used, s.journal, s.jused, s.dim, o));
+            let given = ask(l, &mut |o| match &mut s.index {
+                None => raw::undo(s.file, s.used, s.journal, s.jused, s.dim, o),
+                Some((i, n)) => raw::undo_indexed(s.file, s.used, s.journal, s.jused, i, *n, s.dim, o),
+            });
             l.journal.writable();
             given
         }),
@@ -423,33 +478,53 @@ fn edited<R>(
 fn marked<R>(
     l: &Lending,
     state: &mut State,
+    index: Option<&mut Index>,
     place: u64,
     deleted: usize,
-    ask: impl FnOnce(&Lending, &mut dyn FnMut(&mut [usize]) -> usize) -> Result<R, Refused>,
+    ask: impl FnOnce(&Lending, Asked) -> Result<R, Refused>,
 ) -> Result<R, Refused> {
-    in_session(l, state, |s| {
-        ask(l, &mut |o| raw::mark(s.file, s.used, s.journal, s.jused, s.dim, place as usize, deleted, o))
+    let p = place as usize;
+    in_session(l, state, index, |mut s| {
+        ask(l, &mut |o| match &mut s.index {
+            None => raw::mark(s.file, s.used, s.journal, s.jused, s.dim, p, deleted, o),
+            Some((i, n)) => raw::mark_indexed(s.file, s.used, s.journal, s.jused, i, *n, s.dim, p, deleted, o),
+        })
     })
 }
 
-/// One call of a session, which takes over the new used lengths.
-pub fn call(state: &mut State, call: &Call) -> Result<(), Refusal> {
-    let out: [usize; 2] = LENDING.with(|l| edited(l, state, call, |l, ask| answer(l, ask)))?;
-    [state.used, state.jused] = out.map(|length| length as u64);
-    Ok(())
+/// One call of a session, which takes over the new used lengths, that of its index too where it has one.
+pub fn call(state: &mut State, index: Option<&mut Index>, call: &Call) -> Result<(), Refusal> {
+    LENDING.with(|l| match index {
+        None => {
+            let out: [usize; 2] = edited(l, state, None, call, |l, ask| answer(l, ask))?;
+            [state.used, state.jused] = out.map(|length| length as u64);
+            Ok(())
+        }
+        Some(index) => {
+            let out: [usize; 3] = edited(l, state, Some(index), call, |l, ask| answer(l, ask))?;
+            [state.used, state.jused, index.used] = out.map(|length| length as u64);
+            Ok(())
+        }
+    })
 }
 
 /// The same with answer slices that are too short: 1, and nothing is written.
-pub fn short_call(state: &mut State, call: &Call) {
+pub fn short_call(state: &mut State, index: &mut Index, call: &Call) {
     LENDING.with(|l| {
-        assert!(edited(l, state, call, |l, ask| short::<_, 1>(l, ask)).is_err());
-        assert!(edited(l, state, call, |l, ask| short::<_, 0>(l, ask)).is_err());
+        assert!(edited(l, state, None, call, |l, ask| short::<_, 1>(l, ask)).is_err());
+        assert!(edited(l, state, None, call, |l, ask| short::<_, 0>(l, ask)).is_err());
+        assert!(edited(l, state, Some(index), call, |l, ask| short::<_, 2>(l, ask)).is_err());
+        assert!(edited(l, state, Some(index), call, |l, ask| short::<_, 0>(l, ask)).is_err());
     });
 }
 
-/// A mark by a number that is neither 0 nor 1.
-pub fn mark_by(state: &mut State, place: u64, deleted: usize) -> Result<[usize; 2], Refusal> {
-    Ok(LENDING.with(|l| marked(l, state, place, deleted, |l, ask| answer(l, ask)))?)
+/// A mark by a number that is neither 0 nor 1, without an index and with one.
+pub fn mark_by(state: &mut State, index: &mut Index, place: u64, deleted: usize) -> [Result<(), Refusal>; 2] {
+    LENDING.with(|l| {
+        let plain = marked(l, state, None, place, deleted, |l, ask| answer::<_, 2>(l, ask).map(|_| ()));
+        let with = marked(l, state, Some(index), place, deleted, |l, ask| answer::<_, 3>(l, ask).map(|_| ()));
+        [plain, with].map(|given| given.map_err(Refusal::from))
+    })
 }
 
 /// Every other call with an answer slice of M numbers, one too few or none: 1, and nothing is written.
@@ -482,6 +557,11 @@ pub fn short_answers(file: &[u8]) {
                 short::<_, 0>(l, |o| raw::characters(f, 2, 0, o)),
                 short::<_, 2>(l, |o| raw::field(f, 2, 0, 0, o)),
                 short::<_, 0>(l, |o| raw::field(f, 2, 0, 0, o)),
+                short::<_, 1>(l, |o| raw::look_up(&[], 0, &[], o)),
+                short::<_, 0>(l, |o| raw::look_up(&[], 0, &[], o)),
+                lent_to_write(l, &l.index, &mut [7; 16], |i| short::<_, 0>(l, |o| raw::index(f, 2, i, o))),
+                lent_to_write(l, &l.index, &mut [7; 16], |i| short::<_, 3>(l, |o| raw::cells(f, 2, i, o))),
+                lent_to_write(l, &l.index, &mut [7; 16], |i| short::<_, 0>(l, |o| raw::cells(f, 2, i, o))),
                 short::<_, 1>(l, |o| raw::pack(&[], o)),
                 short::<_, 0>(l, |o| raw::pack(&[], o)),
                 short::<_, 6>(l, |o| raw::unpack(0, 0, o)),

@@ -11,7 +11,7 @@ use reader::generate::sessions::{fresh_state, piece_for};
 use reader::generate::tree::is_header;
 use reader::generate::{aimed, large, Random, ORDER};
 use reader::words::{bytes_of, words_of};
-use reader::{Call, Refusal, State};
+use reader::{Call, Index, Refusal, State};
 
 /// A cell of 46 words and in it a raw element of 10, a raw one of 3 behind it, the marker.
 fn small() -> Vec<u8> {
@@ -110,6 +110,55 @@ pub fn room(runs: &mut Runs) {
     }
 }
 
+/// Exact room in an index, before and after each call, beside too little and enough in the other two buffers: the file's 15 and the
+/// index's, then 16. Whatever the buffer held, the index is built in it.
+pub fn index_room(runs: &mut Runs) {
+    let file = small();
+    // a cell with a cell and a raw element in it: two entries more
+    let mut nested = large::raw_of(46, false);
+    (nested[0], nested[18]) = (2 << 8, 76);
+    let mut inner = large::raw_of(46, true);
+    (inner[0], inner[18]) = (2 << 8 | 1 << 7, 30);
+    nested.extend(inner);
+    nested.extend(large::raw_of(3, true));
+    let piece = bytes_of(&nested);
+    let mut calls = good_calls().to_vec();
+    calls.push((Call::Insert { header: None, place: 56, piece: piece.clone() }, 6));
+    calls.push((Call::Remove { place: 0 }, 62));
+    for (call, words) in calls {
+        let grows = if let Call::Insert { piece, .. } = &call { piece.len() } else { 0 };
+        let after = match &call {
+            Call::Insert { piece: more, .. } if *more == piece => 24,
+            Call::Remove { place: 0 } => 0,
+            _ => 8,
+        };
+        for length in 0..=34 {
+            for spare in [0, 2 * words - 2, 2 * words, 2 * words + 12] {
+                for slack in [0, grows] {
+                    let mut start = ample(&file, 2);
+                    start.file.truncate(file.len() + slack);
+                    start.journal.truncate(spare);
+                    let index = Index { buffer: vec![0x5b; length], used: length as u64 / 16 * 8 };
+                    let mut both = Both::indexed(start, index);
+                    if slack < grows || length < after {
+                        both.refused(runs, &call, 15, 0);
+                    } else if spare < 2 * words {
+                        both.refused(runs, &call, 16, 0);
+                    } else {
+                        both.made(runs, &call);
+                        // the undo needs room for the one cell again
+                        if length < 8 {
+                            both.refused(runs, &Call::Undo, 15, 0);
+                        } else {
+                            both.made(runs, &Call::Undo);
+                        }
+                    }
+                }
+            }
+        }
+    }
+}
+
 /// Numbers and slices that no call takes: lengths, used lengths, dimensions, the flag's number, short answer slices.
 pub fn calls_made_wrongly(runs: &mut Runs) {
     let file = small();
@@ -138,8 +187,15 @@ pub fn calls_made_wrongly(runs: &mut Runs) {
                 let _ = Both::new(ample(&file, dim)).call(runs, call);
             }
             let mut start = ample(&file, 2);
-            library::short_call(&mut start, call);
-            assert_eq!(start, ample(&file, 2));
+            let mut index = Index { buffer: vec![7; 20], used: 16 };
+            library::short_call(&mut start, &mut index, call);
+            assert_eq!((start, index), (ample(&file, 2), Index { buffer: vec![7; 20], used: 16 }));
+            for length in [0, 7, 8, 9, 16, 1_048_576, 1_048_577, 1_048_578] {
+                for used in [0, 1, 4, 7, 8, 9, 12, 16, 24, 1_048_576, 1_048_584, 1 << 32, (1 << 63) + 8, u64::MAX - 7, u64::MAX] {
+                    let index = Index { buffer: vec![7; length], used };
+                    let _ = Both::indexed(ample(&file, 2), index).call(runs, call);
+                }
+            }
         }
         for length in [0, 1, 2, 3, 1_048_574, 1_048_575, 1_048_576, 1_048_577, 1_048_578] {
             let mut piece = raw(3, false);
@@ -154,8 +210,10 @@ pub fn calls_made_wrongly(runs: &mut Runs) {
         for deleted in [2, 3, 255, 256, 257, 1 << 32, usize::MAX] {
             for place in [0, 46, 47] {
                 let mut start = ample(&file, 2);
-                assert_eq!(library::mark_by(&mut start, place, deleted), Err(Refusal { number: 1, place: 0 }));
-                assert_eq!(start, ample(&file, 2));
+                let mut index = Index { buffer: vec![7; 20], used: 16 };
+                let refused = Err(Refusal { number: 1, place: 0 });
+                assert_eq!(library::mark_by(&mut start, &mut index, place, deleted), [refused.clone(), refused]);
+                assert_eq!((start, index), (ample(&file, 2), Index { buffer: vec![7; 20], used: 16 }));
             }
         }
     }

@@ -7,6 +7,7 @@ mod edited;
 mod files;
 mod guard;
 mod history;
+mod indexes;
 mod library;
 mod limits;
 mod program;
@@ -49,6 +50,14 @@ const STEPS: &[Step] = &[
     ("cuts, and every place", |random, runs, _| files::cuts(random, runs, 200)),
     ("every part of small files, views, points and texts", |random, runs, _| whole::small(random, runs, 100)),
     ("the largest files in parts, views, points and texts", |random, runs, _| whole::largest(random, runs)),
+    ("cells and indexes of small files, in buffers of every length around the exact one", |random, runs, wanted| {
+        indexes::lengths(random, runs, wanted / 100)
+    }),
+    ("looks in indexes of each number of entries", |_, runs, _| indexes::looks(runs)),
+    ("names looked up in indexes as built, stale, damaged and of any bytes", |random, runs, wanted| {
+        indexes::look_ups(random, runs, wanted / 30)
+    }),
+    ("indexes of the most cells and of the largest files", |random, runs, _| indexes::largest(random, runs)),
     ("the bindings' structs", |random, runs, _| bindings::generated(random, runs, 500)),
     ("generated files", |random, runs, wanted| {
         let before = runs.files;
@@ -66,6 +75,7 @@ const STEPS: &[Step] = &[
     ("journals to blocks and back, any calls", |random, runs, wanted| stored::calls(random, runs, wanted / 6)),
     ("journal records of every kind", |_, runs, _| limits::records(runs)),
     ("exact room in both buffers of a session", |_, runs, _| limits::room(runs)),
+    ("exact room in an index, beside the other two buffers", |_, runs, _| limits::index_room(runs)),
     ("calls of a session made wrongly, between pages that may not be touched", |_, runs, _| {
         limits::calls_made_wrongly(runs)
     }),
@@ -75,8 +85,8 @@ const STEPS: &[Step] = &[
     }),
     ("headers that would grow too large", |_, runs, _| limits::growth(runs)),
     ("sessions on the largest files", |_, runs, _| sessions::largest(runs)),
-    ("every edit at every place of small files, undone", |random, runs, _| sessions::places(random, runs, 100)),
-    ("sessions of any calls, undone to their start", |random, runs, wanted| {
+    ("every edit at every place of small files, with an index and without, undone", |random, runs, _| sessions::places(random, runs, 100)),
+    ("sessions of any calls, with an index and without, undone to their start", |random, runs, wanted| {
         sessions::random(random, runs, wanted);
         if wanted >= 100_000 {
             runs.edits.check();

@@ -157,7 +157,9 @@ pub fn sessions(random: &mut Random, runs: &mut Runs) {
     for (_, dim, answer, file) in table("").into_iter().chain(table("texts/")) {
         if answer.starts_with("accepted") {
             let marker: usize = answer.rsplit(' ').next().and_then(|m| m.parse().ok()).expect("the marker's place");
-            sessions::everywhere(random, runs, sessions::ample(&file[..2 * marker + 2], dim));
+            let start = sessions::ample(&file[..2 * marker + 2], dim);
+            sessions::everywhere(random, runs, start.clone(), false);
+            sessions::everywhere(random, runs, start, true);
         }
     }
 }

@@ -6,10 +6,11 @@ use crate::guard::Side;
 use crate::library::{self, TextCall};
 use crate::seen::Seen;
 use crate::whole;
+use reader::generate::indexes::bytes_of_entries;
 use reader::generate::text_writes::TextWrite;
 use reader::generate::writes::Write;
 use reader::generate::{place, places, texts, Random};
-use reader::{Judged, Refusal, Text, View};
+use reader::{FindRefusal, Found, Index, Judged, Refusal, Text, View};
 
 /// What was run so far.
 #[derive(Default)]
@@ -142,6 +143,36 @@ impl Runs {
     pub fn find(&mut self, file: &[u8], dim: u64, text: &[u8]) {
         assert_eq!(library::find(file, dim, text), reader::find(file, dim, text), "find {text:?}, {dim}D, {file:02x?}");
         self.calls += 1;
+    }
+
+    /// The index of a file, and its cells in file order, each in a buffer of so many bytes: all bytes of both.
+    pub fn index(&mut self, file: &[u8], dim: u64, room: usize) {
+        let what = || format!("{room} bytes, {dim}D, {file:02x?}");
+        let (mut ours, mut theirs) = (vec![0xa5; room], vec![0xa5; room]);
+        let answer = library::build(file, dim, &mut ours);
+        assert_eq!(answer, reader::build_index(file, dim, &mut theirs), "index, {}", what());
+        assert!(ours == theirs, "index, {}", what());
+
+        let mut listed = vec![0xa5; room];
+        let answer = library::cells(file, dim, &mut listed);
+        let mut entries = reader::index::entries(file, dim);
+        if let Ok(entries) = &mut entries {
+            entries.sort_by_key(|entry| entry.place);
+        }
+        let expected = entries.clone().and_then(|entries| Ok((entries.len() as u64, reader::judge(file, dim)?)));
+        assert_eq!(answer, expected, "cells, {}", what());
+        let entries = entries.unwrap_or_default();
+        let bytes = bytes_of_entries(&entries[..entries.len().min(room / 8)]);
+        assert!(listed.starts_with(&bytes) && listed[bytes.len()..].iter().all(|&byte| byte == 0xa5), "cells, {}", what());
+        self.calls += 2;
+    }
+
+    /// A name looked up in an index, which may be any bytes.
+    pub fn look_up(&mut self, index: &Index, text: &[u8]) -> Result<Found, FindRefusal> {
+        let ours = library::look_up(&index.buffer, index.used, text);
+        assert_eq!(ours, reader::look_up(&index.buffer, index.used, text), "look up {text:?} in {index:02x?}");
+        self.calls += 1;
+        ours
     }
 
     /// The calls on one element, each with a number from 0.

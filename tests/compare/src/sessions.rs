@@ -1,22 +1,25 @@
-//! Sessions of both readers: after each call the same answer, the same used lengths and the same bytes in both whole
-//! buffers; and the file's used words are those of the book, which is fed the calls alone.
+//! Sessions of both readers, with an index and without: after each call the same answer, the same used lengths and the same
+//! bytes in all whole buffers; the file's used words are those of the book, which is fed the calls alone, and after a call
+//! that is made the index is that of the book and the one that is built afresh.
 
 use crate::guard::Side;
 use crate::library;
 use crate::runs::Runs;
+use reader::generate::indexes::{any_index, built};
 use reader::generate::journals::undo_state;
 use reader::generate::places::{scan, Start};
 use reader::generate::sessions::{fresh_state, next_call, piece_for, rough_state};
 use reader::generate::tree::is_header;
 use reader::generate::{aimed, large, texts, Random, ORDER};
 use reader::words::{bytes_of, words_of};
-use reader::{Book, Call, Refusal, State};
+use reader::{Book, Call, Index, Refusal, State};
 
-/// A session in both readers. Its book holds where the journal was empty at first.
+/// A session in both readers, with an index of each or without. Its book holds where the journal was empty at first.
 pub struct Both {
     pub start: State,
     pub ours: State,
     pub theirs: State,
+    pub index: Option<[Index; 2]>,
     book: Option<Book>,
 }
 
@@ -29,24 +32,59 @@ fn last_kind(s: &State) -> usize {
 impl Both {
     pub fn new(start: State) -> Both {
         let book = (start.jused == 0).then(|| Book::new(start.used_file(), start.dim));
-        Both { ours: start.clone(), theirs: start.clone(), start, book }
+        Both { ours: start.clone(), theirs: start.clone(), start, index: None, book }
+    }
+
+    /// The same with an index.
+    pub fn indexed(start: State, index: Index) -> Both {
+        let mut both = Both::new(start);
+        both.lend(index);
+        both
+    }
+
+    /// Another index from now on.
+    pub fn lend(&mut self, index: Index) {
+        self.index = Some([index.clone(), index]);
+    }
+
+    /// Makes the call in both readers.
+    fn make(&mut self, call: &Call) -> [Result<(), Refusal>; 2] {
+        match &mut self.index {
+            None => [library::call(&mut self.ours, None, call), self.theirs.run(call)],
+            Some([ours, theirs]) => {
+                [library::call(&mut self.ours, Some(ours), call), self.theirs.run_indexed(theirs, call)]
+            }
+        }
+    }
+
+    /// Whether the index is that of the file, by the book too, with zeros to its end.
+    fn in_step(&self) -> bool {
+        let Some([ours, _]) = &self.index else { return true };
+        let length = ours.buffer.len();
+        let mut afresh = vec![0xa5; length];
+        let used = library::build(self.ours.used_file(), self.ours.dim, &mut afresh);
+        let book = self.book.as_ref().map(|book| book.index(length));
+        used == Ok(ours.used)
+            && afresh == ours.buffer
+            && book.is_none_or(|index| index == Some((ours.buffer.clone(), ours.used)))
     }
 
     pub fn call(&mut self, runs: &mut Runs, call: &Call) -> Result<(), Refusal> {
         let kind = last_kind(&self.ours);
         let good = reader::judge(self.ours.used_file(), self.ours.dim).is_ok();
         let before = (self.ours.used, runs.record(&self.ours.journal, self.ours.jused));
-        let answer = library::call(&mut self.ours, call);
-        let expected = self.theirs.run(call);
-        assert_eq!(answer, expected, "{call:?} from {:?}", self.start);
+        let [answer, expected] = self.make(call);
+        assert_eq!(answer, expected, "{call:?} from {:?}, {:?}", self.start, self.index);
         assert!(self.ours == self.theirs, "{call:?} from {:?}", self.start);
+        assert!(self.index.as_ref().is_none_or(|[ours, theirs]| ours == theirs), "{call:?} from {:?}", self.start);
         if let Some(book) = &mut self.book {
             book.feed(call, answer.is_err());
             assert_eq!(book.words(), Some(words_of(self.ours.used_file())), "{call:?} from {:?}", self.start);
         }
-        runs.record_of(call, &answer, before, &self.ours);
+        assert!(answer.is_err() || self.in_step(), "{call:?} from {:?}, {:?}", self.start, self.index);
+        runs.record_of(call, &answer, before, &self.ours, self.index.is_some());
         runs.calls += 1;
-        runs.edits.note(self.start.dim, call, &answer, good, kind);
+        runs.edits.note(self.start.dim, call, &answer, good, kind, self.index.is_some());
         answer
     }
 
@@ -112,11 +150,41 @@ pub fn bad_piece(random: &mut Random, dim: u64, number: u32) -> Vec<u8> {
     a.file[first..last.min(a.file.len())].to_vec()
 }
 
-/// A session of some calls, undone to its start.
+/// The index of a file as it is built, in a buffer whose length is around the exact one.
+fn around(random: &mut Random, file: &[u8], dim: u64) -> Index {
+    let mut index = built(random, file, dim);
+    let length = (index.used as usize + random.index(26)).saturating_sub(9);
+    index.buffer.truncate(index.used as usize);
+    index.buffer.resize(length, 0);
+    index.used = index.used.min(length as u64 / 8 * 8);
+    index
+}
+
+/// Another index for a session that has one: stale, damaged or any, or as it should be in a buffer of another length.
+fn relend(random: &mut Random, both: &mut Both) {
+    let (file, dim) = (both.ours.used_file().to_vec(), both.ours.dim);
+    let index = match random.below(4) {
+        0 => any_index(random, &file, dim),
+        1 => around(random, &file, dim),
+        _ => built(random, &file, dim),
+    };
+    both.lend(index);
+}
+
+/// A session of some calls, undone to its start; every other one with an index, which is built at first or, for one call in
+/// eight, another.
 fn run(random: &mut Random, runs: &mut Runs, start: State, calls: u64) {
     library::lend_at(if random.one_in(2) { Side::Before } else { Side::Behind }, random.one_in(8));
     let mut both = Both::new(start);
+    let with_index = random.one_in(2);
+    if with_index {
+        let index = built(random, both.ours.used_file(), both.ours.dim);
+        both.lend(index);
+    }
     for _ in 0..calls {
+        if with_index && random.one_in(8) {
+            relend(random, &mut both);
+        }
         let call = match random.below(12) {
             0 => {
                 let (header, place, _) = piece_for(random, both.ours.used_file(), both.ours.dim);
@@ -132,6 +200,12 @@ fn run(random: &mut Random, runs: &mut Runs, start: State, calls: u64) {
             _ => any_call(random, &both.ours),
         };
         let _ = both.call(runs, &call);
+    }
+    if with_index {
+        // room for any state that an undo returns to
+        let mut index = built(random, both.ours.used_file(), both.ours.dim);
+        index.buffer.resize(both.ours.file.len(), 0);
+        both.lend(index);
     }
     both.undo_all(runs);
 }
@@ -163,11 +237,21 @@ pub fn ample(file: &[u8], dim: u64) -> State {
     State { dim, file: bytes, used: used as u64, journal: vec![0x5c; used + 4000], jused: 0 }
 }
 
+/// The index of a file as it is built, with room for more than any piece has.
+fn with_room(file: &[u8], dim: u64) -> Index {
+    let mut buffer = vec![0; file.len() + 4001];
+    let used = reader::build_index(file, dim, &mut buffer).expect("an accepted file");
+    Index { buffer, used }
+}
+
 /// Every edit of one element or list of a file, each undone again: each element marked, renamed and removed, a piece put
 /// in at each start and at the end of each list. Where the file ends all lists that end with it are among them.
-pub fn everywhere(random: &mut Random, runs: &mut Runs, start: State) {
+pub fn everywhere(random: &mut Random, runs: &mut Runs, start: State, with_index: bool) {
     let mut both = Both::new(start);
     let (file, dim) = (both.ours.used_file().to_vec(), both.ours.dim);
+    if with_index {
+        both.lend(with_room(&file, dim));
+    }
     let (starts, marker) = scan(&file);
     let mut lists: Vec<(Option<u64>, u64)> = vec![(None, marker)];
     let mut edits = Vec::new();
@@ -205,12 +289,12 @@ pub fn everywhere(random: &mut Random, runs: &mut Runs, start: State) {
     both.undo_all(runs);
 }
 
-/// Small files, every edit at every place of them.
+/// Small files, every edit at every place of them, every other file with an index.
 pub fn places(random: &mut Random, runs: &mut Runs, times: u64) {
-    for _ in 0..times {
+    for k in 0..times {
         let s = fresh_state(random);
         let start = ample(s.used_file(), s.dim);
-        everywhere(random, runs, start);
+        everywhere(random, runs, start, k % 2 == 1);
     }
 }
 
@@ -223,19 +307,24 @@ pub fn largest(runs: &mut Runs) {
         large::most_elements(),
         large::longest_file(),
         large::longest_file_of_cells(),
+        large::most_cells(400),
     ] {
-        large_session(runs, &v.file, v.dim);
+        large_session(runs, &v.file, v.dim, false);
+        large_session(runs, &v.file, v.dim, true);
     }
 }
 
 /// Edits of the first, the deepest and the last element of a file, undone.
-pub fn large_session(runs: &mut Runs, file: &[u8], dim: u64) {
+pub fn large_session(runs: &mut Runs, file: &[u8], dim: u64, with_index: bool) {
     let (starts, marker) = scan(file);
     let file = &file[..2 * marker as usize + 2];
     let mut start = ample(file, dim);
     start.file.truncate(1_048_576);
     start.journal.resize(1_048_576, 0);
-    let mut both = Both::new(start);
+    // what an index takes at most, and one more entry
+    let mut index = with_room(start.used_file(), dim);
+    index.buffer.resize(119_840, 0);
+    let mut both = if with_index { Both::indexed(start, index) } else { Both::new(start) };
     let deepest = starts.iter().max_by_key(|s| s.depth).map_or(0, |s| s.place);
     let last = starts.last().map_or(0, |s| s.place);
     for place in [0, deepest, last] {

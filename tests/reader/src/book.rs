@@ -67,6 +67,42 @@ impl Book {
     pub fn bytes(&self) -> Option<Vec<u8>> {
         self.words().map(|words| bytes_of(&words))
     }
+
+    /// What a run's index buffer of that length must now hold, and its used
+    /// length in bytes: the cells of those words in order, then zeros. None
+    /// where they do not fit.
+    pub fn index(&self, length: usize) -> Option<(Vec<u8>, u64)> {
+        let mut cells = cells(&self.words()?)?;
+        cells.sort_unstable();
+        let mut buffer = bytes_of(&cells.concat());
+        let used = buffer.len();
+        if used > length {
+            return None;
+        }
+        buffer.resize(length, 0);
+        Some((buffer, used as u64))
+    }
+}
+
+/// The four words of an entry for each cell: its name and its place.
+fn cells(words: &[u16]) -> Option<Vec<[u16; 4]>> {
+    let mut cells = Vec::new();
+    let mut place = 0;
+    // An element begins where the one before it ends, a component too.
+    while *words.get(place)? != 65535 {
+        let name = match kind(words, place)? {
+            1 => Some(16),
+            2 => Some(19),
+            _ => None,
+        };
+        if let Some(offset) = name {
+            let name = words.get(place + offset..place + offset + 2)?;
+            let (high, low) = (place / 65536, place % 65536);
+            cells.push([name[0], name[1], high as u16, low as u16]);
+        }
+        place += usize::from(*words.get(place + 1)?) + 2;
+    }
+    Some(cells)
 }
 
 fn apply(words: &mut Vec<u16>, edit: &Call) -> Option<()> {

@@ -1,6 +1,8 @@
-//! The five calls of a session as plain data, and a session's two buffers.
+//! The five calls of a session as plain data, a session's two buffers, and the
+//! index that may be lent beside them.
 
 use crate::edits::{insert, mark, remove, rename};
+use crate::indexed::{insert_indexed, mark_indexed, remove_indexed, rename_indexed, undo_indexed};
 use crate::refusal::Refusal;
 use crate::undo::undo;
 
@@ -66,5 +68,62 @@ impl State {
             .ok()
             .and_then(|used| self.file.get(..used))
             .unwrap_or(&[])
+    }
+}
+
+/// An index buffer with its used length, in bytes.
+#[derive(Debug, Clone, PartialEq, Eq)]
+pub struct Index {
+    pub buffer: Vec<u8>,
+    pub used: u64,
+}
+
+/// A session and the index that every call is lent, if there is one.
+#[derive(Debug, Clone, PartialEq, Eq)]
+pub struct IndexedState {
+    pub session: State,
+    pub index: Option<Index>,
+}
+
+impl IndexedState {
+    /// Makes one call and takes over the new used lengths.
+    pub fn run(&mut self, call: &Call) -> Result<(), Refusal> {
+        match &mut self.index {
+            Some(lent) => self.session.run_indexed(lent, call),
+            None => self.session.run(call),
+        }
+    }
+}
+
+impl State {
+    /// Makes one call with an index lent and takes over the new used lengths.
+    pub fn run_indexed(&mut self, lent: &mut Index, call: &Call) -> Result<(), Refusal> {
+        let (used, jused, iused, dim) = (self.used, self.jused, lent.used, self.dim);
+        let file = &mut self.file[..];
+        let journal = &mut self.journal[..];
+        let index = &mut lent.buffer[..];
+        let (used, jused, iused) = match call {
+            Call::Mark { place, deleted } => mark_indexed(
+                file, used, journal, jused, index, iused, dim, *place, *deleted,
+            )?,
+            Call::Rename { place, text } => {
+                rename_indexed(file, used, journal, jused, index, iused, dim, *place, text)?
+            }
+            Call::Insert {
+                header,
+                place,
+                piece,
+            } => insert_indexed(
+                file, used, journal, jused, index, iused, dim, *header, *place, piece,
+            )?,
+            Call::Remove { place } => {
+                remove_indexed(file, used, journal, jused, index, iused, dim, *place)?
+            }
+            Call::Undo => undo_indexed(file, used, journal, jused, index, iused, dim)?,
+        };
+        self.used = used;
+        self.jused = jused;
+        lent.used = iused;
+        Ok(())
     }
 }

@@ -14,7 +14,8 @@ pub struct Found {
     pub looked: u64,
 }
 
-fn other(refused: Refusal) -> FindRefusal {
+/// A refusal without a count.
+pub(crate) fn other(refused: Refusal) -> FindRefusal {
     FindRefusal {
         number: refused.number,
         place: refused.place,

@@ -8,8 +8,8 @@ pub struct Refusal {
     pub place: u64,
 }
 
-/// A refusal of the finder. The count of all elements stands beside 13;
-/// beside every other number it is 0.
+/// A refusal of the finder or of a look-up. Beside 13 stands the count of all
+/// elements, or that of the looks; beside every other number it is 0.
 #[derive(Debug, Clone, PartialEq, Eq)]
 pub struct FindRefusal {
     pub number: u32,

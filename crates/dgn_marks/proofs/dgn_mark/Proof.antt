@@ -1,5 +1,7 @@
 -- A slice that is too short leaves all as it was; a number that is no flag is refused; else the session's own step.
-use Rattle.edit_answers.proofs.Sessions.{not-left, mark-left, mark-not}
+use mathlib.Core.Path.{refl}
+use mathlib.Core.Option.{none}
+use Rattle.edit_answers.proofs.Sessions.{not-left, bare-stepped, mark-left, mark-not}
 use borrow.Author.Needs.{needs}
 use Rattle.dgn_marks.proofs.dgn_mark.Statement.{statement}
 use Rattle.dgn_marks.proofs.dgn_mark.Tie as tie
@@ -30,7 +32,7 @@ returns-3 c =
     let at-mark = c .before .before .before .before .before .before .before .before in
     let at-if2 = at-mark .before .before .before in
     let at-if1 = at-if2 .before in
-    mark-left _ _ _ _ _ (at-mark .mark .result) _ _ _ _ (at-if1 .if1 .left) (at-if2 .if2 .left) (at-mark .mark .ensures)
+    mark-left _ _ _ _ _ (at-mark .mark .result) _ _ _ none _ (at-if1 .if1 .left) (at-if2 .if2 .left) (bare-stepped _ _ _ refl (at-mark .mark .ensures))
     (c .before .before .put-edited .ensures)
 
 pub dgn-mark-spec : {M : Type 1} → statement M

@@ -1,5 +1,7 @@
 -- A slice that is too short leaves all as it was; else the session's own step.
-use Rattle.edit_answers.proofs.Sessions.{not-left, left}
+use mathlib.Core.Path.{refl}
+use mathlib.Core.Option.{none}
+use Rattle.edit_answers.proofs.Sessions.{not-left, bare-stepped, left}
 use borrow.Author.Needs.{needs}
 use Rattle.dgn_marks.proofs.dgn_rename.Statement.{statement}
 use Rattle.dgn_marks.proofs.dgn_rename.Tie as tie
@@ -26,7 +28,7 @@ returns-2 : tie.Need-returns-2
 returns-2 c =
     let at-rename = c .before .before .before .before .before .before .before .before in
     let at-if1 = at-rename .before .before .before in
-    left _ _ _ _ (at-rename .rename .result) _ _ _ _ (at-if1 .if1 .left) (at-rename .rename .ensures)
+    left _ _ _ _ (at-rename .rename .result) _ _ _ none _ (at-if1 .if1 .left) (bare-stepped _ _ _ refl (at-rename .rename .ensures))
     (c .before .before .put-edited .ensures)
 
 pub dgn-rename-spec : {M : Type 1} → statement M

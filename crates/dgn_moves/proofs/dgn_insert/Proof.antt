@@ -1,5 +1,7 @@
 -- A slice that is too short leaves all as it was; else the session's own step.
-use Rattle.edit_answers.proofs.Sessions.{not-left, left}
+use mathlib.Core.Path.{refl}
+use mathlib.Core.Option.{none}
+use Rattle.edit_answers.proofs.Sessions.{not-left, bare-stepped, left}
 use borrow.Author.Needs.{needs}
 use Rattle.dgn_moves.proofs.dgn_insert.Statement.{statement}
 use Rattle.dgn_moves.proofs.dgn_insert.Tie as tie
@@ -30,8 +32,8 @@ returns-2 c =
     let at-insert = c .before .before .before .before .before .before .before .before in
     let at-header-given = at-insert .before .before .before in
     let at-if1 = at-header-given .before in
-    left _ _ _ _ (at-insert .insert .result) _ _ _ _ (at-if1 .if1 .left)
-    (rw (at-header-given .header-given .ensures) at (at-insert .insert .ensures))
+    left _ _ _ _ (at-insert .insert .result) _ _ _ none _ (at-if1 .if1 .left)
+    (bare-stepped _ _ _ refl (rw (at-header-given .header-given .ensures) at (at-insert .insert .ensures)))
     (c .before .before .put-edited .ensures)
 
 pub dgn-insert-spec : {M : Type 1} → statement M

@@ -1,5 +1,6 @@
 -- Too short a slice, or each case as its numbers.
 use mathlib.Core.Path.{ap}
+use mathlib.Core.Option.{none}
 use Rattle.edit_answers.specs.Editing.{cutReply}
 use Rattle.answers.proofs.Laws.{too-short, answered}
 use borrow.Author.Needs.{needs}
@@ -31,10 +32,10 @@ same-length : tie.Need-same-length
 same-length c = search needs
 
 returns-2 : tie.Need-returns-2
-returns-2 c = answered 2 _ _ (c .before .before .before .before .args .out .now) (ap cutReply (c .before .answer .given .1)) (c .before .before .before .if1 .left)
+returns-2 c = answered 2 _ _ (c .before .before .before .before .args .out .now) (ap (λ a. cutReply a none) (c .before .answer .given .1)) (c .before .before .before .if1 .left)
 
 returns-3 : tie.Need-returns-3
-returns-3 c = answered 2 _ _ (c .before .before .before .before .args .out .now) (ap cutReply (c .before .answer2 .given .1)) (c .before .before .before .if1 .left)
+returns-3 c = answered 2 _ _ (c .before .before .before .before .args .out .now) (ap (λ a. cutReply a none) (c .before .answer2 .given .1)) (c .before .before .before .if1 .left)
 
 pub put-edited-spec : {M : Type 1} → statement M
 put-edited-spec =

@@ -1,5 +1,5 @@
--- A used length inside the journal has its last record read; one beyond it contradicts what the promise supposes.
-use mathlib.Core.Path.{sym}
+-- A used length inside the journal has its last record read; one beyond it answers a bad record.
+use mathlib.Core.Path.{refl, sym}
 use native.Mathlib.Omega.{arith}
 use lib.Seq.{length-take-le}
 use borrow.Author.Needs.{needs}
@@ -13,10 +13,10 @@ last-record-requires : tie.Need-last-record-requires
 last-record-requires c κs = search needs
 
 returns : tie.Need-returns
-returns c = λ h. (c .last-record .ensures)
+returns c = record { within = λ h. c .last-record .ensures; beyond = λ h. absurd (let l = c .before .before .if1 .taken in omega arith) }
 
 returns-2 : tie.Need-returns-2
-returns-2 c = λ h. absurd (let l = (c .if1 .left) in omega arith)
+returns-2 c = record { within = λ h. absurd (let l = c .if1 .left in omega arith); beyond = λ h. refl }
 
 pub record-by-spec : {M : Type 1} → statement M
 record-by-spec =

@@ -1,65 +1,20 @@
--- The record is read before opening, so that its place is found there; what opening refuses is the call's refusal (`closed`),
--- what it opens and the record are what `undo_opened` asks for.
+-- Of no index nothing is full.
 use mathlib.Core.Path.{refl}
-use Rattle.opening.proofs.OpenSession.{opened-ready, opened-refused, open-by, jused-within}
-use Rattle.opening.proofs.Steps.{closed}
+use mathlib.Core.Bool.{false}
+use mathlib.Core.Option.{none}
+use Rattle.undoing.proofs.Ways.{told-step}
 use borrow.Author.Needs.{needs}
 use Rattle.undoing.proofs.undo.Statement.{statement}
 use Rattle.undoing.proofs.undo.Tie as tie
 
-record-by-requires : tie.Need-record-by-requires
-record-by-requires c κs = search needs
-
-place-in-requires : tie.Need-place-in-requires
-place-in-requires c κs = search needs
-
-open-at-requires : tie.Need-open-at-requires
-open-at-requires c κs = search needs
-
-enum-known-number : tie.Need-enum-known-number
-enum-known-number c = search needs
-
-enum-known-marker : tie.Need-enum-known-marker
-enum-known-marker c = search needs
-
-undo-opened-requires : tie.Need-undo-opened-requires
-undo-opened-requires c κs =
-    let at-open-at = c .before .before .before .before in
-    let at-place-in = at-open-at .before .before in
-    let at-record-by = at-place-in .before in
-    let start = at-record-by .before .before .before in
-    let o = opened-ready (start .args .dim) (start .args .file .now) (start .args .used) (start .args .journal .now)
-    (start .args .jused) _ _ (at-open-at .open-at .ensures) _ _ (c .before .before .marker .given .1) in
-    (open-by (start .args .dim) (start .args .file .now) (start .args .used) (start .args .journal .now) (start .args .jused) (at-place-in .place-in .ensures) (o .0), (o .1, (at-record-by .record-by .ensures) (jused-within (o .0))))
+undo-within-requires : tie.Need-undo-within-requires
+undo-within-requires c κs = search needs
 
 same-length : tie.Need-same-length
 same-length c = search needs
 
 returns : tie.Need-returns
-returns c =
-    let at-open-at = c .before .before .before in
-    let start = at-open-at .before .before .before .before .before .before in
-    closed _ _ _ _ _ refl
-    (opened-refused (start .args .dim) (start .args .file .now) (start .args .used) (start .args .journal .now)
-    (start .args .jused) _ _ (at-open-at .open-at .ensures) _ _ (c .before .number .given .1))
-
-same-length-2 : tie.Need-same-length-2
-same-length-2 c = search needs
-
-returns-2 : tie.Need-returns-2
-returns-2 c = search needs
+returns c = told-step _ _ _ _ _ none false refl _ _ (λ ready rec rest e r. refl) (c .before .before .undo-within .ensures)
 
 pub undo-spec : {M : Type 1} → statement M
-undo-spec =
-    tie.close
-    (tie.spec
-    record-by-requires
-    place-in-requires
-    open-at-requires
-    enum-known-number
-    enum-known-marker
-    undo-opened-requires
-    same-length
-    returns
-    same-length-2
-    returns-2)
+undo-spec = tie.close (tie.spec undo-within-requires same-length returns)

@@ -1,6 +1,7 @@
 -- An empty journal is 17 and a bad record 19; any other is the reversal of its kind, with the bounds that the record's words
 -- have (Reversals, the laws `read-`).
-use mathlib.Core.Path.{ap}
+use mathlib.Core.Path.{ap, _∙_}
+use mathlib.Core.Bool.{false}
 use Prim.Native.Nat.{_+_, _*_, _≤_}
 use lib.ListN.{length}
 use native.Mathlib.Omega.{arith}
@@ -8,6 +9,7 @@ use Rattle.undoing.specs.Undoing.{placeIn}
 use Rattle.undoing.proofs.Ways.{open-file}
 use Rattle.opening.proofs.OpenSession.{journal-most}
 use Rattle.opening.proofs.Steps.{answered}
+use Rattle.opening.proofs.Beside.{opens-with}
 use Rattle.undoing.proofs.Ways.{undo-nothing}
 use Rattle.undoing.proofs.Reversals.{read-bad, read-flags, read-flag, read-name, read-renamed, read-inserted, read-within, read-even, read-removed}
 use borrow.Author.Needs.{needs}
@@ -18,7 +20,7 @@ refused-requires : tie.Need-refused-requires
 refused-requires c κs = search needs
 
 returns : tie.Need-returns
-returns c = answered (c .refused .ensures) (undo-nothing _ _ (c .before .before .before .before .pre .0 .ready) (c .before .if1 .taken))
+returns c = let o = c .before .before .before .before .pre .0 in answered (c .refused .ensures) (undo-nothing _ _ _ (o .ready) (c .before .if1 .taken))
 
 enum-told : tie.Need-enum-told
 enum-told c = search needs
@@ -35,7 +37,7 @@ mul-undo-flag c =
     let start = at-if1 .before .before .before in
     omega (
       arith,
-      read-flags _ _ _ _ _ (start .pre .0 .ready) (at-if1 .if1 .left) _ (start .pre .1 .1) _ _ _
+      read-flags _ _ _ _ _ (start .pre .0 .ready) (at-if1 .if1 .left) false _ (start .pre .1 .1) _ _ _
           (c .before .before .last .given .1),
       journal-most (start .pre .0),
     )
@@ -46,7 +48,7 @@ add-undo-flag c =
     let start = at-if1 .before .before .before in
     omega (
       arith,
-      read-flags _ _ _ _ _ (start .pre .0 .ready) (at-if1 .if1 .left) _ (start .pre .1 .1) _ _ _
+      read-flags _ _ _ _ _ (start .pre .0 .ready) (at-if1 .if1 .left) false _ (start .pre .1 .1) _ _ _
           (c .before .before .last .given .1),
       journal-most (start .pre .0),
     )
@@ -61,7 +63,7 @@ part-undo-flag-end : tie.Need-part-undo-flag-end
 part-undo-flag-end c =
     let at-if1 = c .before .before .before .before in
     let start = at-if1 .before .before .before in
-    read-flags _ _ _ _ _ (start .pre .0 .ready) (at-if1 .if1 .left) _ (start .pre .1 .1) _ _ _
+    read-flags _ _ _ _ _ (start .pre .0 .ready) (at-if1 .if1 .left) false _ (start .pre .1 .1) _ _ _
     (c .before .before .last .given .1)
 
 undo-flag-requires : tie.Need-undo-flag-requires
@@ -80,14 +82,14 @@ cast-undo-renamed c =
     let at-if1 = c .before .before .before .before in
     let start = at-if1 .before .before .before in
     record
-    { fits = read-name _ _ _ _ _ (start .pre .0 .ready) (at-if1 .if1 .left) _ (start .pre .1 .1) _ _ _ _ (c .before .before .last2 .given .1) .0 }
+    { fits = read-name _ _ _ _ _ (start .pre .0 .ready) (at-if1 .if1 .left) false _ (start .pre .1 .1) _ _ _ _ (c .before .before .last2 .given .1) .0 }
 
 cast-undo-renamed-2 : tie.Need-cast-undo-renamed-2
 cast-undo-renamed-2 c =
     let at-if1 = c .before .before .before .before in
     let start = at-if1 .before .before .before in
     record
-    { fits = read-name _ _ _ _ _ (start .pre .0 .ready) (at-if1 .if1 .left) _ (start .pre .1 .1) _ _ _ _ (c .before .before .last2 .given .1) .1 }
+    { fits = read-name _ _ _ _ _ (start .pre .0 .ready) (at-if1 .if1 .left) false _ (start .pre .1 .1) _ _ _ _ (c .before .before .last2 .given .1) .1 }
 
 undo-renamed-requires : tie.Need-undo-renamed-requires
 undo-renamed-requires c κs =
@@ -110,7 +112,7 @@ start4 c = c .before .before .before .before .before
 within : (c : tie.After-last4) → c .last4 .given .0 .1 .1 .1 .0 + 2 * c .last4 .given .0 .1 .1 .0 ≤ length (start4 c .args .journal .now)
 within c =
     let at-if1 = c .before .before in
-    read-within _ _ _ _ _ (start4 c .pre .0 .ready) (at-if1 .if1 .left) _ (start4 c .pre .1 .1) _ _ _ _ (c .last4 .given .1)
+    read-within _ _ _ _ _ (start4 c .pre .0 .ready) (at-if1 .if1 .left) false _ (start4 c .pre .1 .1) _ _ _ _ (c .last4 .given .1)
 
 enum-known-last-4 : tie.Need-enum-known-last-4
 enum-known-last-4 c = search needs
@@ -136,7 +138,7 @@ undo-removed-requires c κs =
     let at-if1 = at-last4 .before .before in
     let start = at-if1 .before .before .before in (
       open-file (start .args .dim) (start .args .file .now) (start .args .used) (start .args .journal .now) (start .args .jused) _ _ _ (ap placeIn (at-last4 .last4 .given .1)) (start .pre .0),
-      (start .pre .1 .0, read-even _ _ _ _ _ (start .pre .0 .ready) (at-if1 .if1 .left) _ (start .pre .1 .1) _ _ _ _ (at-last4 .last4 .given .1)),
+      (start .pre .1 .0, read-even _ _ _ _ _ (start .pre .0 .ready) (at-if1 .if1 .left) false _ (start .pre .1 .1) _ _ _ _ (at-last4 .last4 .given .1)),
     )
 
 returns-2 : tie.Need-returns-2
@@ -144,7 +146,7 @@ returns-2 c =
     let at-if1 = c .before .before .before in
     let start = at-if1 .before .before .before in
     answered (c .refused2 .ensures)
-    (read-bad _ _ _ _ _ (start .pre .0 .ready) (at-if1 .if1 .left) _ (start .pre .1 .1) (c .before .enum-told .given .1))
+    (read-bad _ _ _ _ _ (start .pre .0 .ready) (at-if1 .if1 .left) (start .args .full) _ (start .pre .1 .1) (c .before .enum-told .given .1))
 
 same-length : tie.Need-same-length
 same-length c = search needs
@@ -154,7 +156,7 @@ returns-3 c =
     let at-last = c .before .before .before .before .before .before in
     let at-if1 = at-last .before .before in
     let start = at-if1 .before .before .before in
-    read-flag _ _ _ _ _ (start .pre .0 .ready) (at-if1 .if1 .left) _ (start .pre .1 .1) _ _ _
+    read-flag _ _ _ _ _ (start .pre .0 .ready) (at-if1 .if1 .left) _ _ (start .pre .1 .1) _ _ _
     (at-last .last .given .1) _ _ (c .before .before .undo-flag .ensures)
 
 same-length-2 : tie.Need-same-length-2
@@ -165,7 +167,7 @@ returns-4 c =
     let at-last2 = c .before .before .before .before .before in
     let at-if1 = at-last2 .before .before in
     let start = at-if1 .before .before .before in
-    read-renamed _ _ _ _ _ (start .pre .0 .ready) (at-if1 .if1 .left) _ (start .pre .1 .1) _ _ _ _
+    read-renamed _ _ _ _ _ (start .pre .0 .ready) (at-if1 .if1 .left) _ _ (start .pre .1 .1) _ _ _ _
     (at-last2 .last2 .given .1) _ _ (c .before .before .undo-renamed .ensures)
 
 same-length-3 : tie.Need-same-length-3
@@ -176,7 +178,7 @@ returns-5 c =
     let at-last3 = c .before .before .before .before .before in
     let at-if1 = at-last3 .before .before in
     let start = at-if1 .before .before .before in
-    read-inserted _ _ _ _ _ (start .pre .0 .ready) (at-if1 .if1 .left) _ (start .pre .1 .1) _ _ _
+    read-inserted _ _ _ _ _ (start .pre .0 .ready) (at-if1 .if1 .left) _ _ (start .pre .1 .1) _ _ _
     (at-last3 .last3 .given .1) _ _ (c .before .before .undo-inserted .ensures)
 
 same-length-4 : tie.Need-same-length-4
@@ -187,7 +189,7 @@ returns-6 c =
     let at-last4 = c .before .before .before .before .before .before in
     let at-if1 = at-last4 .before .before in
     let start = at-if1 .before .before .before in
-    read-removed _ _ _ _ _ (start .pre .0 .ready) (at-if1 .if1 .left) _ (start .pre .1 .1) _ _ _ _
+    read-removed _ _ _ _ _ (start .pre .0 .ready) (at-if1 .if1 .left) _ _ (start .pre .1 .1) _ _ _ _
     (at-last4 .last4 .given .1) _ _ (c .before .before .undo-removed .ensures)
 
 pub undo-opened-spec : {M : Type 1} → statement M

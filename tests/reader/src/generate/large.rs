@@ -197,6 +197,25 @@ pub fn most_elements() -> Valid {
     finish(&nodes, 2, &[])
 }
 
+/// A file of 14,979 library cells of 35 words, as many as a file can hold,
+/// with that many names in turn.
+pub fn most_cells(names: usize) -> Valid {
+    let nodes: Vec<Node> = (0..14_979)
+        .map(|k| {
+            let mut own = vec![0; 35];
+            own[0] = 1 << 8 | u16::from(k % 5 == 0) << 15;
+            own[1] = 33;
+            // Three letters A to Z each, the second word the first to change.
+            let name = (names - 1 - k % names) as u16;
+            let letters = |n: u16| (n / 26 % 26 + 1) * 40 + n % 26 + 1;
+            own[16] = 1600 + letters(name / 676);
+            own[17] = 1600 + letters(name % 676);
+            Node::new(own)
+        })
+        .collect();
+    finish(&nodes, 2, &[])
+}
+
 /// A file of exactly 1,048,576 bytes, the marker its last word.
 pub fn longest_file() -> Valid {
     let mut nodes = vec![Node::new(raw_of(2, false)); 262_142];

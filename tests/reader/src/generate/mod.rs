@@ -4,10 +4,12 @@
 //! function of `large` is asked.
 
 pub mod blocks;
+pub mod cells;
 pub mod changes;
 pub mod elements;
 pub mod faults;
 pub mod files;
+pub mod indexes;
 pub mod journals;
 pub mod large;
 pub mod moves;
@@ -23,6 +25,7 @@ pub mod writes;
 
 pub use faults::{aimed, two_faults, Aimed, ORDER};
 pub use files::{valid, Valid};
+pub use indexes::{any_index, indexed_session, rough_indexed_session, IndexedSession};
 pub use journals::undo_state;
 pub use places::{place, places};
 pub use random::Random;

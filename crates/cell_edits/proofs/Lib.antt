@@ -1,0 +1,3 @@
+pub mod Trees
+pub mod Moves
+pub mod After

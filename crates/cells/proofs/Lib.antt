@@ -1,0 +1,5 @@
+pub mod Own
+pub mod Trees
+pub mod Whole
+pub mod Counts
+pub mod Index

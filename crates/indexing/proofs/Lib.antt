@@ -1,0 +1,4 @@
+pub mod Fills
+pub mod Builds
+pub mod Lists
+pub mod Puts

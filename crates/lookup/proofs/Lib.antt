@@ -1,0 +1,4 @@
+pub mod Turns
+pub mod Halving
+pub mod Named
+pub mod Finding
