@@ -47,7 +47,7 @@ int main(int argc, char **argv)
     size_t found[DGN_FIND_NUMBERS];
     r = dgn_find(file, len, 2, (const uint8_t *)argv[2], strlen(argv[2]), found, DGN_FIND_NUMBERS);
     if (DGN_NUMBER(r) == DGN_NO_SUCH) {
-        printf("%s: in none of %zu elements\n", argv[2], DGN_COUNT(r));
+        printf("%s: no live part among %zu elements\n", argv[2], DGN_COUNT(r));
         return ended(1);
     }
     if (r != 0)

@@ -9,8 +9,8 @@
  *   DGN_NUMBER(r)  is its number, one of enum dgn_refusal,
  *   DGN_PLACE(r)   its place: the word where the element at fault begins, of words left over after a piece the first
  *                  of them, for DGN_NO_END the end of the file, for DGN_BLOCK the number of the block, else 0,
- *   DGN_COUNT(r)   for DGN_NO_SUCH of dgn_find how many elements the file has, of dgn_look_up how many looks were made,
- *                  else 0.
+ *   DGN_COUNT(r)   for DGN_NO_SUCH of dgn_find and dgn_find_with_deleted how many elements the file has, of dgn_look_up and
+ *                  dgn_look_up_with_deleted how many looks were made, else 0.
  * A REFUSAL CHANGES NO BYTE OF ANY SLICE, `out` AMONG THEM. Where a function is done, its answer stands at the front of
  * `out`; each says how many numbers that needs, and what stands behind them stays. With fewer it returns 1.
  *
@@ -134,11 +134,16 @@ enum { DGN_JUDGE_ELEMENTS, DGN_JUDGE_DEPTH, DGN_JUDGE_MARKER };
 #define DGN_JUDGE_NUMBERS 3
 size_t dgn_judge(const uint8_t *file, size_t len, size_t dimension, size_t *out, size_t out_len);
 
-/* The first type 1 or 2 cell with the name, deleted ones too. out needs 2: its place, and how many elements were looked
- * at. Refusals: 1, the file's own, 12 for the text at 0, 13 with DGN_COUNT(r). */
+/* The first live type 1 or 2 cell with the name: those whose own deleted flag is set are passed over, also beneath a live
+ * header; one beneath a deleted header is live if its own flag is clear. out needs 2: its place, and how many elements were
+ * looked at, those passed over among them. Refusals: 1, the file's own, 12 for the text at 0, 13 with DGN_COUNT(r), also where
+ * only deleted cells have the name. */
 enum { DGN_FIND_PLACE, DGN_FIND_LOOKED };
 #define DGN_FIND_NUMBERS 2
 size_t dgn_find(const uint8_t *file, size_t len, size_t dimension, const uint8_t *text, size_t text_len, size_t *out, size_t out_len);
+
+/* The first type 1 or 2 cell with the name, be it live or deleted: as for a screen that restores parts. The rest as dgn_find. */
+size_t dgn_find_with_deleted(const uint8_t *file, size_t len, size_t dimension, const uint8_t *text, size_t text_len, size_t *out, size_t out_len);
 
 /* ---- all elements: those number k, k+1, .. in file order. Refusals of each: 1, the file's own, 15 ---- */
 
@@ -302,14 +307,23 @@ size_t dgn_cells(const uint8_t *file, size_t len, size_t dimension, uint8_t *ent
 #define DGN_INDEX_NUMBERS 1
 size_t dgn_index(const uint8_t *file, size_t len, size_t dimension, uint8_t *index, size_t index_len, size_t *out, size_t out_len);
 
-/* The lowest place of a cell with the name, by the first `used` bytes of an index; for the text see dgn_pack. No file is read. out
- * needs 2: the place, and how many looks at entries were made, at most one more than the binary digits of the number of
- * entries. Over the index of a file the place is that of dgn_find. Any bytes may be handed in: the answer is then the place
- * that stands where the search by halving ends. Refusals: 1 (a used length that is not a multiple of 8, or beyond the buffer),
- * 12 for the text at 0, 13 with DGN_COUNT(r) the looks. */
+/* The first live cell with the name, by a file and the first `used` bytes of its index; for the text see dgn_pack. Over the index of
+ * the file the place is that of dgn_find. Of the entries of the name, from where the search by halving ends, those are passed over
+ * whose place starts a deleted cell of the file, or no cell: so an index that is not the file's leads to a live cell, or to 13. The
+ * name of the cell itself is not compared. out needs 2: the place, and how many looks at entries were made: at most those of
+ * dgn_look_up_with_deleted and one for each entry of the name. Judges once and goes over the sizes once; 16 KiB of stack. Refusals:
+ * 1 (also a used length that is not a multiple of 8, or beyond the buffer), the file's own, 12 for the text at 0, 13 with
+ * DGN_COUNT(r) the looks, or 524288 where there were more. */
 enum { DGN_LOOK_UP_PLACE, DGN_LOOK_UP_LOOKS };
 #define DGN_LOOK_UP_NUMBERS 2
-size_t dgn_look_up(const uint8_t *index, size_t index_len, size_t used, const uint8_t *text, size_t text_len, size_t *out, size_t out_len);
+size_t dgn_look_up(const uint8_t *file, size_t len, size_t dimension, const uint8_t *index, size_t index_len, size_t used, const uint8_t *text, size_t text_len, size_t *out, size_t out_len);
+
+/* The lowest place of a cell with the name, be it live or deleted, by the first `used` bytes of an index. No file is read. out
+ * needs 2: the place, and how many looks at entries were made, at most one more than the binary digits of the number of
+ * entries. Over the index of a file the place is that of dgn_find_with_deleted. Any bytes may be handed in: the answer is then the
+ * place that stands where the search by halving ends. Refusals: 1 (a used length that is not a multiple of 8, or beyond the
+ * buffer), 12 for the text at 0, 13 with DGN_COUNT(r) the looks. */
+size_t dgn_look_up_with_deleted(const uint8_t *index, size_t index_len, size_t used, const uint8_t *text, size_t text_len, size_t *out, size_t out_len);
 
 /* ---- writing ---- */
 

@@ -70,10 +70,16 @@ static inline size_t dgn_session_index(struct dgn_session *s)
     return r;
 }
 
-/* dgn_look_up in the session's index: the name is a string, and out needs 2. */
+/* dgn_look_up in the session's index, by its file: the name is a string, and out needs 2. */
 static inline size_t dgn_session_look_up(const struct dgn_session *s, const char *name, size_t *out, size_t out_len)
 {
-    return dgn_look_up(s->index, s->index_len, s->iused, (const uint8_t *)name, strlen(name), out, out_len);
+    return dgn_look_up(s->file, s->used, s->dimension, s->index, s->index_len, s->iused, (const uint8_t *)name, strlen(name), out, out_len);
+}
+
+/* dgn_look_up_with_deleted in the session's index alone. */
+static inline size_t dgn_session_look_up_with_deleted(const struct dgn_session *s, const char *name, size_t *out, size_t out_len)
+{
+    return dgn_look_up_with_deleted(s->index, s->index_len, s->iused, (const uint8_t *)name, strlen(name), out, out_len);
 }
 
 /* Keeps the used lengths of a call that is made. */

@@ -111,6 +111,14 @@ static void reading(void)
     check(dgn_find(file, len, 2, TEXT("00417"), fresh(), 2) == 0 && ARE(0, 1), "find");
     check(refused(dgn_find(file, len, 2, TEXT("417"), fresh(), 2), DGN_NO_SUCH, 2), "not 417, and the count");
     check(refused(dgn_find(file, len, 2, TEXT("a"), fresh(), 2), DGN_NAME, 0), "no name");
+    check(dgn_find_with_deleted(file, len, 2, TEXT("00417"), fresh(), 2) == 0 && ARE(0, 1), "find with deleted cells, a live one");
+    file[1] ^= 128;
+    check(refused(dgn_find(file, len, 2, TEXT("00417"), fresh(), 2), DGN_NO_SUCH, 2), "a deleted cell is passed over and counted");
+    check(dgn_find_with_deleted(file, len, 2, TEXT("00417"), fresh(), 2) == 0 && ARE(0, 1), "a deleted cell, asked for");
+    check(refused(dgn_find_with_deleted(file, len, 2, TEXT("417"), fresh(), 2), DGN_NO_SUCH, 2), "no 417, deleted or not");
+    check(refused(dgn_find_with_deleted(file, len, 2, TEXT("a"), fresh(), 2), DGN_NAME, 0), "no name of a deleted cell");
+    check(refused(dgn_find_with_deleted(file, len, 2, TEXT("00417"), fresh(), 1), DGN_CALL, 0), "one number for two");
+    file[1] ^= 128;
     check(dgn_extent(file, len, 2, 0, fresh(), 2) == 0 && ARE(0, 72), "extent");
     check(refused(dgn_extent(file, len, 2, 45, fresh(), 2), DGN_NO_SUCH, 0), "no such place");
     file[92] ^= 64;
@@ -337,7 +345,7 @@ static void indexing(void)
     check(dgn_index(parts + 280, 2, 2, NULL, 0, fresh(), 1) == 0 && ARE(0), "no cell");
     check(dgn_index(file, len, 2, room, DGN_INDEX_ROOM(sizeof file), fresh(), 1) == 0 && ARE(8), "one cell, and room enough");
 
-#define LOOK_UP(used, text, out_len) dgn_look_up(in_index, 32, used, TEXT(text), fresh(), out_len)
+#define LOOK_UP(used, text, out_len) dgn_look_up_with_deleted(in_index, 32, used, TEXT(text), fresh(), out_len)
     check(LOOK_UP(32, "417", 2) == 0 && ARE(0, 3), "the lowest place of two");
     check(LOOK_UP(32, "00417", 2) == 0 && ARE(35, 4), "look up");
     check(LOOK_UP(32, "A", 2) == 0 && ARE(105, 4), "the first entry");
@@ -348,7 +356,27 @@ static void indexing(void)
     check(refused(LOOK_UP(32, "a", 2), DGN_NAME, 0), "no name to look up");
     check(refused(LOOK_UP(31, "417", 2), DGN_CALL, 0) && refused(LOOK_UP(40, "417", 2), DGN_CALL, 0), "no whole entries, and beyond the buffer");
     check(refused(LOOK_UP(32, "417", 1), DGN_CALL, 0), "one number for a place and looks");
-    check(dgn_look_up(in_file, 32, 32, TEXT("417"), fresh(), 2) == 0 && ARE(70, 3), "over entries that are in no order");
+    check(dgn_look_up_with_deleted(in_file, 32, 32, TEXT("417"), fresh(), 2) == 0 && ARE(70, 3), "over entries that are in no order");
+
+    /* by the file too: 417 stands at 0 and at 70 */
+#define LIVE(used, text, out_len) dgn_look_up(parts, sizeof parts, 2, in_index, 32, used, TEXT(text), fresh(), out_len)
+    check(LIVE(32, "417", 2) == 0 && ARE(0, 3), "the first of two live cells");
+    parts[1] ^= 128;
+    check(LIVE(32, "417", 2) == 0 && ARE(70, 4), "the first is deleted, and one look more");
+    check(LOOK_UP(32, "417", 2) == 0 && ARE(0, 3), "the deleted one, asked for");
+    check(dgn_find(parts, sizeof parts, 2, TEXT("417"), fresh(), 2) == 0 && ARE(70, 3), "as the finder");
+    parts[141] ^= 128;
+    check(refused(LIVE(32, "417", 2), DGN_NO_SUCH, 4), "both are deleted");
+    check(LIVE(32, "00417", 2) == 0 && ARE(35, 4), "another one is live");
+    parts[1] ^= 128, parts[141] ^= 128;
+    check(dgn_look_up(file, len, 2, in_index, 32, 32, TEXT("417"), fresh(), 2) == 0 && ARE(0, 3), "of another file: a live cell stands there");
+    check(refused(dgn_look_up(file, len, 2, in_index, 32, 32, TEXT("00417"), fresh(), 2), DGN_NO_SUCH, 4), "none stands there");
+    check(refused(LIVE(32, "418", 2), DGN_NO_SUCH, 2) && refused(LIVE(0, "417", 2), DGN_NO_SUCH, 0), "looks without the name");
+    check(refused(LIVE(32, "a", 2), DGN_NAME, 0), "no name to look up in a file");
+    check(refused(dgn_look_up(parts, 280, 2, in_index, 32, 31, TEXT("a"), fresh(), 2), DGN_CALL, 0), "no whole entries, before the file's own");
+    check(refused(dgn_look_up(parts, 280, 2, in_index, 32, 32, TEXT("a"), fresh(), 2), DGN_NO_END, 140), "the file's own, before the text's");
+    check(refused(dgn_look_up(parts, sizeof parts, 4, in_index, 32, 32, TEXT("417"), fresh(), 2), DGN_CALL, 0), "look up in dimension 4");
+    check(refused(LIVE(32, "417", 1), DGN_CALL, 0), "one number for the place of a live cell and looks");
 }
 
 /* the line taken out, put back beneath the cell, the cell renamed and marked, then all undone */

@@ -167,9 +167,9 @@ fn looked_up(rounds: usize) {
         let mut most = 0;
         for name in names.iter().map(|name| &name[..]).chain([ABSENT]) {
             let mut out = [0; 2];
-            let returned = raw::look_up(&index, used, name, &mut out);
-            let theirs = reader::look_up(&index, used as u64, name);
-            let found = reader::find(&file, 2, name).map(|found| found.place);
+            let returned = raw::look_up_with_deleted(&index, used, name, &mut out);
+            let theirs = reader::look_up_with_deleted(&index, used as u64, name);
+            let found = reader::find_with_deleted(&file, 2, name).map(|found| found.place);
             assert_eq!(theirs.clone().map(|found| found.place).ok(), found.ok());
             match theirs {
                 Ok(found) => assert_eq!((returned, out), (0, [found.place as usize, found.looked as usize])),
@@ -183,7 +183,7 @@ fn looked_up(rounds: usize) {
                     let mut out = [0; 2];
                     // not in the order of the index
                     let name = &names[k * 617 % names.len()];
-                    assert_eq!(raw::look_up(black_box(&index), used, name, black_box(&mut out)), 0);
+                    assert_eq!(raw::look_up_with_deleted(black_box(&index), used, name, black_box(&mut out)), 0);
                 }
             }),
             Box::new(|| assert!(calls::find(black_box(&file), 2, ABSENT).is_err())),

@@ -1,5 +1,6 @@
 //! The elements and the cells of a file that the library accepts.
 
+use crate::help::Choice;
 use crate::output::{self, Stop};
 use dgn::raw::VIEW_NUMBERS;
 use dgn::{Dimension, Type, View};
@@ -112,6 +113,18 @@ pub fn state(deleted: bool) -> &'static str {
         "deleted"
     } else {
         "live"
+    }
+}
+
+/// The option of those subcommands that pass over deleted cells.
+pub const ALL: Choice = Choice { long: "all", short: Some('a'), value: None, text: "Show deleted parts too." };
+
+/// That so many deleted cells were passed over; nothing where there are none.
+pub fn passed(deleted: usize) -> String {
+    match deleted {
+        0 => String::new(),
+        1 => "; 1 deleted passed over (--all shows it)".into(),
+        _ => format!("; {} deleted passed over (--all shows them)", output::grouped(deleted)),
     }
 }
 

@@ -110,7 +110,7 @@ pub struct LookedUp {
 /// let file = std::fs::read(concat!(env!("CARGO_MANIFEST_DIR"), "/../samples/seals.cel"))?;
 /// let index = Index::of(&file, Dimension::Two)?;
 /// assert_eq!(index.used(), 32); // four cells
-/// let part = index.look_up("417")?;
+/// let part = index.look_up(&file, Dimension::Two, "417")?;
 /// assert_eq!((part.place, part.looks), (181, 3));
 /// # Ok::<(), Box<dyn std::error::Error>>(())
 /// ```
@@ -147,7 +147,7 @@ impl<B: AsMut<[u8]>> Index<B> {
 }
 
 impl<B: AsRef<[u8]>> Index<B> {
-    /// An index that was kept, by its buffer and its used length. Any bytes are taken; [`look_up`](Index::look_up) judges the length.
+    /// An index that was kept, by its buffer and its used length. Any bytes are taken; the look-ups judge the length.
     pub fn resume(buffer: B, used: usize) -> Index<B> {
         Index { buffer, used }
     }
@@ -172,13 +172,27 @@ impl<B: AsRef<[u8]>> Index<B> {
         Entries::of(self.bytes())
     }
 
-    /// The lowest place of a cell with the name; no file is read. Over the index of a file it is the place that
-    /// [`find`](crate::find) gives; over any other bytes it is what stands where the search by halving ends. Refusals: 1 (the
-    /// used length is not a multiple of 8, or beyond the buffer), 12 for the text, 13 with the number of looks as its count.
-    pub fn look_up(&self, text: impl AsRef<[u8]>) -> Result<LookedUp, Refusal> {
-        let mut out = [0; 2];
-        let returned = raw::look_up(self.buffer.as_ref(), self.used, text.as_ref(), &mut out);
-        refused_by(returned, Refusal::of_find)?;
-        Ok(LookedUp { place: out[0], looks: out[1] })
+    /// The first live cell with the name, by the file that it is the index of: the place that [`find`](crate::find) gives. Entries
+    /// of the name whose place starts a deleted cell of the file, or no cell, are passed over, so an index that is not the
+    /// file's leads to a live cell of it or to 13. Refusals: 1 (also a used length that is not a multiple of 8, or beyond the
+    /// buffer), the file's own, 12 for the text, 13 with the number of looks as its count, 524,288 where there were more.
+    pub fn look_up(&self, file: &[u8], dimension: Dimension, text: impl AsRef<[u8]>) -> Result<LookedUp, Refusal> {
+        let (index, text) = (self.buffer.as_ref(), text.as_ref());
+        looked_up(|out| raw::look_up(file, dimension as usize, index, self.used, text, out))
     }
+
+    /// The lowest place of a cell with the name, be it live or deleted; no file is read. Over the index of a file it is the place
+    /// that [`find_with_deleted`](crate::find_with_deleted) gives; over any other bytes it is what stands where the search by
+    /// halving ends. Refusals: 1 (the used length is not a multiple of 8, or beyond the buffer), 12 for the text, 13 with the
+    /// number of looks as its count.
+    pub fn look_up_with_deleted(&self, text: impl AsRef<[u8]>) -> Result<LookedUp, Refusal> {
+        looked_up(|out| raw::look_up_with_deleted(self.buffer.as_ref(), self.used, text.as_ref(), out))
+    }
+}
+
+/// What a look-up gives.
+fn looked_up(call: impl FnOnce(&mut [usize]) -> usize) -> Result<LookedUp, Refusal> {
+    let mut out = [0; 2];
+    refused_by(call(&mut out), Refusal::of_find)?;
+    Ok(LookedUp { place: out[0], looks: out[1] })
 }

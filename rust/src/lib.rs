@@ -55,7 +55,7 @@ pub use elements::{Bounds, Dimension, DisplayHeader, Linkage, LinkageKind, Point
 pub use indexes::{all_cells, cells, index_room, Cells, Entries, Entry, Index, LookedUp, ENTRY_BYTES};
 pub use journals::{blocks_of_journal, journal_of_blocks, record, Edit, History, Record};
 pub use names::{pack, unpack, Name};
-pub use reading::{extent, find, judge, linkage, point, view, Found, Judged};
+pub use reading::{extent, find, find_with_deleted, judge, linkage, point, view, Found, Judged};
 pub use refusals::{Number, Refusal};
 pub use sessions::Session;
 pub use texts::{

@@ -60,6 +60,9 @@ functions! {
     /// out: the place, how many elements were looked at.
     pub fn find(file: &[u8], dim: usize, text: &[u8], out: &mut [usize]) = dgn_find;
 
+    /// out: the same.
+    pub fn find_with_deleted(file: &[u8], dim: usize, text: &[u8], out: &mut [usize]) = dgn_find_with_deleted;
+
     /// out: the first word, the word after the last.
     pub fn extent(file: &[u8], dim: usize, place: usize, out: &mut [usize]) = dgn_extent;
 
@@ -103,7 +106,14 @@ functions! {
     pub fn index(file: &[u8], dim: usize, index: &mut [u8], out: &mut [usize]) = dgn_index;
 
     /// out: the place, how many looks.
-    pub fn look_up(index: &[u8], used: usize, text: &[u8], out: &mut [usize]) = dgn_look_up;
+    pub fn look_up(
+        file: &[u8], dim: usize,
+        index: &[u8], used: usize,
+        text: &[u8], out: &mut [usize]
+    ) = dgn_look_up;
+
+    /// out: the same.
+    pub fn look_up_with_deleted(index: &[u8], used: usize, text: &[u8], out: &mut [usize]) = dgn_look_up_with_deleted;
 
     /// out: the words written to the front of `buffer`.
     pub fn write(

@@ -32,11 +32,26 @@ pub struct Found {
     pub looked_at: usize,
 }
 
-/// The first type 1 or 2 cell with the name, deleted ones too. Refusals: 1, the file's own, 12 for the text, 13 with the
-/// count of all elements.
+/// The first live type 1 or 2 cell with the name: cells whose own deleted flag is set are passed over, and counted. Refusals: 1, the
+/// file's own, 12 for the text, 13 with the count of all elements, also where only deleted cells have the name.
 pub fn find(file: &[u8], dimension: Dimension, text: impl AsRef<[u8]>) -> Result<Found, Refusal> {
+    found(raw::find, file, dimension, text.as_ref())
+}
+
+/// The first type 1 or 2 cell with the name, be it live or deleted. Refusals as those of [`find`].
+pub fn find_with_deleted(file: &[u8], dimension: Dimension, text: impl AsRef<[u8]>) -> Result<Found, Refusal> {
+    found(raw::find_with_deleted, file, dimension, text.as_ref())
+}
+
+/// What one of the two functions of [`raw`] finds.
+fn found(
+    by: fn(&[u8], usize, &[u8], &mut [usize]) -> usize,
+    file: &[u8],
+    dimension: Dimension,
+    text: &[u8],
+) -> Result<Found, Refusal> {
     let mut out = [0; 2];
-    refused_by(raw::find(file, dimension as usize, text.as_ref(), &mut out), Refusal::of_find)?;
+    refused_by(by(file, dimension as usize, text, &mut out), Refusal::of_find)?;
     Ok(Found { place: out[0], looked_at: out[1] })
 }
 

@@ -83,19 +83,21 @@ pub struct Refusal {
     pub number: Number,
     /// The word where the element at fault begins; of [`Number::Block`] the number of the block; 0 where the refusal names none.
     pub place: usize,
-    /// Where there is no such name: of [`find`](crate::find) the count of all elements, of
-    /// [`Index::look_up`](crate::Index::look_up) that of its looks; else 0.
+    /// Where there is no such name: of [`find`](crate::find) and [`find_with_deleted`](crate::find_with_deleted) the count of all
+    /// elements, of [`Index::look_up`](crate::Index::look_up) and
+    /// [`Index::look_up_with_deleted`](crate::Index::look_up_with_deleted) that of its looks; else 0.
     pub count: usize,
 }
 
 impl Refusal {
-    /// What a function of [`raw`](crate::raw) other than `find` and `look_up` returned; none for 0, and for what none returns.
+    /// What a function of [`raw`](crate::raw) other than `find`, `look_up` and the two with deleted cells returned; none for 0, and for
+    /// what none returns.
     pub fn of(returned: usize) -> Option<Refusal> {
         let number = Number::of(returned % 256)?;
         Some(Refusal { number, place: returned / 256, count: 0 })
     }
 
-    /// The same for `find` and `look_up`, whose 13 has the count in its place's stead.
+    /// The same for those four, whose 13 has the count in its place's stead.
     pub fn of_find(returned: usize) -> Option<Refusal> {
         let refusal = Refusal::of(returned)?;
         Some(match refusal.number {

@@ -100,20 +100,25 @@ fn looked_up() {
     let index = Index::of(&file, TWO).unwrap();
     // entries EMPTY, PUMP.1, 00417, 417
     for (text, place, looks) in [("EMPTY", 386, 4), ("PUMP.1", 286, 4), ("00417", 0, 3), ("417", 181, 3)] {
-        assert_eq!(index.look_up(text), Ok(LookedUp { place, looks }), "{text}");
+        assert_eq!(index.look_up_with_deleted(text), Ok(LookedUp { place, looks }), "{text}");
+        assert_eq!(index.look_up(&file, TWO, text), Ok(LookedUp { place, looks }), "{text}");
         assert_eq!(dgn::find(&file, TWO, text).map(|found| found.place), Ok(place));
     }
     for (text, looks) in [("A", 4), ("PUMP", 4), ("PUMP.2", 3), ("9", 2)] {
-        assert_eq!(index.look_up(text), refused(Number::NoSuch, 0, looks), "{text}");
+        assert_eq!(index.look_up_with_deleted(text), refused(Number::NoSuch, 0, looks), "{text}");
+        assert_eq!(index.look_up(&file, TWO, text), refused(Number::NoSuch, 0, looks), "{text}");
     }
-    assert_eq!(index.look_up("small"), refused(Number::Name, 0, 0));
+    assert_eq!(index.look_up_with_deleted("small"), refused(Number::Name, 0, 0));
 
     // no entry, and one: two looks, or one where its name is smaller
     let none = Index::of(&sample("empty.dgn"), TWO).unwrap();
-    assert_eq!(none.look_up("417"), refused(Number::NoSuch, 0, 0));
+    assert_eq!(none.look_up_with_deleted("417"), refused(Number::NoSuch, 0, 0));
     let one = Index::resume(&index.bytes()[8..16], 8);
-    assert_eq!(one.look_up("PUMP.1"), Ok(LookedUp { place: 286, looks: 2 }));
-    assert_eq!((one.look_up("A"), one.look_up("Z")), (refused(Number::NoSuch, 0, 2), refused(Number::NoSuch, 0, 1)));
+    assert_eq!(one.look_up_with_deleted("PUMP.1"), Ok(LookedUp { place: 286, looks: 2 }));
+    assert_eq!(
+        (one.look_up_with_deleted("A"), one.look_up_with_deleted("Z")),
+        (refused(Number::NoSuch, 0, 2), refused(Number::NoSuch, 0, 1))
+    );
 }
 
 #[test]
@@ -121,7 +126,7 @@ fn other_bytes() {
     let index = Index::of(&sample("seals.cel"), TWO).unwrap();
     for used in 0..40 {
         let part = Index::resume(index.bytes(), used);
-        let is_call = part.look_up("417").is_err_and(|refusal| refusal.number == Number::Call);
+        let is_call = part.look_up_with_deleted("417").is_err_and(|refusal| refusal.number == Number::Call);
         assert_eq!(is_call, used % 8 != 0 || used > 32, "{used}");
     }
     // beyond the buffer there are no entries; of a part of one none
@@ -129,8 +134,62 @@ fn other_bytes() {
     assert_eq!(Index::resume(index.bytes(), 15).entries().len(), 1);
     // any bytes: the place that stands where the search ends, unsigned
     let any = [0xff; 16];
-    assert_eq!(Index::resume(&any, 16).look_up("417"), refused(Number::NoSuch, 0, 3));
+    assert_eq!(Index::resume(&any, 16).look_up_with_deleted("417"), refused(Number::NoSuch, 0, 3));
     let mut far = index.bytes()[24..].to_vec();
     far[4..].fill(0xff);
-    assert_eq!(Index::resume(far, 8).look_up("417"), Ok(LookedUp { place: 0xffff_ffff, looks: 2 }));
+    assert_eq!(Index::resume(far, 8).look_up_with_deleted("417"), Ok(LookedUp { place: 0xffff_ffff, looks: 2 }));
+}
+
+/// The worked cell so many times, those of the list deleted.
+fn cells(count: usize, deleted: &[usize]) -> Vec<u8> {
+    let one = &cell()[..144];
+    let mut file = one.repeat(count);
+    deleted.iter().for_each(|&k| file[144 * k + 1] |= 128);
+    file.extend(dgn::END_MARKER);
+    file
+}
+
+/// Entries of 00417 at places, in this order.
+fn entries(places: &[usize]) -> Vec<u8> {
+    let name = dgn::pack("00417").unwrap();
+    let words = places.iter().flat_map(|&place| [name.first, name.second, (place >> 16) as u16, place as u16]);
+    words.flat_map(u16::to_le_bytes).collect()
+}
+
+/// Deleted cells are passed over, a look for each entry of the name; all places are those of the file.
+#[test]
+fn live_looked_up() {
+    let file = cells(3, &[0, 1]);
+    let index = Index::of(&file, TWO).unwrap();
+    assert_eq!(index.look_up_with_deleted("00417"), Ok(LookedUp { place: 0, looks: 3 }));
+    assert_eq!(index.look_up(&file, TWO, "00417"), Ok(LookedUp { place: 144, looks: 5 }));
+    assert_eq!(dgn::find(&file, TWO, "00417").map(|found| found.place), Ok(144));
+    // none is live
+    let gone = cells(3, &[0, 1, 2]);
+    assert_eq!(index.look_up(&gone, TWO, "00417"), refused(Number::NoSuch, 0, 5));
+    assert_eq!(index.look_up(&gone, TWO, "417"), refused(Number::NoSuch, 0, 2));
+    // the index, the file, the text
+    assert_eq!(Index::resume(index.bytes(), 7).look_up(&[], TWO, "small"), refused(Number::Call, 0, 0));
+    assert_eq!(index.look_up(&file[..1], TWO, "small"), refused(Number::Call, 0, 0));
+    assert_eq!(index.look_up(&[], TWO, "small"), refused(Number::NoEnd, 0, 0));
+    assert_eq!(index.look_up(&file, TWO, "small"), refused(Number::Name, 0, 0));
+    assert_eq!(index.look_up(&file, Dimension::Three, "00417"), refused(Number::Short, 0, 0));
+}
+
+/// Places that start no cell are passed over, in whatever order they stand.
+#[test]
+fn stale() {
+    let file = cells(2, &[]);
+    let at = |places: &[usize]| {
+        let bytes = entries(places);
+        Index::resume(&bytes, bytes.len()).look_up(&file, TWO, "00417")
+    };
+    for stale in [1, 46, 71, 73, 144, 145, 524_287, 524_288, 0xffff_ffff] {
+        assert_eq!(at(&[stale, 72]), Ok(LookedUp { place: 72, looks: 4 }), "{stale}");
+        assert_eq!(at(&[stale]), refused(Number::NoSuch, 0, 2), "{stale}");
+    }
+    assert_eq!(at(&[72, 0]), Ok(LookedUp { place: 72, looks: 3 }));
+    // many of them, falling: each costs one look
+    let falling: Vec<usize> = (1..100_000).rev().map(|k| 144 + k).chain([0]).collect();
+    assert_eq!(at(&falling).map(|found| found.place), Ok(0));
 }

@@ -29,6 +29,27 @@ fn found() {
     assert_eq!(dgn::find(&sample("shortened.cel"), TWO, "417"), Err(refused(Number::Cut, 155)));
 }
 
+/// Deleted cells are passed over and counted; asked for, they are found.
+#[test]
+fn deleted() {
+    let mut file = cell();
+    file.truncate(144);
+    let live = file.clone();
+    file[1] |= 128;
+    file.extend([255, 255]);
+    let none = Err(Refusal { number: Number::NoSuch, place: 0, count: 2 });
+    assert_eq!(dgn::find(&file, TWO, "00417"), none);
+    let found = dgn::find_with_deleted(&file, TWO, "00417").unwrap();
+    assert_eq!((found.place, found.looked_at), (0, 1));
+    assert_eq!(dgn::find_with_deleted(&file, TWO, "417"), none);
+    assert_eq!(dgn::find_with_deleted(&file, TWO, "small"), Err(refused(Number::Name, 0)));
+
+    file.splice(144.., live);
+    file.extend([255, 255]);
+    let found = dgn::find(&file, TWO, "00417").unwrap();
+    assert_eq!((found.place, found.looked_at), (72, 3));
+}
+
 #[test]
 fn one_element() {
     let file = cell();

@@ -190,8 +190,10 @@ fn with_an_index() {
     both(&mut session, &mut plain, &|s| s.insert(None, 0, &piece(false)));
     both(&mut session, &mut plain, &|s| s.mark(0, true));
     assert_eq!(session.index().map(Index::used), Some(24));
-    assert_eq!(session.index().unwrap().look_up("417").map(|found| found.place), Ok(72));
-    assert_eq!(session.index().unwrap().look_up("00417").map(|found| found.place), Ok(0));
+    assert_eq!(session.index().unwrap().look_up_with_deleted("417").map(|found| found.place), Ok(72));
+    assert_eq!(session.index().unwrap().look_up_with_deleted("00417").map(|found| found.place), Ok(0));
+    let live = session.index().unwrap().look_up(session.file(), TWO, "00417").map(|found| found.place);
+    assert_eq!(live.ok(), dgn::find(session.file(), TWO, "00417").map(|found| found.place).ok());
     both(&mut session, &mut plain, &|s| s.remove(0));
     both(&mut session, &mut plain, &|s| s.remove(1));
     both(&mut session, &mut plain, &|s| s.rename(46, "417"));

@@ -12,11 +12,12 @@ pub const SUBCOMMAND: Subcommand = Subcommand {
     usages: &["FILE .."],
     about: "list the parts of a file",
     text: "\
-A line for each cell, in file order: its code, its place, its depth (how many headers are above it), its state, and how many \
-elements stand under it, at all depths. A code that is empty or has spaces is in quotes.
+A line for each live cell, in file order: its code, its place, its depth (how many headers are above it), its state, and how many \
+elements stand under it, at all depths. A code that is empty or has spaces is in quotes. Deleted cells are passed over, by their own \
+mark, and the last line says how many; --all shows them, as for restore.
 
 With --tsv: file, 2D or 3D, code, place, depth, live or deleted, elements, the word after its extent.",
-    choices: &[],
+    choices: &[parts::ALL],
     words: (1, usize::MAX),
     instead: None,
     run,
@@ -25,20 +26,21 @@ With --tsv: file, 2D or 3D, code, place, depth, live or deleted, elements, the w
 fn run(arguments: &Arguments, output: &mut Output) -> Result<(), Stop> {
     for name in &arguments.words {
         if let Some(file) = File::open(name, arguments, output) {
-            list(&file, output)?;
+            list(&file, arguments.has("all"), output)?;
         }
     }
     Ok(())
 }
 
-fn list(file: &File, output: &mut Output) -> Result<(), Stop> {
+fn list(file: &File, every: bool, output: &mut Output) -> Result<(), Stop> {
     let (name, dimension) = (output::column(file.name), files::shown(file.dimension));
     if !output.tsv {
         output.line(file.heading())?;
         output.line("CODE     PLACE  DEPTH STATE   ELEMENTS")?;
     }
     let all = file.parts();
-    for part in &all {
+    let shown: Vec<_> = all.iter().filter(|part| every || !part.deleted).collect();
+    for part in &shown {
         let (place, depth, state) = (part.place, part.depth, parts::state(part.deleted));
         if output.tsv {
             output.row(&[&name, &dimension, &part.code, &place, &depth, &state, &part.elements, &part.end])?;
@@ -48,7 +50,8 @@ fn list(file: &File, output: &mut Output) -> Result<(), Stop> {
         }
     }
     if !output.tsv && !output.quiet {
-        output.line(output::count(all.len(), "part"))?;
+        let passed = parts::passed(all.len() - shown.len());
+        output.line(format_args!("{}{passed}", output::count(shown.len(), "part")))?;
     }
     Ok(())
 }

@@ -17,6 +17,7 @@ use Rattle.names.specs.declared.Packed.the-variants as text
 use Rattle.names.specs.declared.Answer.the-variants as letters
 use Rattle.names.proofs.Refusals as texts
 use Rattle.names.proofs.OneToOne as names
+use Rattle.kinds.specs.FirstWord.{deletedOf}
 use Rattle.kinds.specs.Kinds.{oneOf}
 use Rattle.limits.specs.Limits.{dimOk, callOk}
 use Rattle.files.specs.Judge.{judgeOf}
@@ -46,13 +47,18 @@ use Rattle.points_linkages.specs.declared.Attribute.the-variants as attribute
 use Rattle.points_linkages.proofs.Refusals as points
 use Rattle.points_linkages.proofs.Listed as numbered
 use Rattle.finder.specs.Finder.{findOf}
-use Rattle.finder.specs.Meaning.{Finds, Stored}
+use Rattle.finder.specs.Base as base
+use Rattle.finder.specs.Meaning.{NoneNamed, Finds, Stored}
 use Rattle.finder.specs.declared.Found.the-variants as found
+use Rattle.finder.specs.declared.Wanted.{Wanted}
+use Rattle.finder.specs.declared.Wanted.the-variants.{Live, WithDeleted}
+use Rattle.finder.proofs.Base as as-before
 use Rattle.finder.proofs.Named as named
-use Rattle.lookup.specs.Finding.{IndexHolds, IndexOnly, LookUpFinds, LooksBound}
-use Rattle.lookup.proofs.Finding as indexed
 use Rattle.lookup.specs.LookUp.{lookUpOf}
-use Rattle.indexing.specs.Indexing.{builtBy}
+use Rattle.lookup.specs.Live.{liveLookUpOf}
+use Rattle.lookup.specs.Finding.{IndexHolds, IndexOnly, LookUpFinds, LiveLookUpFinds, LooksBound, PassedCounted, LiveLooksBound}
+use Rattle.lookup.proofs.Finding as indexed
+use Rattle.lookup.proofs.Passing as passing
 use Rattle.finder.proofs.Refusals as finds
 use Rattle.walking.specs.Walk.{walkStart}
 use Rattle.linkages.specs.Linkages.{Linkages, fillFrom, linkagesFill, linkageIn}
@@ -108,6 +114,7 @@ use Rattle.view_numbers.specs.Numbers.{viewNumbers}
 use Rattle.view_numbers.proofs.Below as shown
 use Rattle.dgn.specs.JudgeFind.{judgeReply, findReply}
 use Rattle.dgn.proofs.Small as dgn
+use Rattle.indexing.specs.Indexing.{builtBy}
 use Rattle.dgn_index.specs.IndexNumbers.{cellsReply, indexReply, lookReply}
 use Rattle.dgn_index.proofs.Small as dgn-index
 use Rattle.dgn_places.specs.ExtentPoint.{extentReply, pointReply}
@@ -238,8 +245,8 @@ field-refused = texts-refused.field-refused
 pub linkage-refused : (dim : ℕ) (s : List ℕ) (at k n p : ℕ) → linkageOf dim s at k ≡ attribute.Refused n p → RefusedBy dim s (13 ∷ []) n p
 linkage-refused = points.linkage-refused
 
--- the finder with 12 or 13
-pub find-refused : (dim : ℕ) (s t : List ℕ) (n p c : ℕ) → findOf dim s t ≡ found.Refused n p c → RefusedBy dim s (12 ∷ 13 ∷ []) n p
+-- the finder with 12 or 13, be deleted cells passed over or not
+pub find-refused : (w : Wanted) (dim : ℕ) (s t : List ℕ) (n p c : ℕ) → findOf w dim s t ≡ found.Refused n p c → RefusedBy dim s (12 ∷ 13 ∷ []) n p
 find-refused = finds.find-refused
 
 -- and where judging refuses the file, every one of them answers that number and place
@@ -285,8 +292,17 @@ read-as = answers.read-as
 pub judge-small : (dim : ℕ) (s : List ℕ) → SmallReply (judgeReply (judgeOf dim s))
 judge-small = dgn.judge-small
 
-pub find-small : (dim : ℕ) (s t : List ℕ) → SmallReply (findReply (findOf dim s t))
+pub find-small : (w : Wanted) (dim : ℕ) (s t : List ℕ) → SmallReply (findReply (findOf w dim s t))
 find-small = dgn.find-small
+
+pub index-small : (dim : ℕ) (s : List ℕ) (used size : ℕ) → SmallReply (indexReply (builtBy (judgeOf dim s) used size))
+index-small = dgn-index.index-small
+
+pub look-up-small : (dim : ℕ) (s index : List ℕ) (used : ℕ) (t : List ℕ) → SmallReply (lookReply (liveLookUpOf dim s index used t))
+look-up-small = dgn-index.live-look-small
+
+pub look-up-with-deleted-small : (s : List ℕ) (used : ℕ) (t : List ℕ) → SmallReply (lookReply (lookUpOf s used t))
+look-up-with-deleted-small = dgn-index.look-small
 
 pub extent-small : (dim : ℕ) (s : List ℕ) (at : ℕ) → SmallReply (extentReply (extentAnswer dim s at))
 extent-small = dgn-places.extent-small
@@ -343,12 +359,6 @@ from-blocks-small = small-blocks.from-small
 -- the cells of a file, building an index, and the look-up in one of any length in memory
 pub cells-small : (dim : ℕ) (s : List ℕ) (count : ℕ) → SmallReply (cellsReply (judgeOf dim s) count)
 cells-small = dgn-index.cells-small
-
-pub index-small : (dim : ℕ) (s : List ℕ) (used size : ℕ) → SmallReply (indexReply (builtBy (judgeOf dim s) used size))
-index-small = dgn-index.index-small
-
-pub look-small : (s : List ℕ) (used : ℕ) (t : List ℕ) → used < 2 ^ 64 → SmallReply (lookReply (lookUpOf s used t))
-look-small = dgn-index.look-small
 
 -- the numbers that dgn_views, dgn_points and dgn_record put into their slices
 pub views-within : ViewsWithin
@@ -483,18 +493,34 @@ pub extent-none : (dim : ℕ) (s : List ℕ) (at e d m : ℕ) → judgeOf dim s 
     (extentAnswer dim s at ≡ extent.Refused 13 0) ↔ (Starts (spotsOf dim (words s)) at → ⊥)
 extent-none = seen.extent-none
 
--- the finder's count is the found element's ordinal plus one, and 13 carries the count of all elements
-pub finder-count : (dim : ℕ) (s t : List ℕ) (e d m a b : ℕ) → judgeOf dim s ≡ Accepted e d m → packed t ≡ Words a b →
-    Finds (words s) a b (spotsOf dim (words s)) (findOf dim s t)
+---- demand 2: the finder, where deleted cells are passed over (Live) and where they are not (WithDeleted)
+
+-- it finds the first in file order that has the name and is wanted; its count is that element's ordinal plus one, passed ones among
+-- them, and 13 carries the count of all elements
+pub finder-count : (w : Wanted) (dim : ℕ) (s t : List ℕ) (e d m a b : ℕ) → judgeOf dim s ≡ Accepted e d m → packed t ≡ Words a b →
+    Finds w (words s) a b (spotsOf dim (words s)) (findOf w dim s t)
 finder-count = named.finder-count
 
+-- 13 exactly where no element has the name and is wanted
+pub no-such-exactly : (w : Wanted) (dim : ℕ) (s t : List ℕ) (e d m a b : ℕ) → judgeOf dim s ≡ Accepted e d m → packed t ≡ Words a b →
+    (findOf w dim s t ≡ found.Refused 13 0 (length (spotsOf dim (words s)))) ↔ NoneNamed w (words s) a b (spotsOf dim (words s))
+no-such-exactly = named.no-such-exactly
+
+-- where deleted cells are passed over, the cell that is found is live
+pub found-live : (dim : ℕ) (s t : List ℕ) (place looked : ℕ) → findOf Live dim s t ≡ found.At place looked → deletedOf (wordAt (words s) place) ≡ 0
+found-live = named.found-live
+
+-- asked for them too, it answers of every input as it did before any were passed over
+pub asked-as-base : (dim : ℕ) (s t : List ℕ) → findOf WithDeleted dim s t ≡ base.findOf dim s t
+asked-as-base = as-before.asked-as-base
+
 -- the stored name of the cell that is found unpacks to the text, so 00417 never finds 417
-pub never-another : (dim : ℕ) (s t : List ℕ) (place looked : ℕ) → findOf dim s t ≡ found.At place looked →
+pub never-another : (w : Wanted) (dim : ℕ) (s t : List ℕ) (place looked : ℕ) → findOf w dim s t ≡ found.At place looked →
     Stored (words s) place (λ x y. unpacked x y ≡ textAnswer t)
 never-another = named.never-another
 
--- two texts that find the same place are the same text
-pub one-text : (dim : ℕ) (s t u : List ℕ) (place n k : ℕ) → findOf dim s t ≡ found.At place n → findOf dim s u ≡ found.At place k → t ≡ u
+-- two texts that find the same place, each in either way, are the same text
+pub one-text : (w v : Wanted) (dim : ℕ) (s t u : List ℕ) (place n k : ℕ) → findOf w dim s t ≡ found.At place n → findOf v dim s u ≡ found.At place k → t ≡ u
 one-text = named.one-text
 
 ---- demand 2: an index of a file's cells, and the look-up in it
@@ -517,13 +543,25 @@ cells-ok = beside.cells-ok
 pub entries-apart : EntriesApart
 entries-apart = beside.entries-apart
 
--- over the index of an accepted file the look-up finds the place that the finder finds, or refuses as it does
+-- over the index of a file the look-up with the file finds the live cell that the finder finds, or refuses as it does; the look-up that
+-- is lent no file the one that the finder finds with deleted cells
+pub live-look-up-finds : LiveLookUpFinds
+live-look-up-finds = indexed.live-look-up-file
+
 pub look-up-finds : LookUpFinds
 look-up-finds = indexed.look-up-file
 
--- over any bytes it looks at most once more than the number of entries has binary digits
+-- over any bytes the look-up without a file looks at most once more than the number of entries has binary digits
 pub looks-bound : LooksBound
 looks-bound = indexed.looks-any
+
+-- the other passes over the entries of the name whose places start no live cell, a look for each more than the first; so its looks
+-- are bounded by those and the entries of the name
+pub passed-counted : PassedCounted
+passed-counted = passing.passed-counted
+
+pub live-looks-bound : LiveLooksBound
+live-looks-bound = passing.live-looks-any
 
 ---- demand 2: the characters of a text and its fields
 

@@ -22,7 +22,7 @@ use Rattle.points_linkages.specs.declared.Point.the-variants as point
 use Rattle.points_linkages.specs.declared.Attribute.the-variants as attribute
 use Rattle.text_views.specs.TextViews.{textOf, charactersOf, fieldOf}
 use Rattle.finder.specs.Finder.{findOf}
-use Rattle.finder.specs.declared.Found.the-variants as found
+use Rattle.lookup.specs.Live.{liveLookUpOf}
 use Rattle.kinds.specs.Kinds.{isCell}
 use Rattle.headers.specs.Header.{typeAt}
 use Rattle.edits.specs.Edits.{rename}
@@ -32,7 +32,7 @@ use Rattle.edits.specs.Book.{wasRefused}
 use Rattle.demands.specs.ReadingCalls.{FileRefused, Found}
 
 pub file-refused : (dim : ℕ) (s : List ℕ) (n p : ℕ) → judgeOf dim s ≡ Refused n p → FileRefused dim s n p
-unfolding spottedAt extentAnswer viewOf pointOf linkageOf textOf charactersOf fieldOf findOf
+unfolding spottedAt extentAnswer viewOf pointOf linkageOf textOf charactersOf fieldOf findOf liveLookUpOf
 file-refused dim s n p e = record {
   extents = λ at. rw e refl;
   views = λ at. rw e refl;
@@ -41,7 +41,8 @@ file-refused dim s n p e = record {
   texts = λ at. rw e refl;
   characters = λ at. rw e refl;
   fields = λ at k. rw e refl;
-  finder = λ t. rw e refl;
+  finder = λ w t. rw e refl;
+  look-up = λ index used t ok. rw (ok, e) refl;
   cells = rw e refl;
   index = λ b. rw e refl;
   buffer = λ b. rw e refl;

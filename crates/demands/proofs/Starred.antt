@@ -26,7 +26,9 @@ use Rattle.entries.specs.Entries.{entries, image, shown}
 use Rattle.cells.specs.Cells.{cellHere, cellsOf}
 use Rattle.cells.specs.Index.{indexOf, indexBytes}
 use Rattle.indexing.specs.Indexing.{listed}
+use Rattle.finder.specs.Finder.{hasName, isHit, findOf}
 use Rattle.lookup.specs.LookUp.{halved, lookUp, lookUpOf}
+use Rattle.lookup.specs.Live.{liveCell, lookOn, liveLookUpOf}
 use Rattle.demands.specs.Starred.{allHold, starred}
 
 pub starred-hold : allHold starred ≡ true
@@ -36,5 +38,5 @@ unfolding over putWord codeOf letterOf wordFrom packed wordOk nameOk textIn text
     gapOk pieceFault insertFault removeFault restoreFault editFault recordOf recordWords lastRecord reversal reversible sessionOk
     sessionFault openFault stored editMade editWithin edited undoMade undone step completing padded closed block blocksFor storedAs used
     chunk rest sound fewest most good blocksIn firstBad flatOf
-    entries image shown cellHere cellsOf indexOf indexBytes listed halved lookUp lookUpOf
+    entries image shown cellHere cellsOf indexOf indexBytes listed halved lookUp lookUpOf hasName isHit findOf liveCell lookOn liveLookUpOf
 starred-hold = refl

@@ -4,6 +4,7 @@ pub mod SessionCases
 pub mod BlockCases
 pub mod IndexCases
 pub mod IndexPromises
+pub mod FindCases
 pub mod Starred
 pub mod Listing
 pub mod ReadingCalls

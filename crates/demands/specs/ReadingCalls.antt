@@ -1,6 +1,7 @@
 -- What the calls that read answer of a refused file, and of an element of an accepted one.
 use Prim.Native.Nat.{ℕ}
 use mathlib.Core.Path.{_≡_}
+use mathlib.Core.Bool.{true}
 use mathlib.Core.List.{List}
 use lib.ListN.{length}
 use Rattle.words.specs.Words.{words}
@@ -28,9 +29,13 @@ use Rattle.indexing.specs.declared.Built.the-variants as built
 use Rattle.indexing.specs.Indexing.{builtBy, leftBy}
 use Rattle.answers.specs.Answers.{refuse}
 use Rattle.dgn_index.specs.IndexNumbers.{cellsReply}
+use Rattle.finder.specs.declared.Wanted.{Wanted}
+use Rattle.entries.specs.Entries.{entriesOk}
+use Rattle.lookup.specs.Live.{liveLookUpOf}
+use Rattle.lookup.specs.declared.Found.the-variants as looked
 
--- at every place, for every number, every text and every buffer, the refusal n at p; the finder's count is then 0, and the buffer of an
--- index as it was
+-- at every place, for every number, every text and every buffer, the refusal n at p; the count of the finder, and the looks of a look-up
+-- with the file, whose index has a good used length, are then 0, and the buffer of an index is as it was
 pub record FileRefused (dim : ℕ) (s : List ℕ) (n p : ℕ) : Type 0 where
   pub extents : (at : ℕ) → extentAnswer dim s at ≡ extents.Refused n p
   pub views : (at : ℕ) → viewOf dim s at ≡ views.Refused n p
@@ -39,7 +44,8 @@ pub record FileRefused (dim : ℕ) (s : List ℕ) (n p : ℕ) : Type 0 where
   pub texts : (at : ℕ) → textOf dim s at ≡ texts.Refused n p
   pub characters : (at : ℕ) → charactersOf dim s at ≡ characters.Refused n p
   pub fields : (at k : ℕ) → fieldOf dim s at k ≡ fields.Refused n p
-  pub finder : (t : List ℕ) → findOf dim s t ≡ found.Refused n p 0
+  pub finder : (w : Wanted) (t : List ℕ) → findOf w dim s t ≡ found.Refused n p 0
+  pub look-up : (index : List ℕ) (used : ℕ) (t : List ℕ) → entriesOk (length index) used ≡ true → liveLookUpOf dim s index used t ≡ looked.Refused n p 0
   pub cells : cellsReply (judgeOf dim s) (length (cellsOf dim (words s))) ≡ refuse n p
   pub index : (b : List ℕ) → builtBy (judgeOf dim s) (indexBytes dim (words s)) (length b) ≡ built.Refused n p
   pub buffer : (b : List ℕ) → leftBy (judgeOf dim s) (indexBytes dim (words s)) (indexOf dim (words s)) b ≡ b

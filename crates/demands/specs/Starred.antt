@@ -1,6 +1,6 @@
 -- The worked cases that RULES.md marks with *, its table of fixed parts, its rules of what may stand where and of
 -- bits 6 and 7, cases of its depths, totals, counts, stored names, attribute parts and texts, of its orders of checks, of
--- sessions and of an index, as one list. That all hold is one statement of the page of demands.
+-- sessions, of an index and of deleted cells, as one list. That all hold is one statement of the page of demands.
 use Prim.Native.Nat.{ℕ, zero, suc, _+_, _*_}
 use mathlib.Core.List.{List, [], _∷_, _++_}
 use mathlib.Core.Bool.{Bool, true, _&&_}
@@ -37,6 +37,7 @@ use Rattle.demands.specs.Elements.{firstWord, live, plain, attributed, r
 use Rattle.demands.specs.SessionCases.{sessionCases}
 use Rattle.demands.specs.BlockCases.{blockCases}
 use Rattle.demands.specs.IndexCases.{indexCases}
+use Rattle.demands.specs.FindCases.{deletedCases}
 
 -- whether each case of a list holds
 abbrev pub allHold : List Case → Bool
@@ -496,4 +497,4 @@ abbrev pub starred : List Case
 starred =
     longCases ++ nameCases ++ fileCases ++ lineCases ++ pointCases ++ cellCases ++ tableCases ++ placeCases ++ ruleCases
     ++ lengthCases ++ givenCases ++ codeCases ++ depthCases ++ totalCases ++ countCases ++ attributeCases ++ textCases
-    ++ readCases ++ orderCases ++ sessionCases ++ blockCases ++ indexCases
+    ++ readCases ++ orderCases ++ sessionCases ++ blockCases ++ indexCases ++ deletedCases

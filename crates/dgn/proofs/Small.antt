@@ -14,9 +14,10 @@ use Rattle.files.specs.Judge.{judgeOf}
 use Rattle.files.specs.Spots.{Spot, spotsOf}
 use Rattle.files.specs.declared.Judged.{Judged}
 use Rattle.files.specs.declared.Judged.the-variants as judged
-use Rattle.finder.specs.Finder.{hasName, hitIf, firstNamed, findBy, findOf}
+use Rattle.finder.specs.Finder.{isHit, hitIf, firstNamed, findBy, findOf}
 use Rattle.finder.specs.declared.Found.{Found}
 use Rattle.finder.specs.declared.Found.the-variants as found
+use Rattle.finder.specs.declared.Wanted.{Wanted}
 use Rattle.finder.proofs.Refusals.{find-refused}
 use Rattle.answers.specs.Answers.{Small, SmallReply}
 use Rattle.answers.proofs.Elements.{elements-few}
@@ -31,38 +32,38 @@ judge-small dim s = go (judgeOf dim s) refl
     go (judged.Refused n p) q = file-small dim s n p q
 
 -- among the elements the count is theirs
-count-by : (ws : List ℕ) (a b k : ℕ) (xs : List Spot) (n p c : ℕ) → firstNamed ws a b k xs ≡ found.Refused n p c → c ≤ k + length xs
-count-by ws a b k [] n p c q = let z : k ≡ c = cc in omega arith
-count-by ws a b k (x ∷ xs) n p c q = go (hasName ws (x .place) a b) (count-by ws a b (k + 1) xs n p c) q
+count-by : (v : Wanted) (ws : List ℕ) (a b k : ℕ) (xs : List Spot) (n p c : ℕ) → firstNamed v ws a b k xs ≡ found.Refused n p c → c ≤ k + length xs
+count-by v ws a b k [] n p c q = let z : k ≡ c = cc in omega arith
+count-by v ws a b k (x ∷ xs) n p c q = go (isHit v ws (x .place) a b) (count-by v ws a b (k + 1) xs n p c) q
   where
-    go : (h : Bool) → (firstNamed ws a b (k + 1) xs ≡ found.Refused n p c → c ≤ k + 1 + length xs) →
-        hitIf h (x .place) k (firstNamed ws a b (k + 1) xs) ≡ found.Refused n p c → c ≤ k + length (x ∷ xs)
+    go : (h : Bool) → (firstNamed v ws a b (k + 1) xs ≡ found.Refused n p c → c ≤ k + 1 + length xs) →
+        hitIf h (x .place) k (firstNamed v ws a b (k + 1) xs) ≡ found.Refused n p c → c ≤ k + length (x ∷ xs)
     go true f q = let z : _≡_ {A = ℕ} 0 1 = cc in absurd (omega arith)
     go false f q = let l = f q in omega arith
 
-module _ (dim : ℕ) (s t : List ℕ) where
-  count-few : (n p c : ℕ) → findOf dim s t ≡ found.Refused n p c → c ≤ 524288
+module _ (v : Wanted) (dim : ℕ) (s t : List ℕ) where
+  count-few : (n p c : ℕ) → findOf v dim s t ≡ found.Refused n p c → c ≤ 524288
   unfolding findOf
   count-few n p c q = go (judgeOf dim s) refl (packed t) q
     where
-      go : (j : Judged) → judgeOf dim s ≡ j → (w : Packed) → findBy j w (words s) (spotsOf dim (words s)) ≡ found.Refused n p c → c ≤ 524288
+      go : (j : Judged) → judgeOf dim s ≡ j → (w : Packed) → findBy v j w (words s) (spotsOf dim (words s)) ≡ found.Refused n p c → c ≤ 524288
       go (judged.Refused m r) h w q = let z : 0 ≡ c = cc in omega arith
       go (judged.Accepted e d m) h (text.Refused k r) q = let z : 0 ≡ c = cc in omega arith
       go (judged.Accepted e d m) h (text.Words a b) q =
           let l = elements-few dim s e d m h in
-          let y = count-by (words s) a b 0 (spotsOf dim (words s)) n p c q in
+          let y = count-by v (words s) a b 0 (spotsOf dim (words s)) n p c q in
           omega arith
 
-  pub found-small : (n p c : ℕ) → findOf dim s t ≡ found.Refused n p c → Small n (findDetail n p c)
-  found-small n p c q = go (eqb n 13) (call-small dim s n p (find-refused dim s t n p c q)) (count-few n p c q)
+  found-small : (n p c : ℕ) → findOf v dim s t ≡ found.Refused n p c → Small n (findDetail n p c)
+  found-small n p c q = go (eqb n 13) (call-small dim s n p (find-refused v dim s t n p c q)) (count-few n p c q)
     where
       go : (b : Bool) → Small n p → c ≤ 524288 → Small n (cond b c p)
       go true h l = (h .0, h .1, l)
       go false h l = h
 
-  pub find-small : SmallReply (findReply (findOf dim s t))
-  find-small = go (findOf dim s t) refl
+  pub find-small : SmallReply (findReply (findOf v dim s t))
+  find-small = go (findOf v dim s t) refl
     where
-      go : (r : Found) → findOf dim s t ≡ r → SmallReply (findReply r)
+      go : (r : Found) → findOf v dim s t ≡ r → SmallReply (findReply r)
       go (found.At p k) q = tt
       go (found.Refused n p c) q = found-small n p c q

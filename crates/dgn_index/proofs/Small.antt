@@ -1,10 +1,10 @@
--- Every refusal of the cells, of building and of the look-up is small: its number and its detail can be taken apart again.
-use Prim.Native.Nat.{ℕ, _+_, _/_, _^_, _≤_, _<_}
+-- Every refusal of the cells, of building and of the look-ups is small: its number and its detail can be taken apart again.
+use Prim.Native.Nat.{ℕ, _+_, _/_, _^_, _≤_, _<_, min}
 use mathlib.Core.Path.{_≡_, refl}
 use mathlib.Core.Bool.{Bool, true, false, cond}
-use mathlib.Core.List.{List}
+use mathlib.Core.List.{List, [], _∷_}
 use native.Mathlib.Omega.{arith}
-use lib.ListN.{length, take, getD}
+use lib.ListN.{length, take, drop}
 use lib.Dec.{eqb, ltb, leb}
 use Rattle.words.specs.Words.{words}
 use Rattle.names.specs.Names.{packed}
@@ -15,14 +15,14 @@ use Rattle.files.specs.Judge.{judgeOf}
 use Rattle.files.specs.declared.Judged.{Judged}
 use Rattle.files.specs.declared.Judged.the-variants as judged
 use Rattle.entries.specs.Entries.{entries, entriesOk, nameOf, placeOf}
-use Rattle.cells.specs.Index.{indexBytes}
 use Rattle.indexing.specs.declared.Built.{Built}
 use Rattle.indexing.specs.declared.Built.the-variants as built
 use Rattle.indexing.specs.Indexing.{builtBy}
-use Rattle.lookup.specs.declared.Halved.{Halved}
 use Rattle.lookup.specs.declared.Found.{Found}
 use Rattle.lookup.specs.declared.Found.the-variants as found
-use Rattle.lookup.specs.LookUp.{halved, missing, lastLook, nameNumber, lookUp, lookUpBy, lookUpOf, looksOf}
+use Rattle.lookup.specs.LookUp.{halved, missing, nameNumber, lookUpBy, lookUpOf}
+use Rattle.lookup.specs.Live.{liveCell, stepTo, goOn, lookOn, liveLookBy, liveLookUpOf}
+use Rattle.lookup.proofs.Named.{all-live}
 use Rattle.lookup.proofs.Finding.{looks-any}
 use Rattle.answers.specs.Answers.{Small, SmallReply}
 use Rattle.answers.proofs.Refusals.{file-small}
@@ -58,48 +58,68 @@ module _ (dim : ℕ) (s : List ℕ) (used size : ℕ) where
       go (built.Index n) e = tt
       go (built.Refused n p) e = built-small n p e
 
----- the look-up
+---- the look-ups
 
--- 1, 12 or 13, at 0
+-- the number and the place of a refusal can be taken apart; its looks are then cut off
 abbrev Numbered : Found → Type 0
 Numbered (found.At place looks) = Unit {0}
-Numbered (found.Refused number place looks) = (1 ≤ number) × (number ≤ 13) × (place ≡ 0)
+Numbered (found.Refused number place looks) = Small number place
 
-last-numbered : (es : List ℕ) (name : ℕ) (h : Halved) → Numbered (lastLook es name h)
-last-numbered es name h = go (ltb (h .low) (length es)) (eqb (nameOf (getD es (h .low) 0)) name)
+reply-small : (r : Found) → Numbered r → SmallReply (lookReply r)
+reply-small (found.At place looks) h = tt
+reply-small (found.Refused number place looks) h = go (eqb number 13)
   where
-    go : (b c : Bool) → Numbered (cond b (cond c (found.At (placeOf (getD es (h .low) 0)) (h .looks + 1)) (missing (h .looks + 1))) (missing (h .looks)))
-    go true true = tt
-    go true false = (omega arith, omega arith, refl)
-    go false c = (omega arith, omega arith, refl)
+    go : (b : Bool) → Small number (cond b (min looks 524288) place)
+    go true = (h .0, h .1, omega arith)
+    go false = h
 
-look-numbered : (es : List ℕ) (name : ℕ) → Numbered (lookUp es name)
-unfolding lookUp
-look-numbered es name = last-numbered es name (halved es name)
+steps-numbered : (live : ℕ → Bool) (name : ℕ) (es : List ℕ) (n : ℕ) → Numbered (goOn live name es n)
+steps-numbered live name [] n = (omega arith, omega arith, omega arith)
+steps-numbered live name (e ∷ es) n = go (eqb (nameOf e) name) (live (placeOf e)) (steps-numbered live name es (stepTo name es n))
+  where
+    go : (b c : Bool) → Numbered (goOn live name es (stepTo name es n)) →
+        Numbered (cond b (cond c (found.At (placeOf e) n) (goOn live name es (stepTo name es n))) (missing n))
+    go true true r = tt
+    go true false r = r
+    go false c r = (omega arith, omega arith, omega arith)
+
+look-numbered : (live : ℕ → Bool) (es : List ℕ) (name : ℕ) → Numbered (lookOn live es name)
+unfolding lookOn
+look-numbered live es name = go (ltb (halved es name .low) (length es))
+  where
+    go : (b : Bool) → Numbered (cond b (goOn live name (drop (halved es name .low) es) (halved es name .looks + 1)) (missing (halved es name .looks)))
+    go true = steps-numbered live name (drop (halved es name .low) es) (halved es name .looks + 1)
+    go false = (omega arith, omega arith, omega arith)
+
+text-small : (t : List ℕ) (n p : ℕ) → packed t ≡ text.Refused n p → Small n p
+text-small t n p e = let x = pack-refused t n p e in (omega (arith, x .0), omega (arith, x .0), omega (arith, x .1))
 
 numbered : (s : List ℕ) (used : ℕ) (t : List ℕ) → Numbered (lookUpOf s used t)
 unfolding lookUpOf
 numbered s used t = go (entriesOk (length s) used) (packed t) refl
   where
     go : (b : Bool) (p : Packed) → packed t ≡ p → Numbered (cond b (lookUpBy p (entries (take used s))) (found.Refused 1 0 0))
-    go false p e = (omega arith, omega arith, refl)
-    go true (text.Refused n q) e = let x = pack-refused t n q e in (omega (arith, x .0), omega (arith, x .0), x .1)
-    go true (text.Words a b) e = look-numbered (entries (take used s)) (nameNumber a b)
+    go false p e = (omega arith, omega arith, omega arith)
+    go true (text.Refused n q) e = text-small t n q e
+    go true (text.Words a b) e = rw (all-live (entries (take used s)) (nameNumber a b)) (look-numbered (λ p. true) (entries (take used s)) (nameNumber a b))
 
--- an index of any length in memory has fewer entries than 2 ^ 64
-pub looked-small : (s : List ℕ) (used : ℕ) (t : List ℕ) → used < 2 ^ 64 → (n p looks : ℕ) → lookUpOf s used t ≡ found.Refused n p looks → Small n (lookDetail n p looks)
-looked-small s used t h n p looks e =
-    let k : Numbered (found.Refused n p looks) = rw e at (numbered s used t) in
-    let l : looks ≤ 64 + 1 = rw e at (looks-any s used t 64 (omega arith)) in
-    go (eqb n 13) k l
-  where
-    go : (b : Bool) → Numbered (found.Refused n p looks) → looks ≤ 64 + 1 → Small n (cond b looks p)
-    go true k l = (k .0, omega (arith, k .1), omega arith)
-    go false k l = (k .0, omega (arith, k .1), omega (arith, k .2))
+pub look-small : (s : List ℕ) (used : ℕ) (t : List ℕ) → SmallReply (lookReply (lookUpOf s used t))
+look-small s used t = reply-small (lookUpOf s used t) (numbered s used t)
 
-pub look-small : (s : List ℕ) (used : ℕ) (t : List ℕ) → used < 2 ^ 64 → SmallReply (lookReply (lookUpOf s used t))
-look-small s used t h = go (lookUpOf s used t) refl
+live-numbered : (dim : ℕ) (s index : List ℕ) (used : ℕ) (t : List ℕ) → Numbered (liveLookUpOf dim s index used t)
+unfolding liveLookUpOf
+live-numbered dim s index used t = go (entriesOk (length index) used) (judgeOf dim s) refl (packed t) refl
   where
-    go : (r : Found) → lookUpOf s used t ≡ r → SmallReply (lookReply r)
-    go (found.At p k) e = tt
-    go (found.Refused n p k) e = looked-small s used t h n p k e
+    go : (b : Bool) (j : Judged) → judgeOf dim s ≡ j → (p : Packed) → packed t ≡ p →
+        Numbered (cond b (liveLookBy j p (liveCell dim (words s)) (entries (take used index))) (found.Refused 1 0 0))
+    go false j q p e = (omega arith, omega arith, omega arith)
+    go true (judged.Refused n k) q p e = file-small dim s n k q
+    go true (judged.Accepted a d m) q (text.Refused n k) e = text-small t n k e
+    go true (judged.Accepted a d m) q (text.Words a′ b) e = look-numbered (liveCell dim (words s)) (entries (take used index)) (nameNumber a′ b)
+
+pub live-look-small : (dim : ℕ) (s index : List ℕ) (used : ℕ) (t : List ℕ) → SmallReply (lookReply (liveLookUpOf dim s index used t))
+live-look-small dim s index used t = reply-small (liveLookUpOf dim s index used t) (live-numbered dim s index used t)
+
+-- with deleted cells the looks are never cut off: there are at most 65
+pub looks-told : (s : List ℕ) (used : ℕ) (t : List ℕ) → used < 2 ^ 64 → (p looks : ℕ) → lookUpOf s used t ≡ found.Refused 13 p looks → lookDetail 13 p looks ≡ looks
+looks-told s used t h p looks e = let l : looks ≤ 64 + 1 = rw e at (looks-any s used t 64 (omega arith)) in omega arith

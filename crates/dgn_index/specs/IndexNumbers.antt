@@ -1,5 +1,5 @@
 -- The answers about cells and an index as numbers, and what is left of a lent buffer. The library's own definitions decide them.
-use Prim.Native.Nat.{ℕ}
+use Prim.Native.Nat.{ℕ, min}
 use mathlib.Core.Path.{_≡_}
 use mathlib.Core.Bool.{cond}
 use mathlib.Core.List.{List, [], _∷_}
@@ -43,9 +43,9 @@ pub record IndexLeft (dim : ℕ) (file index out : List ℕ) (n : ℕ) (index′
   pub answer : Replied 1 (indexReply (builtBy (judgeOf dim file) (indexBytes dim (words file)) (length index))) out n t
   pub index-is : index′ ≡ cond (leb 1 (length out)) (leftBy (judgeOf dim file) (indexBytes dim (words file)) (indexOf dim (words file)) index) index
 
--- the detail of a refusal is its place, of 13 the number of looks
+-- the detail of a refusal is its place, of 13 the number of looks, 524,288 where there were more
 abbrev pub lookDetail : ℕ → ℕ → ℕ → ℕ
-lookDetail number place looks = cond (eqb number 13) looks place
+lookDetail number place looks = cond (eqb number 13) (min looks 524288) place
 
 -- the place, and the number of looks
 abbrev pub lookReply : Found → Reply ℕ

@@ -1,7 +1,10 @@
 // The C interface of cells and an index of them, as in include/dgn.h: the cells of a file in file order, the index of a file, and
 // looking a name up in one. No logic: each contract is the library's own equation, put into numbers by specs/IndexNumbers.
+ghost use Prim.Native.Nat.{_≤_};
+ghost use lib.ListN.{length};
 ghost use Rattle.lookup.specs.LookUp.{lookUpOf};
-ghost use Rattle.answers.specs.Answers.{Replied};
+ghost use Rattle.lookup.specs.Live.{liveLookUpOf};
+ghost use Rattle.answers.specs.Answers.{SmallReply, Replied};
 ghost use Rattle.dgn_index.specs.IndexNumbers.{CellsLeft, IndexLeft, lookReply};
 
 #[no_mangle]
@@ -44,14 +47,12 @@ pub extern "C" fn dgn_index(file: &[u8], dim: usize, index: &mut [u8], out: &mut
     }
 }
 
-#[no_mangle]
-pub extern "C" fn dgn_look_up(index: &[u8], used: usize, text: &[u8], out: &mut [usize]) -> usize
-    ensures { λ r. ⌜ Replied 2 (lookReply (lookUpOf (now (index .entry)) used (now (text .entry)))) (now (out .entry)) r (now (out .exit)) ⌝ }
+// What a look-up answers, put into a slice that has room for it. 13 carries the looks, or 524,288 where there were more.
+fn put_looked(found: lookup::Found, out: &mut [usize]) -> usize
+    requires { ⌜ (SmallReply (lookReply found)) × (2 ≤ length (now out)) ⌝ }
+    ensures { λ r. ⌜ Replied 2 (lookReply found) (now (out .entry)) r (now (out .exit)) ⌝ }
 {
-    if out.len() < 2 {
-        return 1;
-    }
-    match lookup::look_up(index, used, text) {
+    match found {
         lookup::Found::At { place, looks } => {
             out[0] = place;
             out[1] = looks;
@@ -61,6 +62,41 @@ pub extern "C" fn dgn_look_up(index: &[u8], used: usize, text: &[u8], out: &mut 
             number,
             place,
             looks,
-        } => number + 256 * kinds::pick(number == 13, looks, place),
+        } => {
+            let most = kinds::pick(looks < 524288, looks, 524288);
+            number + 256 * kinds::pick(number == 13, most, place)
+        }
     }
+}
+
+#[no_mangle]
+pub extern "C" fn dgn_look_up(
+    file: &[u8],
+    dim: usize,
+    index: &[u8],
+    used: usize,
+    text: &[u8],
+    out: &mut [usize],
+) -> usize
+    ensures { λ r. ⌜ Replied 2 (lookReply (liveLookUpOf dim (now (file .entry)) (now (index .entry)) used (now (text .entry)))) (now (out .entry)) r (now (out .exit)) ⌝ }
+{
+    if out.len() < 2 {
+        return 1;
+    }
+    put_looked(lookup::look_up(file, dim, index, used, text), out)
+}
+
+#[no_mangle]
+pub extern "C" fn dgn_look_up_with_deleted(
+    index: &[u8],
+    used: usize,
+    text: &[u8],
+    out: &mut [usize],
+) -> usize
+    ensures { λ r. ⌜ Replied 2 (lookReply (lookUpOf (now (index .entry)) used (now (text .entry)))) (now (out .entry)) r (now (out .exit)) ⌝ }
+{
+    if out.len() < 2 {
+        return 1;
+    }
+    put_looked(lookup::look_up_with_deleted(index, used, text), out)
 }

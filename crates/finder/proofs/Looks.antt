@@ -32,43 +32,44 @@ use Rattle.grammar.proofs.Stands.{stands-left}
 use Rattle.grammar.proofs.Rules.{own-type, own-size}
 use Rattle.finder.specs.declared.Found.{Found}
 use Rattle.finder.specs.declared.Found.the-variants as found
-use Rattle.finder.specs.Finder.{hasName, hitIf, firstNamed, searchOf, findOf}
+use Rattle.finder.specs.declared.Wanted.{Wanted}
+use Rattle.finder.specs.Finder.{isHit, hitIf, firstNamed, searchOf, findOf}
 use Rattle.finder.specs.Look.{InOrder, MayLook, MayPass, passedBy, FirstFrom}
 use Rattle.finder.proofs.Order.{order-append, order-room, tree-order, file-order}
-use Rattle.finder.proofs.Named.{name-none}
+use Rattle.finder.proofs.Named.{name-none, hit-none}
 use Rattle.grammar.proofs.Tops.{Judged, judged-none, judged-done, judged-read, judged-on, judged-more, Arrived, arrived}
 
 ---- a look at the elements of a part
 
 -- no element is left
-pub look-none : (ws : List ℕ) (a b n at end : ℕ) → end ≤ at → FirstFrom ws a b n at end (found.Refused 13 0 n)
-look-none ws a b n at end h [] o = refl
-look-none ws a b n at end h (x ∷ xs) o = let r = order-room ws at end (x ∷ xs) o in absurd (omega arith)
+pub look-none : (w : Wanted) (ws : List ℕ) (a b n at end : ℕ) → end ≤ at → FirstFrom w ws a b n at end (found.Refused 13 0 n)
+look-none w ws a b n at end h [] o = refl
+look-none w ws a b n at end h (x ∷ xs) o = let r = order-room ws at end (x ∷ xs) o in absurd (omega arith)
 
-module _ (ws : List ℕ) (a b n at end : ℕ) where
+module _ (w : Wanted) (ws : List ℕ) (a b n at end : ℕ) where
   -- the element that starts there has the name
-  pub look-hit : at < end → hasName ws at a b ≡ true → FirstFrom ws a b n at end (found.At at (n + 1))
+  pub look-hit : at < end → isHit w ws at a b ≡ true → FirstFrom w ws a b n at end (found.At at (n + 1))
   look-hit h q [] o = absurd (omega arith)
   look-hit h q (x ∷ xs) o = rw (o .0, q) refl
 
   -- it has not
-  pub look-next : at < end → hasName ws at a b ≡ false → (r : Found) → FirstFrom ws a b (n + 1) (at + sizeAt ws at) end r → FirstFrom ws a b n at end r
+  pub look-next : at < end → isHit w ws at a b ≡ false → (r : Found) → FirstFrom w ws a b (n + 1) (at + sizeAt ws at) end r → FirstFrom w ws a b n at end r
   look-next h q r f [] o = absurd (omega arith)
   look-next h q r f (x ∷ xs) o = rw (o .0, q) (f xs (o .1))
 
   -- it is no header, and there is no other
-  pub look-plain : isHeader (typeAt ws at) ≡ false → at + sizeAt ws at ≡ end → FirstFrom ws a b n at end (found.Refused 13 0 (n + 1))
+  pub look-plain : isHeader (typeAt ws at) ≡ false → at + sizeAt ws at ≡ end → FirstFrom w ws a b n at end (found.Refused 13 0 (n + 1))
   look-plain h e =
       let one : typeAt ws at ≡ 1 → ⊥ = λ t. false≢true (sym h ∙ ap isHeader t) in
       let two : typeAt ws at ≡ 2 → ⊥ = λ t. false≢true (sym h ∙ ap isHeader t) in
-      look-next (omega arith) (sym (name-none ws at a b one two)) (found.Refused 13 0 (n + 1))
-      (look-none ws a b (n + 1) (at + sizeAt ws at) end (omega arith))
+      look-next (omega arith) (hit-none w ws at a b (sym (name-none ws at a b one two))) (found.Refused 13 0 (n + 1))
+      (look-none w ws a b (n + 1) (at + sizeAt ws at) end (omega arith))
 
 ---- what lists of elements answer
 
-module _ (ws : List ℕ) (a b : ℕ) where
+module _ (w : Wanted) (ws : List ℕ) (a b : ℕ) where
   -- elements that stand in the same part answer the same
-  same-part : (at end n : ℕ) (xs ys : List Spot) → InOrder ws at xs end → InOrder ws at ys end → firstNamed ws a b n xs ≡ firstNamed ws a b n ys
+  same-part : (at end n : ℕ) (xs ys : List Spot) → InOrder ws at xs end → InOrder ws at ys end → firstNamed w ws a b n xs ≡ firstNamed w ws a b n ys
   same-part at end n [] [] o p = refl
   same-part at end n [] (y ∷ ys) o p = let r = order-room ws at end (y ∷ ys) p in absurd (omega arith)
   same-part at end n (x ∷ xs) [] o p = let r = order-room ws at end (x ∷ xs) o in absurd (omega arith)
@@ -76,68 +77,68 @@ module _ (ws : List ℕ) (a b : ℕ) where
       rw (o .0, p .0, same-part (at + sizeAt ws at) end (n + 1) xs ys (o .1) (p .1)) refl
 
   -- a hit stays
-  hit-stays : (n : ℕ) (xs ys : List Spot) (place looked : ℕ) → found.At place looked ≡ firstNamed ws a b n xs → found.At place looked ≡ firstNamed ws a b n (xs ++ ys)
+  hit-stays : (n : ℕ) (xs ys : List Spot) (place looked : ℕ) → found.At place looked ≡ firstNamed w ws a b n xs → found.At place looked ≡ firstNamed w ws a b n (xs ++ ys)
   hit-stays n [] ys place looked e = let z : _≡_ {A = ℕ} 0 1 = cc in absurd (omega arith)
-  hit-stays n (x ∷ xs) ys place looked e = go (hasName ws (x .place) a b) e (hit-stays (n + 1) xs ys place looked)
+  hit-stays n (x ∷ xs) ys place looked e = go (isHit w ws (x .place) a b) e (hit-stays (n + 1) xs ys place looked)
     where
-      go : (t : Bool) → found.At place looked ≡ hitIf t (x .place) n (firstNamed ws a b (n + 1) xs) →
-          (found.At place looked ≡ firstNamed ws a b (n + 1) xs → found.At place looked ≡ firstNamed ws a b (n + 1) (xs ++ ys)) →
-          found.At place looked ≡ hitIf t (x .place) n (firstNamed ws a b (n + 1) (xs ++ ys))
+      go : (t : Bool) → found.At place looked ≡ hitIf t (x .place) n (firstNamed w ws a b (n + 1) xs) →
+          (found.At place looked ≡ firstNamed w ws a b (n + 1) xs → found.At place looked ≡ firstNamed w ws a b (n + 1) (xs ++ ys)) →
+          found.At place looked ≡ hitIf t (x .place) n (firstNamed w ws a b (n + 1) (xs ++ ys))
       go true e k = e
       go false e k = k e
 
   -- with none among them, all were counted and the others are looked at after them
-  none-goes-on : (n : ℕ) (xs ys : List Spot) (number place count : ℕ) → found.Refused number place count ≡ firstNamed ws a b n xs →
-      (count ≡ n + length xs) × (firstNamed ws a b count ys ≡ firstNamed ws a b n (xs ++ ys))
-  none-goes-on n [] ys number place count e = let q : count ≡ n = cc in (omega arith, ap (λ m. firstNamed ws a b m ys) q)
-  none-goes-on n (x ∷ xs) ys number place count e = go (hasName ws (x .place) a b) e (none-goes-on (n + 1) xs ys number place count)
+  none-goes-on : (n : ℕ) (xs ys : List Spot) (number place count : ℕ) → found.Refused number place count ≡ firstNamed w ws a b n xs →
+      (count ≡ n + length xs) × (firstNamed w ws a b count ys ≡ firstNamed w ws a b n (xs ++ ys))
+  none-goes-on n [] ys number place count e = let q : count ≡ n = cc in (omega arith, ap (λ m. firstNamed w ws a b m ys) q)
+  none-goes-on n (x ∷ xs) ys number place count e = go (isHit w ws (x .place) a b) e (none-goes-on (n + 1) xs ys number place count)
     where
-      go : (t : Bool) → found.Refused number place count ≡ hitIf t (x .place) n (firstNamed ws a b (n + 1) xs) →
-          (found.Refused number place count ≡ firstNamed ws a b (n + 1) xs →
-          (count ≡ n + 1 + length xs) × (firstNamed ws a b count ys ≡ firstNamed ws a b (n + 1) (xs ++ ys))) →
-          (count ≡ n + length (x ∷ xs)) × (firstNamed ws a b count ys ≡ hitIf t (x .place) n (firstNamed ws a b (n + 1) (xs ++ ys)))
+      go : (t : Bool) → found.Refused number place count ≡ hitIf t (x .place) n (firstNamed w ws a b (n + 1) xs) →
+          (found.Refused number place count ≡ firstNamed w ws a b (n + 1) xs →
+          (count ≡ n + 1 + length xs) × (firstNamed w ws a b count ys ≡ firstNamed w ws a b (n + 1) (xs ++ ys))) →
+          (count ≡ n + length (x ∷ xs)) × (firstNamed w ws a b count ys ≡ hitIf t (x .place) n (firstNamed w ws a b (n + 1) (xs ++ ys)))
       go true e k = let z : _≡_ {A = ℕ} 0 1 = cc in absurd (omega arith)
       go false e k = let r = k e in let c = r .0 in (omega arith, r .1)
 
   -- a refusal is 13, at no place
-  none-is-13 : (n : ℕ) (xs : List Spot) (number place count : ℕ) → found.Refused number place count ≡ firstNamed ws a b n xs → (number ≡ 13) × (place ≡ 0)
+  none-is-13 : (n : ℕ) (xs : List Spot) (number place count : ℕ) → found.Refused number place count ≡ firstNamed w ws a b n xs → (number ≡ 13) × (place ≡ 0)
   none-is-13 n [] number place count e = (cc, cc)
-  none-is-13 n (x ∷ xs) number place count e = go (hasName ws (x .place) a b) e (none-is-13 (n + 1) xs number place count)
+  none-is-13 n (x ∷ xs) number place count e = go (isHit w ws (x .place) a b) e (none-is-13 (n + 1) xs number place count)
     where
-      go : (t : Bool) → found.Refused number place count ≡ hitIf t (x .place) n (firstNamed ws a b (n + 1) xs) →
-          (found.Refused number place count ≡ firstNamed ws a b (n + 1) xs → (number ≡ 13) × (place ≡ 0)) → (number ≡ 13) × (place ≡ 0)
+      go : (t : Bool) → found.Refused number place count ≡ hitIf t (x .place) n (firstNamed w ws a b (n + 1) xs) →
+          (found.Refused number place count ≡ firstNamed w ws a b (n + 1) xs → (number ≡ 13) × (place ≡ 0)) → (number ≡ 13) × (place ≡ 0)
       go true e k = let z : _≡_ {A = ℕ} 0 1 = cc in absurd (omega arith)
       go false e k = k e
 
 ---- the loop over the elements at the top
 
 -- the elements before `here` are judged, and their answer is r
-pub record Searched (dim : ℕ) (s : List ℕ) (a b here : ℕ) (r : Found) : Type 0 where
+pub record Searched (w : Wanted) (dim : ℕ) (s : List ℕ) (a b here : ℕ) (r : Found) : Type 0 where
   pub judged : Judged dim s here
   pub past : List Spot
   pub order : InOrder (words s) 0 past here
-  pub same : r ≡ firstNamed (words s) a b 0 past
+  pub same : r ≡ firstNamed w (words s) a b 0 past
 
-pub searched-none : {dim : ℕ} {s : List ℕ} {a b : ℕ} {r : Found} → r ≡ found.Refused 13 0 0 → Searched dim s a b 0 r
+pub searched-none : {w : Wanted} {dim : ℕ} {s : List ℕ} {a b : ℕ} {r : Found} → r ≡ found.Refused 13 0 0 → Searched w dim s a b 0 r
 searched-none e = record { judged = judged-none; past = []; order = refl; same = e }
 
 -- a refused file
-pub search-refused : (dim : ℕ) (s : List ℕ) (a b n p : ℕ) → judgeOf dim s ≡ judged.Refused n p → found.Refused n p 0 ≡ searchOf dim s a b
+pub search-refused : (w : Wanted) (dim : ℕ) (s : List ℕ) (a b n p : ℕ) → judgeOf dim s ≡ judged.Refused n p → found.Refused n p 0 ≡ searchOf w dim s a b
 unfolding searchOf
-search-refused dim s a b n p q = rw q refl
+search-refused w dim s a b n p q = rw q refl
 
-module _ {dim : ℕ} {s : List ℕ} {a b here : ℕ} {r : Found} (l : Searched dim s a b here r) where
+module _ {w : Wanted} {dim : ℕ} {s : List ℕ} {a b here : ℕ} {r : Found} (l : Searched w dim s a b here r) where
   module _ (call : callOk dim s ≡ true) where
-    pub searched-done : stopOf 0 (words s) here (length s / 2) ≡ Done → r ≡ searchOf dim s a b
+    pub searched-done : stopOf 0 (words s) here (length s / 2) ≡ Done → r ≡ searchOf w dim s a b
     unfolding searchOf
     searched-done h =
         let q = judged-done (l .judged) call h in
-        rw q (l .same ∙ same-part (words s) a b 0 here 0 (l .past) (spotsOf dim (words s)) (l .order) (file-order dim s _ _ here q))
+        rw q (l .same ∙ same-part w (words s) a b 0 here 0 (l .past) (spotsOf dim (words s)) (l .order) (file-order dim s _ _ here q))
 
   -- how many were looked at, where none has the name
   count-few : {number place count : ℕ} → r ≡ found.Refused number place count → count ≤ here
   count-few e =
-      let c = none-goes-on (words s) a b 0 (l .past) [] _ _ _ (sym e ∙ l .same) .0 in
+      let c = none-goes-on w (words s) a b 0 (l .past) [] _ _ _ (sym e ∙ l .same) .0 in
       let o = order-room (words s) 0 here (l .past) (l .order) in
       omega arith
 
@@ -181,31 +182,31 @@ module _ {dim : ℕ} {s : List ℕ} {a b here : ℕ} {r : Found} (l : Searched d
         let g = judged-on (l .judged) more good in
         (c, omega arith)
 
-    pub searched-hit : {place looked : ℕ} → r ≡ found.At place looked → Searched dim s a b next r
+    pub searched-hit : {place looked : ℕ} → r ≡ found.At place looked → Searched w dim s a b next r
     searched-hit q = record {
       judged = judged-more (l .judged) more good;
       past = l .past ++ inside;
       order = both-order;
-      same = q ∙ hit-stays (words s) a b 0 (l .past) inside _ _ (sym q ∙ l .same);
+      same = q ∙ hit-stays w (words s) a b 0 (l .past) inside _ _ (sym q ∙ l .same);
     }
 
-    pub searched-more : {number place count : ℕ} → r ≡ found.Refused number place count → (v : Found) → FirstFrom (words s) a b count here next v → Searched dim s a b next v
+    pub searched-more : {number place count : ℕ} → r ≡ found.Refused number place count → (v : Found) → FirstFrom w (words s) a b count here next v → Searched w dim s a b next v
     searched-more q v f = record {
       judged = judged-more (l .judged) more good;
       past = l .past ++ inside;
       order = both-order;
-      same = f inside inside-order ∙ none-goes-on (words s) a b 0 (l .past) inside _ _ _ (sym q ∙ l .same) .1;
+      same = f inside inside-order ∙ none-goes-on w (words s) a b 0 (l .past) inside _ _ _ (sym q ∙ l .same) .1;
     }
 
     -- one that is no header has no name
-    searched-plain : isHeader (typeAt (words s) here) ≡ false → Searched dim s a b next (passedBy r 1)
+    searched-plain : isHeader (typeAt (words s) here) ≡ false → Searched w dim s a b next (passedBy r 1)
     searched-plain h = go r refl
       where
-        go : (v : Found) → r ≡ v → Searched dim s a b next (passedBy v 1)
-        go (found.At place looked) q = subst (λ v. Searched dim s a b next v) q (searched-hit q)
+        go : (v : Found) → r ≡ v → Searched w dim s a b next (passedBy v 1)
+        go (found.At place looked) q = subst (λ v. Searched w dim s a b next v) q (searched-hit q)
         go (found.Refused number place count) q =
-            let o = none-is-13 (words s) a b 0 (l .past) number place count (sym q ∙ l .same) in
-            rw (o .0, o .1) (searched-more q _ (look-plain (words s) a b count here next h (plain-end h)))
+            let o = none-is-13 w (words s) a b 0 (l .past) number place count (sym q ∙ l .same) in
+            rw (o .0, o .1) (searched-more q _ (look-plain w (words s) a b count here next h (plain-end h)))
 
 ---- the elements up to a header
 
@@ -226,16 +227,16 @@ no-header : (ws : List ℕ) (until at next : ℕ) → stopsAfter ws until true a
 unfolding stopsAfter
 no-header ws until at next e = goes-plain (isHeader (typeAt ws at)) (ltb until next) e
 
-call-small : (dim : ℕ) (s : List ℕ) → callOk dim s ≡ true → length s ≤ 1048576
+pub call-small : (dim : ℕ) (s : List ℕ) → callOk dim s ≡ true → length s ≤ 1048576
 unfolding callOk
 call-small dim s e =
     let p = both-true (eqb dim 2 || eqb dim 3) (eqb (length s % 2) 0 && leb (length s) 1048576) e in
     leb-true (length s) 1048576 (both-true (eqb (length s % 2) 0) (leb (length s) 1048576) (p .1) .1)
 
-module _ {dim : ℕ} {s : List ℕ} {a b here : ℕ} {r : Found} (l : Searched dim s a b here r) (call : callOk dim s ≡ true) where
+module _ {w : Wanted} {dim : ℕ} {s : List ℕ} {a b here : ℕ} {r : Found} (l : Searched w dim s a b here r) (call : callOk dim s ≡ true) where
   -- k elements without a name were passed
   abbrev Past : ℕ → ℕ → Type 0
-  Past k at = (here ≤ at) × Searched dim s a b at (passedBy r k)
+  Past k at = (here ≤ at) × Searched w dim s a b at (passedBy r k)
 
   searched-arrived : (v : Reached) → v ≡ reachedOf dim (words s) here (length s / 2) (length s / 2) true → Arrived dim s (length s / 2) true Past v
   searched-arrived v e =
@@ -243,13 +244,13 @@ module _ {dim : ℕ} {s : List ℕ} {a b here : ℕ} {r : Found} (l : Searched d
       (λ k at next e d j q more good goes.
       let o = judged-on (q .1 .judged) more good in
       let i = q .0 in
-      (omega arith, subst (λ v. Searched dim s a b next v) (passed-twice r k) (searched-plain (q .1) more good (no-header (words s) (length s / 2) at next goes))))
-      here v (omega arith, subst (λ v. Searched dim s a b here v) (passed-none r) l) e
+      (omega arith, subst (λ v. Searched w dim s a b next v) (passed-twice r k) (searched-plain (q .1) more good (no-header (words s) (length s / 2) at next goes))))
+      here v (omega arith, subst (λ v. Searched w dim s a b here v) (passed-none r) l) e
 
-  pub arrived-fault : {n p : ℕ} → reached.Refused n p ≡ reachedOf dim (words s) here (length s / 2) (length s / 2) true → found.Refused n p 0 ≡ searchOf dim s a b
-  arrived-fault e = search-refused dim s a b _ _ (searched-arrived _ e)
+  pub arrived-fault : {n p : ℕ} → reached.Refused n p ≡ reachedOf dim (words s) here (length s / 2) (length s / 2) true → found.Refused n p 0 ≡ searchOf w dim s a b
+  arrived-fault e = search-refused w dim s a b _ _ (searched-arrived _ e)
 
-  few : {at : ℕ} {v : Found} → Searched dim s a b at v → callOk dim s ≡ true → (n : ℕ) → v ≡ passedBy r n → MayPass r n
+  few : {at : ℕ} {v : Found} → Searched w dim s a b at v → callOk dim s ≡ true → (n : ℕ) → v ≡ passedBy r n → MayPass r n
   few {at} {v} q c n e = go r e
     where
       go : (w : Found) → v ≡ passedBy w n → MayPass w n
@@ -264,7 +265,7 @@ module _ {dim : ℕ} {s : List ℕ} {a b here : ℕ} {r : Found} (l : Searched d
     pub end-may : MayPass r k
     end-may = few (searched-arrived _ e .0 .1) call k refl
 
-    pub end-answer : {v : Found} → v ≡ passedBy r k → v ≡ searchOf dim s a b
+    pub end-answer : {v : Found} → v ≡ passedBy r k → v ≡ searchOf w dim s a b
     end-answer q = q ∙ searched-done (searched-arrived _ e .0 .1) call (searched-arrived _ e .1)
 
   module _ {start end k : ℕ} (e : reached.Element start end k ≡ reachedOf dim (words s) here (length s / 2) (length s / 2) true) where
@@ -283,28 +284,28 @@ module _ {dim : ℕ} {s : List ℕ} {a b here : ℕ} {r : Found} (l : Searched d
       at-stays (found.At p n) f g = refl
       at-stays (found.Refused m p n) f g = let z : _≡_ {A = ℕ} 0 1 = cc in absurd (omega arith)
 
-      pub header-hit : {place looked : ℕ} → v ≡ found.At place looked → Searched dim s a b end r
+      pub header-hit : {place looked : ℕ} → v ≡ found.At place looked → Searched w dim s a b end r
       header-hit h =
           let x = searched-arrived _ e .3 in
-          subst (λ w. Searched dim s a b end w) (at-stays r q h) (searched-hit (x .0 .1) (x .1) (x .2) (sym q ∙ h))
+          subst (λ u. Searched w dim s a b end u) (at-stays r q h) (searched-hit (x .0 .1) (x .1) (x .2) (sym q ∙ h))
 
       module _ {number place count : ℕ} (h : v ≡ found.Refused number place count) where
         pub header-look : MayLook s count start end
         header-look = let x = searched-arrived _ e .3 in may-look (x .0 .1) (x .1) (x .2) (sym q ∙ h)
 
-        pub header-more : (w : Found) → FirstFrom (words s) a b count start end w → Searched dim s a b end w
-        header-more w f = let x = searched-arrived _ e .3 in searched-more (x .0 .1) (x .1) (x .2) (sym q ∙ h) w f
+        pub header-more : (u : Found) → FirstFrom w (words s) a b count start end u → Searched w dim s a b end u
+        header-more u f = let x = searched-arrived _ e .3 in searched-more (x .0 .1) (x .1) (x .2) (sym q ∙ h) u f
 
 ---- by the text
 
-pub find-search : (dim : ℕ) (s t : List ℕ) (a b : ℕ) → packed t ≡ text.Words a b → searchOf dim s a b ≡ findOf dim s t
+pub find-search : (w : Wanted) (dim : ℕ) (s t : List ℕ) (a b : ℕ) → packed t ≡ text.Words a b → searchOf w dim s a b ≡ findOf w dim s t
 unfolding findOf searchOf
-find-search dim s t a b p = rw p refl
+find-search w dim s t a b p = rw p refl
 
-pub file-refused : (dim : ℕ) (s t : List ℕ) (n p : ℕ) → judgeOf dim s ≡ judged.Refused n p → found.Refused n p 0 ≡ findOf dim s t
+pub file-refused : (w : Wanted) (dim : ℕ) (s t : List ℕ) (n p : ℕ) → judgeOf dim s ≡ judged.Refused n p → found.Refused n p 0 ≡ findOf w dim s t
 unfolding findOf
-file-refused dim s t n p q = rw q refl
+file-refused w dim s t n p q = rw q refl
 
-pub text-refused : (dim : ℕ) (s t : List ℕ) (e d m n p : ℕ) → judgeOf dim s ≡ judged.Accepted e d m → packed t ≡ text.Refused n p → found.Refused n p 0 ≡ findOf dim s t
+pub text-refused : (w : Wanted) (dim : ℕ) (s t : List ℕ) (e d m n p : ℕ) → judgeOf dim s ≡ judged.Accepted e d m → packed t ≡ text.Refused n p → found.Refused n p 0 ≡ findOf w dim s t
 unfolding findOf
-text-refused dim s t e d m n p q h = rw (q, h) refl
+text-refused w dim s t e d m n p q h = rw (q, h) refl

@@ -1,3 +1,4 @@
 pub mod Finder
+pub mod Base
 pub mod Look
 pub mod Meaning

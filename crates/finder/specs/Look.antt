@@ -7,6 +7,7 @@ use Rattle.headers.specs.Header.{sizeAt}
 use Rattle.files.specs.Spots.{Spot}
 use Rattle.finder.specs.declared.Found.{Found}
 use Rattle.finder.specs.declared.Found.the-variants as found
+use Rattle.finder.specs.declared.Wanted.{Wanted}
 use Rattle.finder.specs.Finder.{firstNamed}
 
 -- elements one after another, the first at `at`, the own words of the last ending at `end`
@@ -29,5 +30,5 @@ MayPass (found.At place looked) n = Unit {0}
 MayPass (found.Refused number place count) n = count + n < 2 ^ 64
 
 -- r is what the elements of the part answer, after n others
-abbrev pub FirstFrom : List ℕ → ℕ → ℕ → ℕ → ℕ → ℕ → Found → Type 0
-FirstFrom ws first second n at end r = (xs : List Spot) → InOrder ws at xs end → r ≡ firstNamed ws first second n xs
+abbrev pub FirstFrom : Wanted → List ℕ → ℕ → ℕ → ℕ → ℕ → ℕ → Found → Type 0
+FirstFrom w ws first second n at end r = (xs : List Spot) → InOrder ws at xs end → r ≡ firstNamed w ws first second n xs

@@ -1,5 +1,5 @@
-// The finder: the first cell of an accepted file in file order that has a name. Definitions: specs/Finder; of one look
-// specs/Look.
+// The finder: the first cell of an accepted file in file order that has a name, deleted cells passed over unless they are asked
+// for. Definitions: specs/Finder; of one look specs/Look.
 ghost use mathlib.Core.Path.{_≡_};
 ghost use Prim.Native.Nat.{_+_, _<_};
 ghost use mathlib.Core.Bool.{_&&_};
@@ -7,8 +7,15 @@ ghost use lib.ListN.{length};
 ghost use lib.Dec.{eqb};
 ghost use Rattle.words.specs.Words.{words, wordAt};
 ghost use Rattle.headers.specs.Header.{typeAt};
-ghost use Rattle.finder.specs.Finder.{hasName, searchOf, findOf};
+ghost use Rattle.finder.specs.declared.Wanted.the-variants.{Live, WithDeleted};
+ghost use Rattle.finder.specs.Finder.{hasName, isLive, isWanted, isHit, searchOf, findOf};
 ghost use Rattle.finder.specs.Look.{MayLook, MayPass, passedBy, FirstFrom};
+
+// Which cells are found: live ones alone, or deleted ones too.
+pub enum Wanted {
+    Live,
+    WithDeleted,
+}
 
 // The first cell with a name: its place and how many elements were looked at, itself counted; or the refusal, 13 with
 // the count of all elements.
@@ -58,6 +65,34 @@ fn has_name(s: &[u8], at: usize, first: usize, second: usize) -> bool
     is_named(s, at, 2, 19, first, second)
 }
 
+// Whether the element at a place is live: its own deleted flag is clear.
+pub fn is_live(s: &[u8], at: usize) -> bool
+    ensures { λ r. ⌜ r ≡ isLive (words (now (s .entry))) at ⌝ }
+{
+    words::word(s, at) / 32768 % 2 == 0
+}
+
+// Whether the element at a place is wanted.
+fn is_wanted(s: &[u8], at: usize, wanted: Wanted) -> bool
+    ensures { λ r. ⌜ r ≡ isWanted wanted (words (now (s .entry))) at ⌝ }
+{
+    match wanted {
+        Wanted::Live => is_live(s, at),
+        Wanted::WithDeleted => true,
+    }
+}
+
+// Whether the element at a place is a type 1 or 2 with the name of two words and is wanted.
+fn is_hit(s: &[u8], at: usize, first: usize, second: usize, wanted: Wanted) -> bool
+    requires { ⌜ at < length (now s) ⌝ }
+    ensures { λ r. ⌜ r ≡ isHit wanted (words (now (s .entry))) at first second ⌝ }
+{
+    if has_name(s, at, first, second) {
+        return is_wanted(s, at, wanted);
+    }
+    false
+}
+
 // A refusal of the file or of the text.
 fn refused(number: usize, place: usize) -> Found
     ensures { λ r. ⌜ r ≡ Found.Refused number place 0 ⌝ }
@@ -69,17 +104,25 @@ fn refused(number: usize, place: usize) -> Found
     }
 }
 
-// The first element from a place to another that has a name, after `before` others; else 13 with the count of all. An
-// element's own words are followed by the next element in file order, be it a component, a sibling or what follows an
+// The first element from a place to another that has a name and is wanted, after `before` others; else 13 with the count of all.
+// An element's own words are followed by the next element in file order, be it a component, a sibling or what follows an
 // extent, so the search goes on by size.
-fn look(file: &[u8], from: usize, to: usize, before: usize, first: usize, second: usize) -> Found
+fn look(
+    file: &[u8],
+    from: usize,
+    to: usize,
+    before: usize,
+    first: usize,
+    second: usize,
+    wanted: Wanted,
+) -> Found
     requires { ⌜ MayLook (now file) before from to ⌝ }
-    ensures { λ r. ⌜ FirstFrom (words (now (file .entry))) first second before from to r ⌝ }
+    ensures { λ r. ⌜ FirstFrom wanted (words (now (file .entry))) first second before from to r ⌝ }
 {
     let mut at = from;
     let mut n = before;
     while at < to {
-        if has_name(file, at, first, second) {
+        if is_hit(file, at, first, second, wanted) {
             return Found::At {
                 place: at,
                 looked: n + 1,
@@ -114,10 +157,10 @@ fn past(answer: Found, n: usize) -> Found
     }
 }
 
-// The first cell in file order with the name of two words. The elements at the top are judged up to each header, which is
+// The first wanted cell in file order with the name of two words. The elements at the top are judged up to each header, which is
 // looked through with its extent; those before it have no name and are counted alone.
-fn search(file: &[u8], dim: usize, first: usize, second: usize) -> Found
-    ensures { λ r. ⌜ r ≡ searchOf dim (now (file .entry)) first second ⌝ }
+fn search(file: &[u8], dim: usize, first: usize, second: usize, wanted: Wanted) -> Found
+    ensures { λ r. ⌜ r ≡ searchOf wanted dim (now (file .entry)) first second ⌝ }
 {
     if !limits::call_ok(file, dim) {
         return refused(1, 0);
@@ -145,7 +188,7 @@ fn search(file: &[u8], dim: usize, first: usize, second: usize) -> Found
                     place: _,
                     count,
                 } => {
-                    answer = look(file, header, end, count, first, second);
+                    answer = look(file, header, end, count, first, second, wanted);
                     here = end;
                 }
             },
@@ -153,12 +196,12 @@ fn search(file: &[u8], dim: usize, first: usize, second: usize) -> Found
     }
 }
 
-// The first cell in file order with the name of a text: the refusals of the file come before that of the text.
-pub fn find(file: &[u8], dim: usize, text: &[u8]) -> Found
-    ensures { λ r. ⌜ r ≡ findOf dim (now (file .entry)) (now (text .entry)) ⌝ }
+// The first wanted cell in file order with the name of a text: the refusals of the file come before that of the text.
+fn find_wanted(file: &[u8], dim: usize, text: &[u8], wanted: Wanted) -> Found
+    ensures { λ r. ⌜ r ≡ findOf wanted dim (now (file .entry)) (now (text .entry)) ⌝ }
 {
     match names::pack(text) {
-        names::Packed::Words { first, second } => search(file, dim, first, second),
+        names::Packed::Words { first, second } => search(file, dim, first, second, wanted),
         names::Packed::Refused {
             number,
             place: fault,
@@ -174,4 +217,18 @@ pub fn find(file: &[u8], dim: usize, text: &[u8]) -> Found
             } => refused(number, fault),
         },
     }
+}
+
+// The first live cell in file order with the name of a text. Deleted cells are passed over and counted.
+pub fn find(file: &[u8], dim: usize, text: &[u8]) -> Found
+    ensures { λ r. ⌜ r ≡ findOf Live dim (now (file .entry)) (now (text .entry)) ⌝ }
+{
+    find_wanted(file, dim, text, Wanted::Live)
+}
+
+// The first cell in file order with the name of a text, be it live or deleted.
+pub fn find_with_deleted(file: &[u8], dim: usize, text: &[u8]) -> Found
+    ensures { λ r. ⌜ r ≡ findOf WithDeleted dim (now (file .entry)) (now (text .entry)) ⌝ }
+{
+    find_wanted(file, dim, text, Wanted::WithDeleted)
 }

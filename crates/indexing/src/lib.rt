@@ -53,8 +53,10 @@ fn gather(s: &mut [u8], file: &[u8], to: usize) -> usize
     let mut at = 0;
     let mut i = 0;
     while at < end {
+        // the next place first: a processor that foresees the test of the type wrongly has it then already
+        let next = at + headers::size_at(file, at);
         i = meet(s, i, file, at);
-        at += headers::size_at(file, at);
+        at = next;
     }
     i
 }

@@ -1,16 +1,17 @@
--- The cells of a judged file are met by rising places, so in its index the first entry of a name is that of the first cell with the name.
+-- The cells of a judged file are met by rising places, so in its index the first entry of a name that is found is that of the first such
+-- cell. The test of an entry, by its place, is the finder's of the cell.
 use Prim.Native.Nat.{ℕ, zero, suc, _+_, _-_, _*_, _/_, _%_, _^_, _≤_, _<_, min}
 use mathlib.Core.Path.{_≡_, refl, sym, ap, _∙_, subst}
-use mathlib.Core.Logic.{_≢_, ⊎-elim}
-use mathlib.Core.Bool.{Bool, true, false, cond, _&&_, and-eq-true-iff, false≢true}
+use mathlib.Core.Logic.{⊎-elim}
+use mathlib.Core.Bool.{Bool, true, false, cond, _&&_, and-eq-true-iff}
 use mathlib.Core.List.{List, [], _∷_, _++_}
 use mathlib.Core.Option.{Option, none, some}
 use native.Mathlib.Omega.{arith}
-use lib.ListN.{length, getD, take, replicate, length-take, List·getD-eq-default}
-use lib.Seq.{take-at}
+use lib.ListN.{length, take, drop, replicate, length-take, List·getD-eq-default}
+use lib.Seq.{take-at, append-snoc}
 use lib.Dec.{eqb, ltb, leb}
 use borrow.Author.Tests.{lt-ltb, le-ltb, le-leb, leb-true, eq-eqb, ne-eqb, eqb-true, eqb-false}
-use Rattle.words.specs.Words.{words, Below, wordAt}
+use Rattle.words.specs.Words.{words, Below}
 use Rattle.words.proofs.Laws.{words-below, length-words}
 use Rattle.names.specs.Names.{packed}
 use Rattle.names.specs.declared.Packed.{Packed}
@@ -20,28 +21,30 @@ use Rattle.limits.specs.Limits.{dimOk, sizeOk, callOk}
 use Rattle.kinds.specs.Kinds.{isCell}
 use Rattle.headers.specs.Header.{typeAt, sizeAt, nameFirst, nameSecond}
 use Rattle.files.specs.Judge.{judgeOf}
-use Rattle.files.specs.Spots.{Spot, spotsOf}
+use Rattle.files.specs.Spots.{Spot, spotsOf, spotIn, firstIf}
+use Rattle.files.specs.declared.Judged.{Judged}
 use Rattle.files.specs.declared.Judged.the-variants as judged
 use Rattle.grammar.proofs.Exact.{accepted-is}
 use Rattle.entries.specs.Entries.{nameOf, placeOf, entries, image, shown, entriesOk}
 use Rattle.entries.proofs.Laws.{length-entries, length-image, entries-image, length-shown}
-use Rattle.sorting.specs.Order.{insert, ordered, All, Sorted, times}
-use Rattle.sorting.proofs.Laws.{le-or-lt, eq-or-ne, insert-here, insert-later, all-cons, all-ordered, ordered-sorted}
+use Rattle.sorting.specs.Order.{ordered, All}
+use Rattle.sorting.proofs.Laws.{le-or-lt, all-cons, all-ordered, ordered-sorted}
 use Rattle.sorting.proofs.Members.{sorted-members, times-ordered}
 use Rattle.cells.specs.Cells.{Cell, cellIf, cellHere, cellsIn, cellsOf, cellsFrom, cellsBetween}
-use Rattle.cells.specs.Index.{cellEntry, entriesOf, indexOf, indexBytes}
+use Rattle.cells.specs.Index.{cellEntry, entriesOf, indexOf}
 use Rattle.cells.proofs.Index.{index-bytes}
 use Rattle.cells.proofs.Whole.{judged-cells}
 use Rattle.finder.specs.declared.Found.{Found as Finding}
 use Rattle.finder.specs.declared.Found.the-variants as finding
+use Rattle.finder.specs.declared.Wanted.{Wanted}
+use Rattle.finder.specs.declared.Wanted.the-variants.{Live, WithDeleted}
 use Rattle.finder.specs.Finder as finder
-use Rattle.finder.specs.Finder.{hasName, hitIf, findBy, findOf}
-use Rattle.lookup.specs.declared.Halved.{Halved}
-use Rattle.lookup.specs.declared.Found.{Found}
+use Rattle.finder.specs.Finder.{hasName, isWanted, isHit, hitIf, findBy, findOf}
 use Rattle.lookup.specs.declared.Found.the-variants as found
-use Rattle.lookup.specs.LookUp.{halved, missing, lastLook, nameNumber, lookUp, lookUpBy, lookUpOf, placeFound, looksOf, firstNamed, FileOrder}
-use Rattle.lookup.specs.Finding.{Holds, IndexHolds, IndexOnly, lookOutcome, findOutcome, LookUpFinds, LooksBound}
-use Rattle.lookup.proofs.Named.{looks-bound, look-up-finds}
+use Rattle.lookup.specs.LookUp.{halved, missing, nameNumber, lookUpBy, lookUpOf, looksOf}
+use Rattle.lookup.specs.Live.{liveHere, liveBy, liveIn, liveCell, stepTo, goOn, lookOn, liveLookBy, liveLookUpOf}
+use Rattle.lookup.specs.Finding.{IndexHolds, IndexOnly, lookOutcome, findOutcome, LookUpFinds, LiveLookUpFinds, LooksBound}
+use Rattle.lookup.proofs.Named.{placeFound, all-live, looks-bound, isFound, firstFound, FileOrder, look-up-finds}
 
 ---- the index
 
@@ -150,51 +153,61 @@ abbrev placeBy : Finding → Option ℕ
 placeBy (finding.At place looked) = some place
 placeBy (finding.Refused number place count) = none
 
-module _ (ws : List ℕ) (a b : ℕ) (small : a < 65536) (low : b < 65536) where
-  other-name : (p : ℕ) (c : Cell) (cs : List Cell) → Within p 4294967296 c → (eqb (c .first) a && eqb (c .second) b) ≡ false →
-      firstNamed (nameNumber a b) (entriesOf (c ∷ cs)) ≡ firstNamed (nameNumber a b) (entriesOf cs)
-  other-name p c cs w h =
-      let e = entry-name p c w in
-      let s = w .second in
-      rw (ne-eqb (nameOf (cellEntry c)) (nameNumber a b) (λ q. apart (eqb (c .first) a) refl (eqb (c .second) b) refl h (let z : c .first ≡ a = omega arith in z) (let z : c .second ≡ b = omega arith in z))) refl
-    where
-      apart : (x : Bool) → eqb (c .first) a ≡ x → (y : Bool) → eqb (c .second) b ≡ y → (x && y) ≡ false → c .first ≡ a → c .second ≡ b → ⊥
-      apart true f true g k m n = absurd (false≢true (sym k))
-      apart false f y g k m n = eqb-false (c .first) a f m
-      apart true f false g k m n = eqb-false (c .second) b g n
+module _ (ws : List ℕ) (w : Wanted) (live : ℕ → Bool) where
+  -- the test by a place answers of each cell as the finder
+  abbrev Agrees : List Spot → Type 0
+  Agrees [] = Unit {0}
+  Agrees (x ∷ xs) = (isCell (typeAt ws (x .place)) ≡ true → live (x .place) ≡ isWanted w ws (x .place)) × Agrees xs
 
-  same-name : (p : ℕ) (c : Cell) (cs : List Cell) → Within p 4294967296 c → (eqb (c .first) a && eqb (c .second) b) ≡ true →
-      firstNamed (nameNumber a b) (entriesOf (c ∷ cs)) ≡ some (c .place)
-  same-name p c cs w h =
-      let both = and-eq-true-iff (eqb (c .first) a) (eqb (c .second) b) .0 h in
-      let f = eqb-true (c .first) a (both .0) in
-      let g = eqb-true (c .second) b (both .1) in
-      let e = entry-name p c w in
-      rw (eq-eqb (nameOf (cellEntry c)) (nameNumber a b) (omega arith), entry-place p c w) refl
+  module _ (a b : ℕ) (small : a < 65536) (low : b < 65536) where
+    -- an entry has the name that its cell has
+    name-test : (p : ℕ) (c : Cell) → Within p 4294967296 c → eqb (nameOf (cellEntry c)) (nameNumber a b) ≡ (eqb (c .first) a && eqb (c .second) b)
+    name-test p c k = go (eqb (c .first) a) refl (eqb (c .second) b) refl
+      where
+        go : (x : Bool) → eqb (c .first) a ≡ x → (y : Bool) → eqb (c .second) b ≡ y → eqb (nameOf (cellEntry c)) (nameNumber a b) ≡ (x && y)
+        go true f true g =
+            let e = entry-name p c k in
+            let u = eqb-true (c .first) a f in
+            let v = eqb-true (c .second) b g in
+            eq-eqb (nameOf (cellEntry c)) (nameNumber a b) (omega arith)
+        go true f false g =
+            let e = entry-name p c k in
+            let s = k .second in
+            ne-eqb (nameOf (cellEntry c)) (nameNumber a b) (λ q. eqb-false (c .second) b g (omega arith))
+        go false f y g =
+            let e = entry-name p c k in
+            let s = k .second in
+            ne-eqb (nameOf (cellEntry c)) (nameNumber a b) (λ q. eqb-false (c .first) a f (omega arith))
 
-  -- after n others, the first entry with the name is that of the first cell with it
-  abbrev First : ℕ → List Spot → Type 0
-  First n xs = (p : ℕ) → Rising p 4294967296 (cellsIn ws xs) → firstNamed (nameNumber a b) (entriesOf (cellsIn ws xs)) ≡ placeBy (finder.firstNamed ws a b n xs)
+    -- after n others, the first entry that is found is that of the first cell
+    abbrev First : ℕ → List Spot → Type 0
+    First n xs = (p : ℕ) → Rising p 4294967296 (cellsIn ws xs) → firstFound live (nameNumber a b) (entriesOf (cellsIn ws xs)) ≡ placeBy (finder.firstNamed w ws a b n xs)
 
-  pub named-first : (p n : ℕ) (xs : List Spot) → Rising p 4294967296 (cellsIn ws xs) →
-      firstNamed (nameNumber a b) (entriesOf (cellsIn ws xs)) ≡ placeBy (finder.firstNamed ws a b n xs)
-  unfolding cellHere hasName
-  named-first p n [] r = refl
-  named-first p n (x ∷ xs) r = go (λ q. named-first q (n + 1) xs) (isCell (typeAt ws (x .place))) refl r
-    where
-      c : Cell
-      c = record { first = nameFirst ws (x .place); second = nameSecond ws (x .place); place = x .place }
+    pub named-first : (p n : ℕ) (xs : List Spot) → Agrees xs → Rising p 4294967296 (cellsIn ws xs) →
+        firstFound live (nameNumber a b) (entriesOf (cellsIn ws xs)) ≡ placeBy (finder.firstNamed w ws a b n xs)
+    unfolding cellHere hasName isHit
+    named-first p n [] g r = refl
+    named-first p n (x ∷ xs) g r = go (λ q. named-first q (n + 1) xs (g .1)) (isCell (typeAt ws (x .place))) refl r
+      where
+        c : Cell
+        c = record { first = nameFirst ws (x .place); second = nameSecond ws (x .place); place = x .place }
 
-      found-or : First (n + 1) xs → (t : Bool) → (eqb (nameFirst ws (x .place)) a && eqb (nameSecond ws (x .place)) b) ≡ t → Within p 4294967296 c → Rising (x .place) 4294967296 (cellsIn ws xs) →
-          firstNamed (nameNumber a b) (entriesOf (c ∷ cellsIn ws xs)) ≡ placeBy (hitIf t (x .place) n (finder.firstNamed ws a b (n + 1) xs))
-      found-or rest true e w r = same-name p c (cellsIn ws xs) w e
-      found-or rest false e w r = other-name p c (cellsIn ws xs) w e ∙ rest (x .place) r
+        one : Bool → Bool
+        one t = (t && (eqb (nameFirst ws (x .place)) a && eqb (nameSecond ws (x .place)) b)) && isWanted w ws (x .place)
 
-      go : First (n + 1) xs → (t : Bool) → isCell (typeAt ws (x .place)) ≡ t → Rising p 4294967296 (cellIf t c ++ cellsIn ws xs) →
-          firstNamed (nameNumber a b) (entriesOf (cellIf t c ++ cellsIn ws xs)) ≡
-          placeBy (hitIf (t && (eqb (nameFirst ws (x .place)) a && eqb (nameSecond ws (x .place)) b)) (x .place) n (finder.firstNamed ws a b (n + 1) xs))
-      go rest true e r = found-or rest (eqb (nameFirst ws (x .place)) a && eqb (nameSecond ws (x .place)) b) refl (r .0) (r .1)
-      go rest false e r = rest p r
+        picked : (t : Bool) (o : Option ℕ) (f : Finding) → o ≡ placeBy f → cond t (some (x .place)) o ≡ placeBy (hitIf t (x .place) n f)
+        picked true o f e = refl
+        picked false o f e = e
+
+        same-test : isCell (typeAt ws (x .place)) ≡ true → Within p 4294967296 c → isFound live (nameNumber a b) (cellEntry c) ≡ one true
+        same-test e k = rw (entry-place p c k, g .0 e, name-test p c k) refl
+
+        go : First (n + 1) xs → (t : Bool) → isCell (typeAt ws (x .place)) ≡ t → Rising p 4294967296 (cellIf t c ++ cellsIn ws xs) →
+            firstFound live (nameNumber a b) (entriesOf (cellIf t c ++ cellsIn ws xs)) ≡ placeBy (hitIf (one t) (x .place) n (finder.firstNamed w ws a b (n + 1) xs))
+        go rest true e r =
+            rw (same-test e (r .0), entry-place p c (r .0))
+            (picked (one true) (firstFound live (nameNumber a b) (entriesOf (cellsIn ws xs))) (finder.firstNamed w ws a b (n + 1) xs) (rest (x .place) (r .1)))
+        go rest false e r = rest p r
 
 ---- an answer by its place
 
@@ -202,25 +215,33 @@ abbrev outcomeBy : Option ℕ → List ℕ
 outcomeBy (some place) = 0 ∷ place ∷ []
 outcomeBy none = 13 ∷ 0 ∷ []
 
-last-outcome : (es : List ℕ) (name : ℕ) (h : Halved) → lookOutcome (lastLook es name h) ≡ outcomeBy (placeFound (lastLook es name h))
-last-outcome es name h = go (ltb (h .low) (length es)) (eqb (nameOf (getD es (h .low) 0)) name)
+steps-outcome : (live : ℕ → Bool) (name : ℕ) (es : List ℕ) (n : ℕ) → lookOutcome (goOn live name es n) ≡ outcomeBy (placeFound (goOn live name es n))
+steps-outcome live name [] n = refl
+steps-outcome live name (e ∷ es) n = go (eqb (nameOf e) name) (live (placeOf e)) (steps-outcome live name es (stepTo name es n))
   where
-    go : (b c : Bool) →
-        lookOutcome (cond b (cond c (found.At (placeOf (getD es (h .low) 0)) (h .looks + 1)) (missing (h .looks + 1))) (missing (h .looks))) ≡
-        outcomeBy (placeFound (cond b (cond c (found.At (placeOf (getD es (h .low) 0)) (h .looks + 1)) (missing (h .looks + 1))) (missing (h .looks))))
-    go true true = refl
-    go true false = refl
-    go false c = refl
+    go : (b c : Bool) → lookOutcome (goOn live name es (stepTo name es n)) ≡ outcomeBy (placeFound (goOn live name es (stepTo name es n))) →
+        lookOutcome (cond b (cond c (found.At (placeOf e) n) (goOn live name es (stepTo name es n))) (missing n)) ≡
+        outcomeBy (placeFound (cond b (cond c (found.At (placeOf e) n) (goOn live name es (stepTo name es n))) (missing n)))
+    go true true r = refl
+    go true false r = r
+    go false c r = refl
 
-look-outcome : (es : List ℕ) (name : ℕ) → lookOutcome (lookUp es name) ≡ outcomeBy (placeFound (lookUp es name))
-unfolding lookUp
-look-outcome es name = last-outcome es name (halved es name)
-
-find-outcome : (ws : List ℕ) (a b n : ℕ) (xs : List Spot) → findOutcome (finder.firstNamed ws a b n xs) ≡ outcomeBy (placeBy (finder.firstNamed ws a b n xs))
-find-outcome ws a b n [] = refl
-find-outcome ws a b n (x ∷ xs) = go (find-outcome ws a b (n + 1) xs) (hasName ws (x .place) a b)
+look-outcome : (live : ℕ → Bool) (es : List ℕ) (name : ℕ) → lookOutcome (lookOn live es name) ≡ outcomeBy (placeFound (lookOn live es name))
+unfolding lookOn
+look-outcome live es name = go (ltb (halved es name .low) (length es))
   where
-    go : findOutcome (finder.firstNamed ws a b (n + 1) xs) ≡ outcomeBy (placeBy (finder.firstNamed ws a b (n + 1) xs)) → (t : Bool) → findOutcome (hitIf t (x .place) n (finder.firstNamed ws a b (n + 1) xs)) ≡ outcomeBy (placeBy (hitIf t (x .place) n (finder.firstNamed ws a b (n + 1) xs)))
+    go : (b : Bool) →
+        lookOutcome (cond b (goOn live name (drop (halved es name .low) es) (halved es name .looks + 1)) (missing (halved es name .looks))) ≡
+        outcomeBy (placeFound (cond b (goOn live name (drop (halved es name .low) es) (halved es name .looks + 1)) (missing (halved es name .looks))))
+    go true = steps-outcome live name (drop (halved es name .low) es) (halved es name .looks + 1)
+    go false = refl
+
+find-outcome : (w : Wanted) (ws : List ℕ) (a b n : ℕ) (xs : List Spot) → findOutcome (finder.firstNamed w ws a b n xs) ≡ outcomeBy (placeBy (finder.firstNamed w ws a b n xs))
+find-outcome w ws a b n [] = refl
+find-outcome w ws a b n (x ∷ xs) = go (find-outcome w ws a b (n + 1) xs) (isHit w ws (x .place) a b)
+  where
+    go : findOutcome (finder.firstNamed w ws a b (n + 1) xs) ≡ outcomeBy (placeBy (finder.firstNamed w ws a b (n + 1) xs)) → (t : Bool) →
+        findOutcome (hitIf t (x .place) n (finder.firstNamed w ws a b (n + 1) xs)) ≡ outcomeBy (placeBy (hitIf t (x .place) n (finder.firstNamed w ws a b (n + 1) xs)))
     go rest true = refl
     go rest false = rest
 
@@ -256,16 +277,29 @@ module _ (dim : ℕ) (s : List ℕ) (e d m : ℕ) (below : Below 256 s) (q : jud
       let es = entriesOf (cellsOf dim (words s)) in
       below-all (2 ^ 64) (ordered es) (omega arith) (all-ordered (λ x. x < 2 ^ 64) es (all-small 0 (cellsOf dim (words s)) rises))
 
-  found-as : (t : List ℕ) (p : Packed) → packed t ≡ p →
-      lookOutcome (lookUpBy p (indexOf dim (words s))) ≡ findOutcome (findBy (judged.Accepted e d m) p (words s) (spotsOf dim (words s)))
+  -- by any test that agrees with the finder's
+  found-by : (w : Wanted) (live : ℕ → Bool) (a b : ℕ) → a < 65536 → b < 65536 → Agrees (words s) w live (spotsOf dim (words s)) →
+      lookOutcome (lookOn live (indexOf dim (words s)) (nameNumber a b)) ≡ findOutcome (finder.firstNamed w (words s) a b 0 (spotsOf dim (words s)))
   unfolding indexOf cellsOf
-  found-as t (text.Refused k p) i = refl
-  found-as t (text.Words a b) i =
-      let st = pack-stored t a b i in
+  found-by w live a b u v g =
       let cs = cellsOf dim (words s) in
-      look-outcome (ordered (entriesOf cs)) (nameNumber a b)
-      ∙ ap outcomeBy (look-up-finds (entriesOf cs) (nameNumber a b) (rising-order 0 cs rises) ∙ named-first (words s) a b (st .first) (st .second) 0 0 (spotsOf dim (words s)) rises)
-      ∙ sym (find-outcome (words s) a b 0 (spotsOf dim (words s)))
+      look-outcome live (ordered (entriesOf cs)) (nameNumber a b)
+      ∙ ap outcomeBy (look-up-finds live (nameNumber a b) (entriesOf cs) (rising-order 0 cs rises) ∙ named-first (words s) w live a b u v 0 0 (spotsOf dim (words s)) g rises)
+      ∙ sym (find-outcome w (words s) a b 0 (spotsOf dim (words s)))
+
+---- with deleted cells: every entry is wanted
+
+all-agree : (ws : List ℕ) (xs : List Spot) → Agrees ws WithDeleted (λ p. true) xs
+all-agree ws [] = tt
+all-agree ws (x ∷ xs) = (λ e. refl, all-agree ws xs)
+
+found-as : (dim : ℕ) (s : List ℕ) (e d m : ℕ) → Below 256 s → judgeOf dim s ≡ judged.Accepted e d m → (t : List ℕ) (p : Packed) → packed t ≡ p →
+    lookOutcome (lookUpBy p (indexOf dim (words s))) ≡ findOutcome (findBy WithDeleted (judged.Accepted e d m) p (words s) (spotsOf dim (words s)))
+found-as dim s e d m below q t (text.Refused k p) i = refl
+found-as dim s e d m below q t (text.Words a b) i =
+    let st = pack-stored t a b i in
+    ap lookOutcome (all-live (indexOf dim (words s)) (nameNumber a b))
+    ∙ found-by dim s e d m below q WithDeleted (λ p. true) a b (st .first) (st .second) (all-agree (words s) (spotsOf dim (words s)))
 
 pub look-up-file : LookUpFinds
 unfolding lookUpOf findOf
@@ -273,7 +307,47 @@ look-up-file dim s n t e d m below q fits =
     let size = index-bytes dim (words s) in
     rw (size, used-ok n (indexOf dim (words s)) (omega arith), held n (indexOf dim (words s)) (small dim s e d m below q), q) (found-as dim s e d m below q t (packed t) refl)
 
+---- without them: an entry is live where its cell is
+
+-- the element that starts at a place of the list
+starts-there : (xs ys : List Spot) (x : Spot) (ws : List ℕ) → liveIn (xs ++ (x ∷ ys)) ws (x .place) ≡ liveHere ws (x .place)
+starts-there [] ys x ws = rw (eq-eqb (x .place) (x .place) refl) refl
+starts-there (y ∷ xs) ys x ws = go (eqb (y .place) (x .place)) (starts-there xs ys x ws)
+  where
+    go : (b : Bool) → liveIn (xs ++ (x ∷ ys)) ws (x .place) ≡ liveHere ws (x .place) →
+        liveBy (firstIf b y (spotIn (xs ++ (x ∷ ys)) (x .place))) ws (x .place) ≡ liveHere ws (x .place)
+    go true r = refl
+    go false r = r
+
+live-agree : (dim : ℕ) (ws : List ℕ) (past xs : List Spot) → spotsOf dim ws ≡ past ++ xs → Agrees ws Live (liveCell dim ws) xs
+unfolding liveCell
+live-agree dim ws past [] e = tt
+live-agree dim ws past (x ∷ xs) e =
+    (λ c. ap (λ l. liveIn l ws (x .place)) e ∙ starts-there past xs x ws ∙ rw c refl, live-agree dim ws (past ++ (x ∷ [])) xs (e ∙ sym (append-snoc past x xs)))
+
+pub live-look-up-file : LiveLookUpFinds
+unfolding liveLookUpOf findOf
+live-look-up-file dim s n t below fits =
+    let size = index-bytes dim (words s) in
+    rw (size, used-ok n (indexOf dim (words s)) (omega arith)) (go (judgeOf dim s) refl (packed t) refl)
+  where
+    go : (j : Judged) → judgeOf dim s ≡ j → (p : Packed) → packed t ≡ p →
+        lookOutcome (liveLookBy j p (liveCell dim (words s)) (entries (take (8 * length (indexOf dim (words s))) (shown n (indexOf dim (words s)))))) ≡
+        findOutcome (findBy Live j p (words s) (spotsOf dim (words s)))
+    go (judged.Refused k p) q r i = refl
+    go (judged.Accepted e d m) q (text.Refused k p) i = refl
+    go (judged.Accepted e d m) q (text.Words a b) i =
+        let st = pack-stored t a b i in
+        rw (held n (indexOf dim (words s)) (small dim s e d m below q))
+        (found-by dim s e d m below q Live (liveCell dim (words s)) a b (st .first) (st .second) (live-agree dim (words s) [] (spotsOf dim (words s)) refl))
+
 ---- the bound, over any bytes
+
+pub entries-few : (used : ℕ) (s : List ℕ) (d : ℕ) → used / 8 < 2 ^ d → length (entries (take used s)) < 2 ^ d
+entries-few used s d h =
+    let l = length-entries (take used s) in
+    let k = length-take used s in
+    omega arith
 
 pub looks-any : LooksBound
 unfolding lookUpOf
@@ -282,7 +356,4 @@ looks-any s used t d h = go (entriesOk (length s) used) (packed t)
     go : (b : Bool) (p : Packed) → looksOf (cond b (lookUpBy p (entries (take used s))) (found.Refused 1 0 0)) ≤ d + 1
     go false p = omega arith
     go true (text.Refused k p) = omega arith
-    go true (text.Words a b) =
-        let l = length-entries (take used s) in
-        let k = length-take used s in
-        looks-bound (entries (take used s)) (nameNumber a b) d (omega arith)
+    go true (text.Words a b) = looks-bound (entries (take used s)) (nameNumber a b) d (entries-few used s d h)

@@ -1,2 +1,4 @@
 pub mod LookUp
+pub mod Live
+pub mod Table
 pub mod Finding

@@ -1,9 +1,8 @@
 -- Looking a name up in an index by the halving rule, over any list of entries (RULES.md, "Index").
-use Prim.Native.Nat.{ℕ, zero, suc, _+_, _*_, _/_, _≤_, _<_}
+use Prim.Native.Nat.{ℕ, zero, suc, _+_, _*_, _/_, _≤_}
 use mathlib.Core.Path.{_≡_}
-use mathlib.Core.List.{List, [], _∷_}
+use mathlib.Core.List.{List}
 use mathlib.Core.Bool.{cond}
-use mathlib.Core.Option.{Option, none, some}
 use lib.ListN.{length, getD, take}
 use lib.Dec.{ltb, eqb}
 use Rattle.names.specs.Names.{packed}
@@ -61,20 +60,7 @@ lookUpBy (text.Refused n p) es = Refused n p 0
 unfoldable pub lookUpOf : List ℕ → ℕ → List ℕ → Found
 lookUpOf s used t = cond (entriesOk (length s) used) (lookUpBy (packed t) (entries (take used s))) (Refused 1 0 0)
 
--- the place and the number of looks of an answer
-abbrev pub placeFound : Found → Option ℕ
-placeFound (At place looks) = some place
-placeFound (Refused number place looks) = none
-
+-- the number of looks of an answer
 abbrev pub looksOf : Found → ℕ
 looksOf (At place looks) = looks
 looksOf (Refused number place looks) = looks
-
--- what the finder answers over entries in file order: the place of the first with the name
-abbrev pub firstNamed : ℕ → List ℕ → Option ℕ
-firstNamed name [] = none
-firstNamed name (e ∷ es) = cond (eqb (nameOf e) name) (some (placeOf e)) (firstNamed name es)
-
--- entries in file order: no place is below that of an entry before it
-abbrev pub FileOrder : List ℕ → Type 0
-FileOrder es = (i j : ℕ) → i ≤ j → j < length es → placeOf (getD es i 0) ≤ placeOf (getD es j 0)

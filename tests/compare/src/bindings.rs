@@ -103,10 +103,18 @@ fn cells(file: &[u8], dim: u64) {
     let Ok(index) = index else { return };
     assert_eq!(index.used(), 8 * entries.map_or(0, |entries| entries.len()));
     for text in [&b"00417"[..], b"417", b"ABC", b"", b"small"] {
-        let ours = index.look_up(text).map(|found| (found.place as u64, found.looks as u64));
-        let ours = ours.map_err(|r| (r.number as u32, r.place as u64, r.count as u64));
-        let theirs = reader::look_up(index.bytes(), index.used() as u64, text).map(|found| (found.place, found.looked));
-        assert_eq!(ours, theirs.map_err(|r| (r.number, r.place, r.count)));
+        for with_deleted in [true, false] {
+            let ours = if with_deleted { index.look_up_with_deleted(text) } else { index.look_up(file, d, text) };
+            let ours = ours.map(|found| (found.place as u64, found.looks as u64));
+            let ours = ours.map_err(|r| (r.number as u32, r.place as u64, r.count as u64));
+            let (bytes, used) = (index.bytes(), index.used() as u64);
+            let theirs = if with_deleted {
+                reader::look_up_with_deleted(bytes, used, text)
+            } else {
+                reader::look_up(file, dim, bytes, used, text)
+            };
+            assert_eq!(ours, theirs.map(|found| (found.place, found.looked)).map_err(|r| (r.number, r.place, r.count)));
+        }
     }
 }
 
@@ -119,10 +127,14 @@ pub fn file(runs: &mut Runs, file: &[u8], dim: u64) {
     assert_eq!(ours.map_err(plain), judged.clone().map(|j| (j.elements, j.deepest, j.marker)));
     cells(file, dim);
     for text in [&b"00417"[..], b"417", b"", b"small"] {
-        let ours = dgn::find(file, d, text).map(|f| (f.place as u64, f.looked_at as u64));
-        let ours = ours.map_err(|r| (r.number as u32, r.place as u64, r.count as u64));
-        let theirs = reader::find(file, dim, text).map(|f| (f.place, f.looked));
-        assert_eq!(ours, theirs.map_err(|r| (r.number, r.place, r.count)));
+        for with_deleted in [true, false] {
+            let ours = if with_deleted { dgn::find_with_deleted(file, d, text) } else { dgn::find(file, d, text) };
+            let ours = ours.map(|f| (f.place as u64, f.looked_at as u64));
+            let ours = ours.map_err(|r| (r.number as u32, r.place as u64, r.count as u64));
+            let theirs =
+                if with_deleted { reader::find_with_deleted(file, dim, text) } else { reader::find(file, dim, text) };
+            assert_eq!(ours, theirs.map(|f| (f.place, f.looked)).map_err(|r| (r.number, r.place, r.count)));
+        }
     }
     if let Err(refusal) = judged {
         assert_eq!(dgn::all_texts(file, d).map(|_| ()).map_err(plain), Err(refusal.clone()));

@@ -53,9 +53,9 @@ pub fn lengths(random: &mut Random, runs: &mut Runs) {
                 // as an index, and as a text that is looked up
                 let index = Index { used: length as u64 / 8 * 8, buffer: bytes.clone() };
                 for text in [&b"00417"[..], b"", b"999999"] {
-                    let _ = runs.look_up(&index, text);
+                    let _ = runs.look_up_with_deleted(&index, text);
                 }
-                let _ = runs.look_up(&Index { buffer: vec![0; 8], used: 8 }, &bytes);
+                let _ = runs.look_up_with_deleted(&Index { buffer: vec![0; 8], used: 8 }, &bytes);
                 // as the tail, and as the room, of a written element
                 runs.write(&Write { tail: bytes.clone(), room: length, fill: 7, ..long_line(26) });
                 runs.write(&Write { room: length, fill: 7, ..long_line(26) });

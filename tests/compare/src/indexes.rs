@@ -6,7 +6,7 @@ use crate::runs::Runs;
 use reader::generate::cells::{cells, text_for};
 use reader::generate::indexes::{any_index, built, room};
 use reader::generate::{aimed, changes, large, texts, valid, Random, ORDER};
-use reader::Index;
+use reader::{FindRefusal, Found, Index};
 
 /// A file that is accepted, has a fault or was changed.
 fn file(random: &mut Random, dim: u64) -> Vec<u8> {
@@ -55,15 +55,18 @@ pub fn look_ups(random: &mut Random, runs: &mut Runs, times: u64) {
             let index = built(random, &file, dim);
             for _ in 0..4 {
                 let text = if random.one_in(4) { texts::any_text(random) } else { text_for(random, &file) };
-                let found = library::find(&file, dim, &text).map(|found| found.place).map_err(|refused| refused.number);
-                let looked = runs.look_up(&index, &text);
-                assert_eq!(looked.map(|found| found.place).map_err(|refused| refused.number), found, "{text:?}");
+                let outcome = |answer: Result<Found, FindRefusal>| answer.map(|found| found.place).map_err(|refused| refused.number);
+                let found = outcome(library::find_with_deleted(&file, dim, &text));
+                assert_eq!(outcome(runs.look_up_with_deleted(&index, &text)), found, "{text:?}");
+                let live = outcome(library::find(&file, dim, &text));
+                assert_eq!(outcome(runs.look_up(&file, dim, &index, &text)), live, "{text:?}");
             }
         }
         let index = any_index(random, &file, dim);
         for _ in 0..4 {
             let text = if random.one_in(4) { texts::any_text(random) } else { text_for(random, &file) };
-            let _ = runs.look_up(&index, &text);
+            let _ = runs.look_up_with_deleted(&index, &text);
+            let _ = runs.look_up(&file, dim, &index, &text);
         }
         runs.files += 1;
     }
@@ -80,7 +83,7 @@ pub fn looks(runs: &mut Runs) {
         let index = Index { used: buffer.len() as u64, buffer };
         for word in 0..2 * number as u16 + 4 {
             let Ok(text) = reader::unpack(word, 0) else { continue };
-            let looked = runs.look_up(&index, &text);
+            let looked = runs.look_up_with_deleted(&index, &text);
             let looks = looked.as_ref().map_or_else(|refused| refused.count, |found| found.looked);
             assert!(looks <= u64::from(u64::BITS - number.leading_zeros()) + 1);
             let there = word % 2 == 0 && (1..=2 * number).contains(&u64::from(word));
@@ -101,8 +104,10 @@ pub fn largest(random: &mut Random, runs: &mut Runs) {
         for _ in 0..200 {
             let cells = 1 + random.index(14_979);
             let text = text_for(random, &v.file[..70 * cells]);
-            let found = library::find(&v.file, v.dim, &text).map(|found| found.place).ok();
-            assert_eq!(runs.look_up(&index, &text).map(|found| found.place).ok(), found);
+            let found = library::find_with_deleted(&v.file, v.dim, &text).map(|found| found.place).ok();
+            assert_eq!(runs.look_up_with_deleted(&index, &text).map(|found| found.place).ok(), found);
+            let live = library::find(&v.file, v.dim, &text).map(|found| found.place).ok();
+            assert_eq!(runs.look_up(&v.file, v.dim, &index, &text).map(|found| found.place).ok(), live);
         }
     }
     for v in [large::most_elements(), large::longest_file_of_cells(), large::largest_extent_nested()] {

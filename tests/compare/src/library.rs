@@ -196,11 +196,24 @@ pub fn find(file: &[u8], dim: u64, text: &[u8]) -> Result<Found, FindRefusal> {
     found(LENDING.with(|l| lent(l, &l.text, text, |t| of_file(file, |f, o| raw::find(f, dim as usize, t, o)))))
 }
 
-/// Looks a name up in an index.
-pub fn look_up(index: &[u8], used: u64, text: &[u8]) -> Result<Found, FindRefusal> {
+pub fn find_with_deleted(file: &[u8], dim: u64, text: &[u8]) -> Result<Found, FindRefusal> {
+    found(LENDING.with(|l| lent(l, &l.text, text, |t| of_file(file, |f, o| raw::find_with_deleted(f, dim as usize, t, o)))))
+}
+
+/// Looks a name up in an index alone, deleted cells too.
+pub fn look_up_with_deleted(index: &[u8], used: u64, text: &[u8]) -> Result<Found, FindRefusal> {
     found(LENDING.with(|l| {
         lent(l, &l.text, text, |t| {
-            lent(l, &l.index, index, |i| answer(l, |o| raw::look_up(i, used as usize, t, o)))
+            lent(l, &l.index, index, |i| answer(l, |o| raw::look_up_with_deleted(i, used as usize, t, o)))
+        })
+    }))
+}
+
+/// Looks a name up in an index with its file, live cells alone.
+pub fn look_up(file: &[u8], dim: u64, index: &[u8], used: u64, text: &[u8]) -> Result<Found, FindRefusal> {
+    found(LENDING.with(|l| {
+        lent(l, &l.text, text, |t| {
+            lent(l, &l.index, index, |i| of_file(file, |f, o| raw::look_up(f, dim as usize, i, used as usize, t, o)))
         })
     }))
 }
@@ -557,8 +570,12 @@ pub fn short_answers(file: &[u8]) {
                 short::<_, 0>(l, |o| raw::characters(f, 2, 0, o)),
                 short::<_, 2>(l, |o| raw::field(f, 2, 0, 0, o)),
                 short::<_, 0>(l, |o| raw::field(f, 2, 0, 0, o)),
-                short::<_, 1>(l, |o| raw::look_up(&[], 0, &[], o)),
-                short::<_, 0>(l, |o| raw::look_up(&[], 0, &[], o)),
+                short::<_, 1>(l, |o| raw::find_with_deleted(f, 2, &[], o)),
+                short::<_, 0>(l, |o| raw::find_with_deleted(f, 2, &[], o)),
+                short::<_, 1>(l, |o| raw::look_up(f, 2, &[], 0, &[], o)),
+                short::<_, 0>(l, |o| raw::look_up(f, 2, &[], 0, &[], o)),
+                short::<_, 1>(l, |o| raw::look_up_with_deleted(&[], 0, &[], o)),
+                short::<_, 0>(l, |o| raw::look_up_with_deleted(&[], 0, &[], o)),
                 lent_to_write(l, &l.index, &mut [7; 16], |i| short::<_, 0>(l, |o| raw::index(f, 2, i, o))),
                 lent_to_write(l, &l.index, &mut [7; 16], |i| short::<_, 3>(l, |o| raw::cells(f, 2, i, o))),
                 lent_to_write(l, &l.index, &mut [7; 16], |i| short::<_, 0>(l, |o| raw::cells(f, 2, i, o))),

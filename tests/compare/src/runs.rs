@@ -142,7 +142,9 @@ impl Runs {
 
     pub fn find(&mut self, file: &[u8], dim: u64, text: &[u8]) {
         assert_eq!(library::find(file, dim, text), reader::find(file, dim, text), "find {text:?}, {dim}D, {file:02x?}");
-        self.calls += 1;
+        let theirs = reader::find_with_deleted(file, dim, text);
+        assert_eq!(library::find_with_deleted(file, dim, text), theirs, "find with deleted {text:?}, {dim}D, {file:02x?}");
+        self.calls += 2;
     }
 
     /// The index of a file, and its cells in file order, each in a buffer of so many bytes: all bytes of both.
@@ -167,10 +169,20 @@ impl Runs {
         self.calls += 2;
     }
 
-    /// A name looked up in an index, which may be any bytes.
-    pub fn look_up(&mut self, index: &Index, text: &[u8]) -> Result<Found, FindRefusal> {
-        let ours = library::look_up(&index.buffer, index.used, text);
-        assert_eq!(ours, reader::look_up(&index.buffer, index.used, text), "look up {text:?} in {index:02x?}");
+    /// A name looked up in an index alone, which may be any bytes.
+    pub fn look_up_with_deleted(&mut self, index: &Index, text: &[u8]) -> Result<Found, FindRefusal> {
+        let ours = library::look_up_with_deleted(&index.buffer, index.used, text);
+        let theirs = reader::look_up_with_deleted(&index.buffer, index.used, text);
+        assert_eq!(ours, theirs, "look up {text:?} in {index:02x?}");
+        self.calls += 1;
+        ours
+    }
+
+    /// The same with a file, which may be any: live cells alone.
+    pub fn look_up(&mut self, file: &[u8], dim: u64, index: &Index, text: &[u8]) -> Result<Found, FindRefusal> {
+        let ours = library::look_up(file, dim, &index.buffer, index.used, text);
+        let theirs = reader::look_up(file, dim, &index.buffer, index.used, text);
+        assert_eq!(ours, theirs, "look up {text:?} in {index:02x?}, {dim}D, {file:02x?}");
         self.calls += 1;
         ours
     }

@@ -1,5 +1,6 @@
 //! Finding a cell by its name.
 
+use crate::flags;
 use crate::judge::judge_seeing;
 use crate::layout;
 use crate::names::pack;
@@ -23,8 +24,22 @@ pub(crate) fn other(refused: Refusal) -> FindRefusal {
     }
 }
 
-/// The first type 1 or 2 with that name, in file order, deleted ones too.
+/// The first type 1 or 2 with that name that is not deleted, in file order.
+/// Deleted elements are counted.
 pub fn find(file: &[u8], dim: u64, text: &[u8]) -> Result<Found, FindRefusal> {
+    search(file, dim, text, |place| !flags::is_deleted(file, place))
+}
+
+/// The first type 1 or 2 with that name, in file order, deleted ones too.
+pub fn find_with_deleted(file: &[u8], dim: u64, text: &[u8]) -> Result<Found, FindRefusal> {
+    search(file, dim, text, |_| true)
+}
+
+/// The first cell with that name which may be taken.
+fn search<F>(file: &[u8], dim: u64, text: &[u8], may_take: F) -> Result<Found, FindRefusal>
+where
+    F: Fn(u64) -> bool,
+{
     let wanted = pack(text);
     let mut looked = 0;
     let mut found = None;
@@ -32,7 +47,8 @@ pub fn find(file: &[u8], dim: u64, text: &[u8]) -> Result<Found, FindRefusal> {
         looked += 1;
         if let (None, Some(offset), Ok(name)) = (&found, layout::name_word(seen.kind), &wanted) {
             let at = seen.place + offset;
-            if (word(file, at) as u16, word(file, at + 1) as u16) == *name {
+            let same = (word(file, at) as u16, word(file, at + 1) as u16) == *name;
+            if same && may_take(seen.place) {
                 found = Some(Found {
                     place: seen.place,
                     looked,

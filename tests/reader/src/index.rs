@@ -5,11 +5,13 @@
 //! the words, unsigned, then by the place.
 
 use crate::find::{other, Found};
+use crate::flags;
 use crate::judge::judge_seeing;
 use crate::layout;
 use crate::names::pack;
 use crate::refusal::{self, plain, FindRefusal, Refusal};
 use crate::words::{long, put, word};
+use std::collections::BTreeSet;
 
 /// The bytes of an entry.
 pub const ENTRY: u64 = 8;
@@ -111,25 +113,72 @@ pub(crate) fn halve(index: &[u8], number: u64, wanted: (u16, u16)) -> (u64, u64)
     (low, looks)
 }
 
+/// The place of the entry found and the count of looks; 13 where none was.
+fn answer(place: Option<u32>, looked: u64) -> Result<Found, FindRefusal> {
+    match place {
+        Some(place) => Ok(Found {
+            place: u64::from(place),
+            looked,
+        }),
+        None => Err(FindRefusal {
+            number: refusal::NO_SUCH,
+            place: 0,
+            count: looked,
+        }),
+    }
+}
+
 /// Looks a name up by the halving rule over any bytes; gives the place that
-/// the entry holds and the count of looks. Refuses with 1, 12, then 13 with
-/// the count of looks.
-pub fn look_up(index: &[u8], iused: u64, text: &[u8]) -> Result<Found, FindRefusal> {
+/// the entry holds, a deleted cell's too, and the count of looks. Refuses with
+/// 1, 12, then 13 with the count of looks.
+pub fn look_up_with_deleted(index: &[u8], iused: u64, text: &[u8]) -> Result<Found, FindRefusal> {
     if !good_index(index, iused) {
         return plain(refusal::CALL).map_err(other);
     }
     let wanted = pack(text).map_err(other)?;
     let number = iused / ENTRY;
     let (low, looked) = halve(index, number, wanted);
-    if low < number && entry(index, low).name() == wanted {
-        return Ok(Found {
-            place: u64::from(entry(index, low).place),
-            looked,
-        });
+    let last = (low < number).then(|| entry(index, low));
+    let place = last.filter(|last| last.name() == wanted);
+    answer(place.map(|last| last.place), looked)
+}
+
+/// Looks a name up in the same way and passes over entries of that name whose
+/// place starts no cell of the file, or a deleted one; each entry of that name
+/// gone on to is one more look. Refuses with 1, the file's own, 12, then 13
+/// with the count of looks.
+pub fn look_up(
+    file: &[u8],
+    dim: u64,
+    index: &[u8],
+    iused: u64,
+    text: &[u8],
+) -> Result<Found, FindRefusal> {
+    if !good_index(index, iused) {
+        return plain(refusal::CALL).map_err(other);
     }
-    Err(FindRefusal {
-        number: refusal::NO_SUCH,
-        place: 0,
-        count: looked,
+    let mut live = BTreeSet::new();
+    judge_seeing(file, dim, |seen| {
+        if layout::name_word(seen.kind).is_some() && !flags::is_deleted(file, seen.place) {
+            live.insert(seen.place);
+        }
     })
+    .map_err(other)?;
+    let wanted = pack(text).map_err(other)?;
+    let number = iused / ENTRY;
+    let place_if_named = |k: u64| {
+        let there = (k < number).then(|| entry(index, k));
+        there.filter(|e| e.name() == wanted).map(|e| e.place)
+    };
+    let (mut at, mut looked) = halve(index, number, wanted);
+    while let Some(place) = place_if_named(at) {
+        if live.contains(&u64::from(place)) {
+            break;
+        }
+        at += 1;
+        if place_if_named(at).is_some() {
+            looked += 1;
+        }
+    }
+    answer(place_if_named(at), looked)
 }

@@ -89,7 +89,10 @@ fn far_places() {
     let far = file(&[element(5, false, 65_535), line(false), named(1, 2, false)]);
     let (buffer, _) = build(&far, 2, 8).unwrap();
     assert_eq!(words_of(&buffer), [1, 2, 1, 25]);
-    assert_eq!(look_up(&buffer, 8, b"  A  B"), found(65_561, 2));
+    assert_eq!(
+        look_up_with_deleted(&buffer, 8, b"  A  B"),
+        found(65_561, 2)
+    );
 }
 
 // "A call that writes an index zeroes its buffer past it", "too small a buffer
@@ -152,7 +155,7 @@ fn looks_by_hand() {
     };
     let look = |names: &[u16], text: &[u8]| {
         let bytes = index(names);
-        look_up(&bytes, bytes.len() as u64, text)
+        look_up_with_deleted(&bytes, bytes.len() as u64, text)
     };
     let [a, b, c, d] = [1600, 3200, 4800, 6400];
     assert_eq!(look(&[], b"A"), not_found(13, 0));
@@ -199,37 +202,24 @@ fn refusals_of_looking_up() {
         u64::MAX - 7,
         u64::MAX,
     ] {
-        assert_eq!(look_up(&bytes, used, b"A"), not_found(1, 0));
-        assert_eq!(look_up(&bytes, used, b"bad text"), not_found(1, 0));
+        assert_eq!(look_up_with_deleted(&bytes, used, b"A"), not_found(1, 0));
+        assert_eq!(
+            look_up_with_deleted(&bytes, used, b"bad text"),
+            not_found(1, 0)
+        );
     }
-    assert_eq!(look_up(&bytes, 16, b"A"), found(7, 3));
-    assert_eq!(look_up(&bytes, 16, b""), found(5, 3));
-    assert_eq!(look_up(&bytes, 8, b"A"), not_found(13, 1));
-    assert_eq!(look_up(&bytes, 16, b"A "), not_found(12, 0));
-    assert_eq!(look_up(&bytes, 0, b"abc"), not_found(12, 0));
-    assert_eq!(look_up(&[], 0, b"A"), not_found(13, 0));
+    assert_eq!(look_up_with_deleted(&bytes, 16, b"A"), found(7, 3));
+    assert_eq!(look_up_with_deleted(&bytes, 16, b""), found(5, 3));
+    assert_eq!(look_up_with_deleted(&bytes, 8, b"A"), not_found(13, 1));
+    assert_eq!(look_up_with_deleted(&bytes, 16, b"A "), not_found(12, 0));
+    assert_eq!(look_up_with_deleted(&bytes, 0, b"abc"), not_found(12, 0));
+    assert_eq!(look_up_with_deleted(&[], 0, b"A"), not_found(13, 0));
     // The place is what the entry says, as an unsigned long.
     let far = bytes_of_entries(&[entry(1600, 0, u32::MAX)]);
-    assert_eq!(look_up(&far, 8, b"A"), found(u64::from(u32::MAX), 2));
-}
-
-/// The rule once more, by itself: the looks made between two bounds, and where
-/// they end.
-fn halved(list: &[Entry], low: usize, high: usize, wanted: (u16, u16)) -> (usize, u64) {
-    if low == high {
-        return (low, 0);
-    }
-    let middle = low + (high - low) / 2;
-    let (end, looks) = if list[middle].name() < wanted {
-        halved(list, middle + 1, high, wanted)
-    } else {
-        halved(list, low, middle, wanted)
-    };
-    (end, looks + 1)
-}
-
-fn binary_digits(number: usize) -> u64 {
-    u64::from(usize::BITS - number.leading_zeros())
+    assert_eq!(
+        look_up_with_deleted(&far, 8, b"A"),
+        found(u64::from(u32::MAX), 2)
+    );
 }
 
 // "Over bytes that are no built index the look-up still ends, with the halving
@@ -244,7 +234,7 @@ fn looking_up_in_any_bytes() {
         let made = cells(&mut random, dim);
         let index = any_index(&mut random, &made.file, dim);
         let text = text_for(&mut random, &made.file);
-        let answer = look_up(&index.buffer, index.used, &text);
+        let answer = look_up_with_deleted(&index.buffer, index.used, &text);
         if index.used % ENTRY != 0 || index.used > index.buffer.len() as u64 {
             assert_eq!(answer, not_found(1, 0));
             calls += 1;
@@ -254,17 +244,7 @@ fn looking_up_in_any_bytes() {
             assert_eq!(answer, not_found(12, 0));
             continue;
         };
-        let words = words_of(&index.buffer[..index.used as usize]);
-        let list: Vec<Entry> = words
-            .chunks(4)
-            .map(|four| {
-                entry(
-                    four[0],
-                    four[1],
-                    u32::from(four[2]) << 16 | u32::from(four[3]),
-                )
-            })
-            .collect();
+        let list = entries_in(&index.buffer[..index.used as usize]);
         let (low, looks) = halved(&list, 0, list.len(), wanted);
         let looks = looks + u64::from(low < list.len());
         assert!(looks <= binary_digits(list.len()) + 1);
@@ -303,8 +283,8 @@ fn as_the_finder() {
         };
         assert_eq!(used as usize, 8 * number);
         let text = text_for(&mut random, &made.file);
-        let looked = look_up(&buffer, used, &text);
-        match (find(&made.file, dim, &text), looked) {
+        let looked = look_up_with_deleted(&buffer, used, &text);
+        match (find_with_deleted(&made.file, dim, &text), looked) {
             (Ok(first), Ok(second)) => {
                 assert_eq!(first.place, second.place);
                 hits += 1;
@@ -349,8 +329,11 @@ fn most_cells() {
             let at = made.file[35 * 2 * k + 32..35 * 2 * k + 36].to_vec();
             let name = words_of(&at);
             let text = unpack(name[0], name[1]).unwrap();
-            let answer = look_up(&buffer, used, &text).unwrap();
-            assert_eq!(answer.place, find(&made.file, 2, &text).unwrap().place);
+            let answer = look_up_with_deleted(&buffer, used, &text).unwrap();
+            assert_eq!(
+                answer.place,
+                find_with_deleted(&made.file, 2, &text).unwrap().place
+            );
             assert!((14..=15).contains(&answer.looked));
         }
     }

@@ -117,22 +117,22 @@ fn the_finder() {
     let file = file(&elements);
     // The line, the library cell, its line, then the deleted cell.
     assert_eq!(
-        find(&file, 2, b"00417"),
+        find_with_deleted(&file, 2, b"00417"),
         Ok(Found {
             place: 26 + 35 + 26,
             looked: 4
         })
     );
     assert_eq!(
-        find(&file, 2, b"417"),
+        find_with_deleted(&file, 2, b"417"),
         Ok(Found {
             place: 26,
             looked: 2
         })
     );
-    assert_eq!(find(&file, 2, b"0417"), not_found(7));
-    assert_eq!(find(&file, 2, b""), not_found(7));
-    assert_eq!(find(&[255, 255], 2, b"A"), not_found(0));
+    assert_eq!(find_with_deleted(&file, 2, b"0417"), not_found(7));
+    assert_eq!(find_with_deleted(&file, 2, b""), not_found(7));
+    assert_eq!(find_with_deleted(&[255, 255], 2, b"A"), not_found(0));
 }
 
 // "Every call on a file answers 1, then the file's own refusals, then the
@@ -146,16 +146,20 @@ fn refusals_of_the_finder() {
             count: 0,
         })
     };
-    for (number, place, file) in faulty() {
-        assert_eq!(find(&file, 2, b"A"), with(number, place));
-        assert_eq!(find(&file, 2, b"bad text"), with(number, place));
-    }
+    type Find = fn(&[u8], u64, &[u8]) -> Result<Found, FindRefusal>;
+    let finders: [Find; 2] = [find, find_with_deleted];
     let good = file(&[cell(false, &[])]);
-    assert_eq!(find(&good, 1, b"A"), with(1, 0));
-    assert_eq!(find(&good[1..], 2, b"bad text"), with(1, 0));
-    assert_eq!(find(&good, 2, b"A "), with(12, 0));
-    assert_eq!(find(&good, 2, b"ABCDEFG"), with(12, 0));
-    assert_eq!(find(&good, 2, b"A"), not_found(1));
+    for find in finders {
+        for (number, place, file) in faulty() {
+            assert_eq!(find(&file, 2, b"A"), with(number, place));
+            assert_eq!(find(&file, 2, b"bad text"), with(number, place));
+        }
+        assert_eq!(find(&good, 1, b"A"), with(1, 0));
+        assert_eq!(find(&good[1..], 2, b"bad text"), with(1, 0));
+        assert_eq!(find(&good, 2, b"A "), with(12, 0));
+        assert_eq!(find(&good, 2, b"ABCDEFG"), with(12, 0));
+        assert_eq!(find(&good, 2, b"A"), not_found(1));
+    }
 }
 
 // "looks at elements in file order, deleted ones too": against a plain search
@@ -173,7 +177,7 @@ fn finder_against_views() {
         let position = starts
             .iter()
             .position(|start| view(&made.file, dim, start.place).unwrap().name == Some(wanted));
-        let answer = find(&made.file, dim, &text);
+        let answer = find_with_deleted(&made.file, dim, &text);
         match position {
             Some(at) => {
                 hits += 1;
@@ -188,7 +192,8 @@ fn finder_against_views() {
     }
     assert!(hits > 100);
     let names = generate::large::long_names(&mut random, 3);
-    assert_eq!(find(&names.file, 3, b"999999").unwrap().looked, 1);
-    assert_eq!(find(&names.file, 3, b"A00000").unwrap().looked, 3);
-    assert_eq!(find(&names.file, 3, b"ZZZZZZ").unwrap().looked, 5);
+    for (text, looked) in [(b"999999", 1), (b"A00000", 3), (b"ZZZZZZ", 5)] {
+        let found = find_with_deleted(&names.file, 3, text).unwrap();
+        assert_eq!(found.looked, looked);
+    }
 }

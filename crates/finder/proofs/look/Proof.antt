@@ -13,26 +13,26 @@ use Rattle.finder.proofs.look.Statement.{statement}
 use Rattle.finder.proofs.look.Tie as tie
 
 abbrev Inv-loop : tie.InvT-loop
-Inv-loop file from to before first second at₀ n₀ at n =
-    (n ≤ at) × ((r : Found) → FirstFrom (words file) first second n at to r → FirstFrom (words file) first second before from to r)
+Inv-loop file from to before first second wanted at₀ n₀ at n =
+    (n ≤ at) × ((r : Found) → FirstFrom wanted (words file) first second n at to r → FirstFrom wanted (words file) first second before from to r)
 
 abbrev μ-loop : tie.MeasureT-loop
-μ-loop file from to before first second at₀ n₀ at n = to - at
+μ-loop file from to before first second wanted at₀ n₀ at n = to - at
 
 loop-holds : tie.Need-loop-holds Inv-loop μ-loop
 loop-holds c = ((c .before .pre .0), λ r f. f)
 
-has-name-requires : tie.Need-has-name-requires Inv-loop μ-loop
-has-name-requires c κs = omega (arith, (c .loop-test .taken), (c .before .before .before .pre .1))
+is-hit-requires : tie.Need-is-hit-requires Inv-loop μ-loop
+is-hit-requires c κs = omega (arith, (c .loop-test .taken), (c .before .before .before .pre .1))
 
-add-t11 : tie.Need-add-t11 Inv-loop μ-loop
-add-t11 c =
+add-t12 : tie.Need-add-t12 Inv-loop μ-loop
+add-t12 c =
     let at-loop = c .before .before .before in
     let start = at-loop .before .before in
     omega (arith, (c .before .before .loop-test .taken), (start .pre .1), (at-loop .loop .inv .0))
 
 returns : tie.Need-returns Inv-loop μ-loop
-returns c = (c .before .before .before .loop .inv .1) _ (look-hit _ _ _ _ _ _ ((c .before .before .loop-test .taken)) (sym ((c .before .has-name .ensures)) ∙ (c .if1 .taken)))
+returns c = (c .before .before .before .loop .inv .1) _ (look-hit _ _ _ _ _ _ _ ((c .before .before .loop-test .taken)) (sym ((c .before .is-hit .ensures)) ∙ (c .if1 .taken)))
 
 size-at-requires : tie.Need-size-at-requires Inv-loop μ-loop
 size-at-requires c κs = search needs
@@ -61,10 +61,10 @@ loop-again : tie.Need-loop-again Inv-loop μ-loop
 loop-again c =
     let at-loop-test = c .before .before .before in
     let at-loop = at-loop-test .before in
-    (omega (arith, (c .size-at .ensures), (at-loop .loop .inv .0)), λ r f. (at-loop .loop .inv .1) r (look-next _ _ _ _ _ _ (at-loop-test .loop-test .taken) (sym (c .before .before .has-name .ensures) ∙ (c .before .if1 .left)) r (rw (c .size-at .ensures) at f)))
+    (omega (arith, (c .size-at .ensures), (at-loop .loop .inv .0)), λ r f. (at-loop .loop .inv .1) r (look-next _ _ _ _ _ _ _ (at-loop-test .loop-test .taken) (sym (c .before .before .is-hit .ensures) ∙ (c .before .if1 .left)) r (rw (c .size-at .ensures) at f)))
 
 returns-2 : tie.Need-returns-2 Inv-loop μ-loop
-returns-2 c = (c .before .loop .inv .1) _ (look-none _ _ _ _ _ _ ((c .loop-test .left)))
+returns-2 c = (c .before .loop .inv .1) _ (look-none _ _ _ _ _ _ _ ((c .loop-test .left)))
 
 pub look-spec : {M : Type 1} → statement M
 look-spec =
@@ -73,8 +73,8 @@ look-spec =
     Inv-loop
     μ-loop
     loop-holds
-    has-name-requires
-    add-t11
+    is-hit-requires
+    add-t12
     returns
     size-at-requires
     add-at

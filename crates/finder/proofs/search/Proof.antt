@@ -16,10 +16,10 @@ use Rattle.finder.proofs.search.Statement.{statement}
 use Rattle.finder.proofs.search.Tie as tie
 
 abbrev Inv-loop : tie.InvT-loop
-Inv-loop file dim first second bound here₀ answer₀ here answer = Searched dim file first second here answer
+Inv-loop file dim first second wanted bound here₀ answer₀ here answer = Searched wanted dim file first second here answer
 
 abbrev μ-loop : tie.MeasureT-loop
-μ-loop file dim first second bound here₀ answer₀ here answer = length file / 2 - here
+μ-loop file dim first second wanted bound here₀ answer₀ here answer = length file / 2 - here
 
 call-ok-requires : tie.Need-call-ok-requires Inv-loop μ-loop
 call-ok-requires c κs = search needs
@@ -28,7 +28,7 @@ refused-requires : tie.Need-refused-requires Inv-loop μ-loop
 refused-requires c κs = search needs
 
 returns : tie.Need-returns Inv-loop μ-loop
-returns c = ((c .refused .ensures)) ∙ search-refused _ _ _ _ 1 0 (sym (judge-call _ _ (sym ((c .before .before .call-ok .ensures)) ∙ not-true _ ((c .before .if1 .taken)))))
+returns c = ((c .refused .ensures)) ∙ search-refused _ _ _ _ _ 1 0 (sym (judge-call _ _ (sym ((c .before .before .call-ok .ensures)) ∙ not-true _ ((c .before .if1 .taken)))))
 
 refused-requires-2 : tie.Need-refused-requires-2 Inv-loop μ-loop
 refused-requires-2 c κs = search needs

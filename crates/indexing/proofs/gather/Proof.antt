@@ -51,41 +51,45 @@ loop-holds c =
       ),
     )
 
-meet-requires : tie.Need-meet-requires Inv-loop μ-loop
-meet-requires c κs =
-    let i = c .before .before .loop .inv in
-    let t = c .before .loop-test .taken in
-    let z = i .1 .0 in
-    record { short = c .before .before .before .before .before .before .pre; inside = omega arith; few = i .0 }
-
 size-at-requires : tie.Need-size-at-requires Inv-loop μ-loop
 size-at-requires c κs = search needs
 
-add-at : tie.Need-add-at Inv-loop μ-loop
-add-at c =
-    let start = c .before .before .before .before .before .before .before .before .before .before in
+add-next : tie.Need-add-next Inv-loop μ-loop
+add-next c =
+    let loop = c .before .before .loop in
+    let at-slice = c .before .before .before .before in
+    let start = at-slice .before .before in
     let s = start .args .file .now in
-    let size = size-small s (lent-below s (c .before .before .before .before .before .before .before .before .shared-slice-known .given)) (c .before .before .before .before .before .before .loop .at) in
-    omega (arith, c .before .before .before .before .before .loop-test .taken, c .before .before .before .before .before .before .loop .inv .1 .0, c .size-at .ensures, start .pre)
+    let size = size-small s (lent-below s (at-slice .shared-slice-known .given)) (loop .at) in
+    omega (arith, c .before .loop-test .taken, loop .inv .1 .0, c .size-at .ensures, start .pre)
+
+meet-requires : tie.Need-meet-requires Inv-loop μ-loop
+meet-requires c κs =
+    let i = c .before .before .before .loop .inv in
+    let t = c .before .before .loop-test .taken in
+    let z = i .1 .0 in
+    record { short = c .before .before .before .before .before .before .before .pre; inside = omega arith; few = i .0 }
 
 loop-less : tie.Need-loop-less Inv-loop μ-loop
-loop-less c = omega (arith, c .before .before .before .before .before .loop-test .taken, c .size-at .ensures)
+loop-less c = let at-size = c .before .before .before .before in omega (arith, at-size .before .loop-test .taken, at-size .size-at .ensures)
 
 loop-again : tie.Need-loop-again Inv-loop μ-loop
 loop-again c =
-    let start = c .before .before .before .before .before .before .before .before .before .before in
+    let met = c .before .before .meet in
+    let at-size = c .before .before .before .before in
+    let loop = at-size .before .before .loop in
+    let at-pick = at-size .before .before .before in
+    let start = at-pick .before .before .before in
     let s = start .args .file .now in
-    let loop = c .before .before .before .before .before .before .loop in
-    let met = c .before .before .before .meet in
-    let end = c .before .before .before .before .before .before .before .pick .result in
+    let end = at-pick .pick .result in
     let k = loop .inv .1 .1 .0 in (
-      omega (arith, met .ensures .next, at-most-one (isCell (typeAt (words s) (loop .at))), c .size-at .ensures, loop .inv .0),
+      omega (arith, met .ensures .next, at-most-one (isCell (typeAt (words s) (loop .at))), at-size .size-at .ensures, loop .inv .0),
       (
         loop .inv .1 .0,
         (
           met .kept .0 ∙ k,
           λ cs f.
-              let ahead = loop .inv .1 .1 .1 (cellHere (words s) (loop .at) (loop .at) ++ cs) (left-one (words s) (loop .at) end cs (c .before .before .before .before .before .loop-test .taken) (rw (c .size-at .ensures) at f)) in
+              let ahead = loop .inv .1 .1 .1 (cellHere (words s) (loop .at) (loop .at) ++ cs) (left-one (words s) (loop .at) end cs (at-size .before .loop-test .taken) (rw (at-size .size-at .ensures) at f)) in
               record {
                 stored = meets (words s) (loop .at) (loop .i) (entries (loop .s)) (met .result) _ cs _ (met .ensures) (ahead .stored);
                 count = met-count (words s) (loop .at) (loop .i) (entries (loop .s)) (met .result) _ cs _ (met .ensures) (ahead .count);
@@ -113,9 +117,9 @@ gather-spec =
     μ-loop
     pick-requires
     loop-holds
-    meet-requires
     size-at-requires
-    add-at
+    add-next
+    meet-requires
     loop-less
     loop-again
     same-length

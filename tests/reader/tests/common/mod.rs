@@ -231,3 +231,33 @@ pub fn rewrite_texts(file: &[u8], dim: u64) -> usize {
     }
     texts.len()
 }
+
+/// The entries of an index, any bytes.
+pub fn entries_in(bytes: &[u8]) -> Vec<Entry> {
+    words_of(bytes)
+        .chunks_exact(4)
+        .map(|four| Entry {
+            first: four[0],
+            second: four[1],
+            place: u32::from(four[2]) << 16 | u32::from(four[3]),
+        })
+        .collect()
+}
+
+/// The halving rule between two bounds: where it ends, and its looks.
+pub fn halved(list: &[Entry], low: usize, high: usize, wanted: (u16, u16)) -> (usize, u64) {
+    if low == high {
+        return (low, 0);
+    }
+    let middle = low + (high - low) / 2;
+    let (end, looks) = if list[middle].name() < wanted {
+        halved(list, middle + 1, high, wanted)
+    } else {
+        halved(list, low, middle, wanted)
+    };
+    (end, looks + 1)
+}
+
+pub fn binary_digits(number: usize) -> u64 {
+    u64::from(usize::BITS - number.leading_zeros())
+}
