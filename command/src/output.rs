@@ -222,32 +222,31 @@ pub fn column(word: &(impl AsRef<OsStr> + ?Sized)) -> String {
 
 /// Puts a number behind a text.
 pub fn push_number(text: &mut String, number: usize) {
-    digits(number, |digits| *text += digits);
+    digits(number, |digit, _| text.push(digit));
 }
 
 /// The same with commas between groups of three digits.
 pub fn push_grouped(text: &mut String, number: usize) {
-    digits(number, |digits| {
-        for (k, digit) in digits.chars().enumerate() {
-            if k > 0 && (digits.len() - k) % 3 == 0 {
-                text.push(',');
-            }
-            text.push(digit);
+    digits(number, |digit, behind| {
+        text.push(digit);
+        if behind > 0 && behind % 3 == 0 {
+            text.push(',');
         }
     });
 }
 
-/// Hands the digits of a number over.
-fn digits(mut number: usize, take: impl FnOnce(&str)) {
-    let mut digits = [b'0'; 20];
-    let mut first = digits.len() - 1;
-    while number > 9 {
-        digits[first] += (number % 10) as u8;
+/// Hands over the digits of a number, each with how many stand behind it.
+fn digits(mut number: usize, mut take: impl FnMut(char, usize)) {
+    let mut digits = [0; 20];
+    let mut count = 0;
+    while count == 0 || number > 0 {
+        digits[count] = b'0' + (number % 10) as u8;
         number /= 10;
-        first -= 1;
+        count += 1;
     }
-    digits[first] += number as u8;
-    take(std::str::from_utf8(&digits[first..]).expect("digits"));
+    for behind in (0..count).rev() {
+        take(char::from(digits[behind]), behind);
+    }
 }
 
 /// A number with commas between groups of three digits.

@@ -26,7 +26,12 @@ same-length : tie.Need-same-length
 same-length c = search needs
 
 returns-2 : tie.Need-returns-2
-returns-2 c = lists-all ((c .before .before .before .before .before .before .before .args .file .now)) ((c .before .before .before .before .before .before .before .args .to)) ((c .before .before .before .before .before .before .before .args .s .now)) _ _ (c .before .before .before .before .if1 .left) (c .before .before .gather .kept .0) (c .before .before .gather .ensures) (λ i. (c .slice-known2 .given) i .fits)
+returns-2 c =
+    let at-gather = c .before .before in
+    let at-if1 = at-gather .before .before in
+    let start = at-if1 .before .before .before in
+    lists-all (start .args .file .now) (start .args .to) (start .args .s .now) _ _ (at-if1 .if1 .left) (at-gather .gather .kept .0) (at-gather .gather .ensures)
+    (λ i. (c .slice-known2 .given) i .fits)
 
 pub list-cells-spec : {M : Type 1} → statement M
 list-cells-spec =
