@@ -16,6 +16,7 @@ enum {
     SOLID = 16,    /* in 3D files only */
     NOT_READ = 32,
     LETTERED = 64, /* the fixed part's last word counts characters and fields, which follow it */
+    FLOATED = 128, /* has floats: two axes and an origin, which ends the fixed part */
 };
 
 /* What the rules say of a type: the fixed part in 2D and 3D without its points or characters, and where the name is, if
@@ -36,6 +37,8 @@ static const struct kind kinds[128] = {
     [11] = {{19, 19}, POINTED | LINKED, 0},
     [12] = {{20, 20}, HEADER | COUNTED | LINKED, 0},
     [14] = {{20, 20}, HEADER | COUNTED | LINKED, 0},
+    [15] = {{36, 46}, LINKED | FLOATED, 0},
+    [16] = {{40, 50}, LINKED | FLOATED, 0},
     [17] = {{30, 38}, LINKED | LETTERED, 0},
     [18] = {{21, 21}, HEADER | COUNTED | LINKED | SOLID, 0},
     [19] = {{21, 21}, HEADER | COUNTED | LINKED | SOLID, 0},
@@ -125,6 +128,25 @@ static inline bool letters(unsigned w)
     return w < 64000 && w / 1600 != 29 && w / 40 % 40 != 29 && w % 40 != 29;
 }
 
+/* Whether the float that begins at word k is a number: the exponent is 0 with the sign set in one that is none. */
+static inline bool number(const uint8_t *p, size_t k)
+{
+    return (word(p, k) & 0xff80) != 0x8000;
+}
+
+/* Whether all floats of the ellipse or arc at p are, whose fixed part is that long: two axes, then a float for each dimension at the
+ * end. */
+static inline bool numbers(const uint8_t *p, unsigned type, size_t fixed, size_t dim)
+{
+    size_t axes = type == 15 ? 18 : 22;
+    if (!number(p, axes) || !number(p, axes + 4))
+        return false;
+    for (size_t k = fixed - 4 * dim; k < fixed; k += 4)
+        if (!number(p, k))
+            return false;
+    return true;
+}
+
 /* The fixed part of a text whose counts end its first `fixed` words, or 0 and the refusal. */
 static size_t lettered(struct judging *j, size_t at, size_t size, size_t fixed)
 {
@@ -188,6 +210,8 @@ static inline size_t element(struct judging *j, size_t at, size_t bound, unsigne
         if (part < fixed || part > size || !linkages_fill(p, part, size))
             return refuse(j, 11, at);
     }
+    if (k->flags & FLOATED && !numbers(p, type, fixed, j->dim))
+        return refuse(j, 21, at);
     if (k->name && !(letters(word(p, k->name)) && letters(word(p, k->name + 1))))
         return refuse(j, 12, at);
 

@@ -1,4 +1,4 @@
-/* All views, points and texts of a file in plain C, for the bench alone: judges once by plain_judge and then goes from
+/* All views, points, texts, ellipses and arcs of a file in plain C, for the bench alone: judges once by plain_judge and then goes from
  * element to element and fills in the numbers of include/dgn.h, written from the rules. From an element number on, and as
  * many as there is room for. It promises nothing beyond what the bench compares. */
 #include <stdbool.h>
@@ -14,7 +14,7 @@ static const unsigned headers = 1u << 1 | 1u << 2 | 1u << 7 | 1u << 12 | 1u << 1
 static const unsigned counted = 1u << 7 | 1u << 12 | 1u << 14 | 1u << 18 | 1u << 19;
 static const unsigned pointed = 1u << 4 | 1u << 6 | 1u << 11 | 1u << 21;
 static const unsigned known = 1u << 1 | 1u << 2 | 1u << 3 | 1u << 4 | 1u << 6 | 1u << 7 | 1u << 11 | 1u << 12 | 1u << 14 |
-                              1u << 17 | 1u << 18 | 1u << 19 | 1u << 21;
+                              1u << 15 | 1u << 16 | 1u << 17 | 1u << 18 | 1u << 19 | 1u << 21;
 
 static inline bool among(unsigned types, unsigned type)
 {
@@ -204,6 +204,63 @@ size_t plain_texts(const uint8_t *file, size_t len, size_t dim, size_t k, int64_
             v[17] = (int64_t)(2 * (w.at + counts + 1));
         }
         step(file, &w, type, word(p, 1) + 2);
+    }
+    out[0] = e > k ? e : k;
+    out[1] = n;
+    return 0;
+}
+
+/* The float of the four words from word k on: the processor rounds its 56 digits as it makes a double of them, and the scale is a
+ * power of two. */
+static inline double float_at(const uint8_t *p, size_t k)
+{
+    const unsigned first = word(p, k), exponent = first >> 7 & 255;
+    if (exponent == 0)
+        return 0.0;
+    const uint64_t digits = 1ull << 55 | (uint64_t)(first & 127) << 48 | (uint64_t)word(p, k + 1) << 32 | (uint64_t)word(p, k + 2) << 16 | word(p, k + 3);
+    const uint64_t bits = (uint64_t)(first >> 15) << 63 | (uint64_t)(exponent + 839) << 52;
+    double scale;
+    memcpy(&scale, &bits, sizeof scale);
+    return (double)(int64_t)digits * scale;
+}
+
+/* The ellipses and arcs from element number k on, 9 numbers and 5 floats each, out the next element number and how many; or the
+ * number of a refusal, and nothing is written. */
+size_t plain_curves(const uint8_t *file, size_t len, size_t dim, size_t k, int64_t *numbers, size_t room, double *floats, size_t floats_room, size_t *out)
+{
+    size_t judged[3];
+    size_t number = plain_judge(file, len, dim, judged);
+    if (number != 0)
+        return number;
+    const size_t turns = dim == 2 ? 1 : 4;
+    size_t at = 0, n = 0, e = 0;
+    for (; e < judged[0]; e++) {
+        const uint8_t *p = file + 2 * at;
+        unsigned first = word(p, 0), type = first >> 8 & 127;
+        if (e >= k && (type == 15 || type == 16)) {
+            if (room < 9 * (n + 1) || floats_room < 5 * (n + 1)) {
+                if (n == 0)
+                    return 15;
+                break;
+            }
+            int64_t *v = numbers + 9 * n;
+            double *f = floats + 5 * n++;
+            size_t axes = type == 15 ? 18 : 22, origin = axes + 8 + 2 * turns;
+            v[0] = (int64_t)at;
+            v[1] = first >> 15;
+            v[2] = type;
+            v[3] = type == 15 ? 0 : whole(p, 18);
+            v[4] = type == 15 ? 0 : whole(p, 20);
+            v[6] = v[7] = v[8] = 0;
+            for (size_t i = 0; i < turns; i++)
+                v[5 + i] = whole(p, axes + 8 + 2 * i);
+            f[0] = float_at(p, axes);
+            f[1] = float_at(p, axes + 4);
+            f[4] = 0.0;
+            for (size_t i = 0; i < dim; i++)
+                f[2 + i] = float_at(p, origin + 4 * i);
+        }
+        at += word(p, 1) + 2;
     }
     out[0] = e > k ? e : k;
     out[1] = n;

@@ -8,7 +8,7 @@ static const char *const texts[][2] = {
     {"CUT", "An element is cut off, or words are left over after a piece."},
     {"RESERVED", "A bit that has to be zero is set: the file is damaged, or is no version 7 file."},
     {"PLACE", "An element says that it is a component and stands at the top, or the other way round."},
-    {"KIND", "An element's type may not stand there or is not read, or the element is no text."},
+    {"KIND", "An element's type may not stand there or is not read, or the element is of another type than asked for."},
     {"SHORT", "An element is too short for its type, or its number of points is not 2 to 101."},
     {"TOTAL", "An element's length does not fit it or what is around it, or is above 65,535 words."},
     {"COUNT", "A header counts other components than it has."},
@@ -23,7 +23,7 @@ static const char *const texts[][2] = {
     {"NOT A CELL", "Only a cell can be renamed."},
     {"BAD JOURNAL", "The journal's last record is damaged, or cannot be reversed in the file as it is."},
     {"FIELD", "An enter-data field of a text lies outside its characters or has an unknown justification."},
-    {"UNKNOWN", "This number is no refusal."},
+    {"FLOAT", "A float of an ellipse or an arc is no number."},
     {"BLOCK", "A block of a stored journal has a wrong check, count or rest, or is cut off."},
     {"UNKNOWN", "This number is no refusal."},
 };

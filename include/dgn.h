@@ -26,20 +26,25 @@
  *   file order   an element, then its components, then what follows its extent. Elements are numbered so, from 0, at
  *                all depths and deleted ones too
  *   end marker   the word 65535 where the next element at the top is due. What stands behind it is no part of the file
- *   the file's own refusals   2 to 12 and 20, of the first fault in the file
- *   a piece's own refusals    3 to 12 and 20, of the first fault in the piece that is to be inserted; the place counts
- *                             from the piece's start
+ *   the file's own refusals   2 to 12, 20 and 21, of the first fault in the file
+ *   a piece's own refusals    3 to 12, 20 and 21, of the first fault in the piece that is to be inserted; the place
+ *                             counts from the piece's start
  *
  * Cost. Each call that is handed a file judges all of it: one pass, on the machine of docs/BENCH.md below a millisecond
- * for 1 MiB. To read all elements use dgn_views, dgn_points and dgn_texts, which make one pass for many elements; dgn_view,
- * dgn_point and dgn_text make one for each. With room for DGN_FILE_ELEMENTS views, DGN_FILE_NUMBERS numbers of points and
- * DGN_FILE_TEXTS texts one call of each reads any file. Nothing is allocated, and 256 KiB of stack are enough.
+ * for 1 MiB. To read all elements use dgn_views, dgn_points, dgn_texts and dgn_curves, which make one pass for many
+ * elements; dgn_view, dgn_point, dgn_text and dgn_curve make one for each. With room for DGN_FILE_ELEMENTS views,
+ * DGN_FILE_NUMBERS numbers of points, DGN_FILE_TEXTS texts and DGN_FILE_CURVES ellipses and arcs one call of each reads any
+ * file. Nothing is allocated, and 256 KiB of stack are enough.
  *
  * Threads. The library keeps no state: calls may be made from any threads at once, on separate buffers. A buffer that a
  * call writes to is no other thread's until it returns.
  *
  * Ranges and points. A range's six numbers are given as stored, unsigned; MicroStation stores coordinate + 2147483648
  * there, while points are signed. So a point's x lies in the range where low x <= x + 2147483648 <= high x.
+ *
+ * Floats. The axes and origins of ellipses and arcs are stored as VAX D-floats. Each is given as the nearest double, ties to
+ * even, never a NaN and never an infinity. Angles are longs as stored, unsigned: 360000 is a degree; bit 31 of a sweep, which
+ * makers set for the other direction, is given with it.
  */
 #ifndef DGN_H
 #define DGN_H
@@ -61,12 +66,14 @@ extern "C" {
 
 /* Limits: bytes of a file, piece or buffer of a session; elements of a file, each of two words or more; numbers that
  * dgn_points writes of a file, at most one for two of its words; texts of a file, each of 30 words or more; cells of a file,
- * each of 35 words or more; words of an extent; depth; points of an element; characters, and enter-data fields, of a text. */
+ * each of 35 words or more; ellipses and arcs of a file, each of 36 words or more; words of an extent; depth; points of an
+ * element; characters, and enter-data fields, of a text. */
 #define DGN_FILE_BYTES 1048576
 #define DGN_FILE_ELEMENTS 262143
 #define DGN_FILE_NUMBERS 262144
 #define DGN_FILE_TEXTS 17476
 #define DGN_FILE_CELLS 14979
+#define DGN_FILE_CURVES 14563
 #define DGN_EXTENT_WORDS 65535
 #define DGN_DEEPEST 8
 #define DGN_MOST_POINTS 101
@@ -78,8 +85,9 @@ extern "C" {
 
 /* ---- refusals ---- */
 
-/* 2 to 12 and 20 are of a file, a piece or what is handed to a writer, 14 and 16 to 19 of editing, 22 of a stored journal; 21 is
- * none. The names of 5 and 9 are PLACE and COUNT; DGN_PLACE and DGN_COUNT take an answer apart. */
+/* 2 to 12, 20 and 21 are of a file or a piece, some of them of what is handed to a writer, 14 and 16 to 19 of editing, 22 of a
+ * stored journal.
+ * The names of 5 and 9 are PLACE and COUNT; DGN_PLACE and DGN_COUNT take an answer apart. */
 enum dgn_refusal {
     DGN_DONE = 0,
     DGN_CALL = 1,         /* dimension, a length, a field out of its range, a used file without its end, a short `out` */
@@ -87,7 +95,7 @@ enum dgn_refusal {
     DGN_CUT = 3,          /* an element or piece is cut off, or words are left over after a piece */
     DGN_RESERVED = 4,     /* bit 6 of an element's first word is set */
     DGN_WRONG_PLACE = 5,  /* the component bit is set at the top or clear beneath a header */
-    DGN_KIND = 6,         /* the type may not stand there, or is not read; the element is no text */
+    DGN_KIND = 6,         /* the type may not stand there, or is not read; the element is of another type than asked for */
     DGN_SHORT = 7,        /* an element is below its fixed part, or its number of points is not 2 to 101 */
     DGN_TOTAL = 8,        /* a total does not fit its element or what is around it, or more than 65,535 words */
     DGN_WRONG_COUNT = 9,  /* a header's count differs from its components */
@@ -102,6 +110,7 @@ enum dgn_refusal {
     DGN_NOT_A_CELL = 18,  /* rename of another type */
     DGN_BAD_JOURNAL = 19, /* the last record is ill-formed, or may not be reversed in this file */
     DGN_FIELD = 20,       /* an enter-data field of a text is wrong */
+    DGN_FLOAT = 21,       /* a float of an ellipse or an arc is no number */
     DGN_BLOCK = 22        /* a block of a stored journal is wrong */
 };
 
@@ -122,6 +131,8 @@ enum dgn_type {
     DGN_CURVE = 11,
     DGN_COMPLEX_CHAIN = 12,
     DGN_COMPLEX_SHAPE = 14,
+    DGN_ELLIPSE = 15,
+    DGN_ARC = 16,
     DGN_TEXT = 17,
     DGN_SURFACE = 18,     /* 18 and 19 in 3D files alone */
     DGN_SOLID = 19,
@@ -129,7 +140,7 @@ enum dgn_type {
 };
 
 /* Judges a whole file. out needs 3: how many elements it has, the greatest depth, the end marker's place.
- * Refusals: 1 to 12, 20. */
+ * Refusals: 1 to 12, 20, 21. */
 enum { DGN_JUDGE_ELEMENTS, DGN_JUDGE_DEPTH, DGN_JUDGE_MARKER };
 #define DGN_JUDGE_NUMBERS 3
 size_t dgn_judge(const uint8_t *file, size_t len, size_t dimension, size_t *out, size_t out_len);
@@ -214,6 +225,19 @@ enum { DGN_TEXTS_NEXT, DGN_TEXTS_COUNT };
 #define DGN_TEXTS_NUMBERS 18
 size_t dgn_texts(const uint8_t *file, size_t len, size_t dimension, size_t k, int64_t *numbers, size_t numbers_len, size_t *out, size_t out_len);
 
+/* The ellipses and arcs (types 15 and 16) among the elements number k, k+1, .. Each gives 9 numbers, these two and then the
+ * 7 of dgn_curve, and 5 floats, those of dgn_curve; as many as both slices hold whole, and what stands behind them stays. out
+ * needs 2: the number of the element to go on with, as for dgn_points, and how many ellipses and arcs. 15 where one is left
+ * and `numbers` has fewer than 9 or `floats` fewer than 5. */
+enum dgn_curves_index {
+    DGN_CURVES_PLACE = 0,
+    DGN_CURVES_DELETED = 1,
+    DGN_CURVES_CURVE = 2          /* the first of the 7 */
+};
+enum { DGN_CURVES_NEXT, DGN_CURVES_COUNT };
+#define DGN_CURVES_NUMBERS 9
+size_t dgn_curves(const uint8_t *file, size_t len, size_t dimension, size_t k, int64_t *numbers, size_t numbers_len, double *floats, size_t floats_len, size_t *out, size_t out_len);
+
 /* ---- one element: the one that starts at `place`. Refusals of each: 1, the file's own, 13 ---- */
 
 /* Its extent. out needs 2: its first word and the word after its last. */
@@ -269,6 +293,31 @@ size_t dgn_characters(const uint8_t *file, size_t len, size_t dimension, size_t 
 enum { DGN_FIELD_FIRST, DGN_FIELD_COUNT, DGN_FIELD_JUSTIFICATION };
 #define DGN_FIELD_NUMBERS 3
 size_t dgn_field(const uint8_t *file, size_t len, size_t dimension, size_t place, size_t k, int64_t *out, size_t out_len);
+
+/* ---- an ellipse or an arc: the element of type 15 or 16 that starts at `place`. (DGN_CURVE is another type.) ---- */
+
+/* Its numbers: all unsigned longs as stored, but the type. */
+enum dgn_curve_index {
+    DGN_CURVE_TYPE = 0,           /* DGN_ELLIPSE or DGN_ARC */
+    DGN_CURVE_START = 1,          /* of an arc the angle where it starts, of an ellipse 0 */
+    DGN_CURVE_SWEEP = 2,          /* of an arc the angle that it sweeps, of an ellipse 0 */
+    DGN_CURVE_TURN = 3            /* 2D: the rotation, then three zeros; 3D: the four longs of the quaternion */
+};
+#define DGN_CURVE_NUMBERS 7
+
+/* Its floats. */
+enum dgn_curve_float_index {
+    DGN_CURVE_PRIMARY = 0,        /* the primary axis */
+    DGN_CURVE_SECONDARY = 1,      /* the secondary axis */
+    DGN_CURVE_X = 2,              /* the origin */
+    DGN_CURVE_Y = 3,
+    DGN_CURVE_Z = 4               /* 0 in a 2D file */
+};
+#define DGN_CURVE_FLOATS 5
+
+/* numbers needs 7 and floats 5; what stands behind them stays. Refusals: 1 (also shorter slices), the file's own, 13, 6 at the
+ * place of an element of another type. */
+size_t dgn_curve(const uint8_t *file, size_t len, size_t dimension, size_t place, int64_t *numbers, size_t numbers_len, double *floats, size_t floats_len);
 
 /* ---- names ---- */
 

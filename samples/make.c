@@ -1,9 +1,10 @@
 /* Makes the sample files in a folder:
  *   make FOLDER
- * Lines, line strings, shapes and curves are made by dgn_write, texts by dgn_write_text, the headers of cells and text nodes
- * here, word by word as docs/RULES.md says; their ranges and the words that it does not name are 0. Each file is judged
- * before it is written: where an answer is not the expected one, the program says so and ends with status 1.
+ * Lines, line strings, shapes and curves are made by dgn_write, texts by dgn_write_text, the headers of cells and text nodes,
+ * ellipses and arcs here, word by word as docs/RULES.md says; the ranges of headers and the words that it does not name are 0.
+ * Each file is judged before it is written: where an answer is not the expected one, the program says so and ends with status 1.
  */
+#include <math.h>
 #include <stdio.h>
 #include <stdlib.h>
 #include <string.h>
@@ -124,6 +125,67 @@ static void letter(size_t deleted, int32_t x, int32_t y, const char *characters,
 
 /* A text of the characters of a literal. */
 #define TEXT(deleted, x, y, characters) letter(deleted, x, y, characters, sizeof(characters) - 1, NULL, 0)
+
+static void put_long(size_t i, size_t value)
+{
+    put(i, value >> 16 & 65535);
+    put(i + 1, value & 65535);
+}
+
+/* A float of four words: sign, exponent and fraction, whose leading digit is left out. */
+static void put_float(size_t i, double value)
+{
+    int power;
+    const double part = frexp(fabs(value), &power);
+    uint64_t bits = 0;
+    if (part != 0) {
+        const uint64_t fraction = (uint64_t)ldexp(part, 56) - ((uint64_t)1 << 55);
+        bits = (uint64_t)(value < 0) << 63 | (uint64_t)(power + 128) << 55 | fraction;
+    }
+    for (size_t k = 0; k < 4; k++)
+        put(i + k, bits >> (48 - 16 * k) & 65535);
+}
+
+/* An ellipse or, where it sweeps an angle, an arc of one. Angles are in degrees. The range is that of the whole ellipse if it
+ * is not turned. */
+struct ring {
+    double primary, secondary, turn, x, y, start, sweep;
+};
+
+/* The greatest whole number that is not above a number. */
+static int32_t whole(double value)
+{
+    const int32_t cut = (int32_t)value;
+    return cut > value ? cut - 1 : cut;
+}
+
+static void ring(size_t deleted, struct ring r)
+{
+    const int32_t corners[4] = {whole(r.x - r.primary), whole(r.y - r.secondary), -whole(-r.x - r.primary), -whole(-r.y - r.secondary)};
+    const size_t type = r.sweep == 0 ? DGN_ELLIPSE : DGN_ARC, size = type == DGN_ELLIPSE ? 36 : 40, at = used;
+    size_t fields[DGN_WRITE_FIELDS], axes = at + 18;
+    fields_of(fields, type, deleted, corners, 4, size, 0);
+    memset(file + 2 * at, 0, 2 * size);
+    put(at, fields[DGN_WRITE_LEVEL] | fields[DGN_WRITE_COMPONENT] << 7 | type << 8 | deleted << 15);
+    put(at + 1, size - 2);
+    for (size_t k = 0; k < 6; k++)
+        put_long(at + 2 + 2 * k, fields[DGN_WRITE_LOW_X + k]);
+    put(at + 15, fields[DGN_WRITE_ATTRIBUTE_INDEX]);
+    put(at + 17, fields[DGN_WRITE_STYLE] | fields[DGN_WRITE_WEIGHT] << 3 | fields[DGN_WRITE_COLOUR] << 8);
+    if (type == DGN_ARC) {
+        put_long(axes, (size_t)(360000 * r.start));
+        put_long(axes + 2, (size_t)(360000 * r.sweep));
+        axes += 4;
+    }
+    put_float(axes, r.primary);
+    put_float(axes + 4, r.secondary);
+    put_long(axes + 8, (size_t)(360000 * r.turn));
+    put_float(axes + 10, r.x);
+    put_float(axes + 14, r.y);
+    used += size;
+}
+
+#define RING(deleted, ...) ring(deleted, (struct ring){__VA_ARGS__})
 
 /* Ends the header that began at a place: its total is all words after word 18. */
 static void end(size_t at)
@@ -247,6 +309,21 @@ static void plate(const char *folder)
     keep(folder, "plate.dgn", 0, 10, 1, 355);
 }
 
+/* A ring as a cell of two circles and a deleted one, and at the top an ellipse that is turned and an arc of one. */
+static void rings(const char *folder)
+{
+    used = 0;
+    size_t seal = begin(DGN_CELL, "RING.7");
+    RING(0, .primary = 26, .secondary = 26, .x = 100, .y = -50);
+    RING(0, .primary = 19.8, .secondary = 19.8, .x = 100, .y = -50);
+    RING(1, .primary = 20, .secondary = 20, .x = 100, .y = -50);
+    end(seal);
+    RING(0, .primary = 100.5, .secondary = 60.25, .turn = 30, .x = -0.5, .y = 12.75);
+    RING(0, .primary = 100.5, .secondary = 60.25, .turn = 30, .x = -0.5, .y = 12.75, .start = 45, .sweep = 90);
+    marker();
+    keep(folder, "rings.dgn", 0, 6, 1, 230);
+}
+
 static void empty(const char *folder)
 {
     used = 0;
@@ -264,6 +341,7 @@ int main(int argc, char **argv)
     shortened(argv[1]);
     nested(argv[1]);
     plate(argv[1]);
+    rings(argv[1]);
     empty(argv[1]);
     return 0;
 }

@@ -22,6 +22,7 @@ static void check(int holds, const char *what)
 enum { ROOM = 100, FILL = 7777 };
 static size_t out[ROOM];
 static int64_t numbers[ROOM];
+static double floats[ROOM];
 
 static size_t *fresh(void)
 {
@@ -35,6 +36,13 @@ static int64_t *fresh_numbers(void)
     for (size_t i = 0; i < ROOM; i++)
         numbers[i] = FILL;
     return numbers;
+}
+
+static double *fresh_floats(void)
+{
+    for (size_t i = 0; i < ROOM; i++)
+        floats[i] = FILL;
+    return floats;
 }
 
 /* whether the first n numbers of out are these and all behind them as they were */
@@ -54,24 +62,41 @@ static int numbers_are(size_t n, const int64_t *these)
     return 1;
 }
 
+/* bit by bit, so that -0 is not 0 */
+static int floats_are(size_t n, const double *these)
+{
+    for (size_t i = 0; i < ROOM; i++) {
+        const double is = i < n ? these[i] : FILL;
+        if (memcmp(&floats[i], &is, sizeof is) != 0)
+            return 0;
+    }
+    return 1;
+}
+
 /* whether a call was refused so, and wrote nowhere */
 static int refused(size_t r, size_t number, size_t detail)
 {
     const size_t place = number == DGN_NO_SUCH ? 0 : detail;
-    return DGN_NUMBER(r) == number && DGN_PLACE(r) == place && DGN_COUNT(r) == detail - place && are(0, NULL) && numbers_are(0, NULL);
+    return DGN_NUMBER(r) == number && DGN_PLACE(r) == place && DGN_COUNT(r) == detail - place && are(0, NULL) && numbers_are(0, NULL) && floats_are(0, NULL);
 }
 
 #define ARE(...) are(sizeof((size_t[]){__VA_ARGS__}) / sizeof(size_t), (size_t[]){__VA_ARGS__})
 #define NUMBERS_ARE(...) numbers_are(sizeof((int64_t[]){__VA_ARGS__}) / sizeof(int64_t), (int64_t[]){__VA_ARGS__})
+#define FLOATS_ARE(...) floats_are(sizeof((double[]){__VA_ARGS__}) / sizeof(double), (double[]){__VA_ARGS__})
 #define TEXT(text) (const uint8_t *)text, sizeof text - 1
 
 static uint8_t file[146];
 static const size_t len = sizeof file;
 
+static void put_in(uint8_t *bytes, size_t i, unsigned word)
+{
+    bytes[2 * i] = word & 255;
+    bytes[2 * i + 1] = word >> 8;
+}
+
 static void put(size_t i, unsigned word)
 {
-    file[2 * i] = word & 255;
-    file[2 * i + 1] = word >> 8;
+    put_in(file, i, word);
 }
 
 /* the numbers of the cell's view and of the line's */
@@ -218,6 +243,61 @@ static void text(void)
     check(refused(dgn_texts(plate, size, 2, 0, fresh_numbers(), 18, fresh(), 2), DGN_FIELD, 0), "the file's own refusal of texts");
 }
 
+/* a deleted 2D ellipse of 36 words, an arc of 40 with the same axes, turn and origin, and the end marker: the axes are 0.1, which is
+ * rounded up, and 1, the origin is -2.5 and a zero with a fraction */
+static uint8_t rings[154];
+#define RING_FLOATS 0.1, 1, -2.5, 0, 0
+#define RING 15, 0, 0, 4294901761, 0, 0, 0
+#define BOW 16, 4294967294, 65538, 4294901761, 0, 0, 0
+
+static void put_ring(uint8_t *at, size_t first)
+{
+    static const unsigned words[18] = {16076, 52428, 52428, 52429, 16512, 0, 0, 0, 65535, 1, 49440, 0, 0, 0, 5, 6, 7, 8};
+    for (size_t i = 0; i < 18; i++)
+        put_in(at, first + i, words[i]);
+}
+
+static void curves(void)
+{
+    const size_t size = sizeof rings;
+    put_in(rings, 0, DGN_ELLIPSE << 8 | 32768);
+    put_in(rings, 1, 34);
+    put_ring(rings, 18);
+    put_in(rings, 36, DGN_ARC << 8);
+    put_in(rings, 37, 38);
+    put_in(rings, 54, 65535);
+    put_in(rings, 55, 65534);
+    put_in(rings, 56, 1);
+    put_in(rings, 57, 2);
+    put_ring(rings, 58);
+    put_in(rings, 76, DGN_END_MARKER);
+
+    fresh();
+    check(dgn_curve(rings, size, 2, 0, fresh_numbers(), 7, fresh_floats(), 5) == 0 && NUMBERS_ARE(RING) && FLOATS_ARE(RING_FLOATS), "ellipse");
+    check(dgn_curve(rings, size, 2, 36, fresh_numbers(), ROOM, fresh_floats(), ROOM) == 0 && NUMBERS_ARE(BOW) && FLOATS_ARE(RING_FLOATS), "arc");
+    check(refused(dgn_curve(rings, size, 2, 0, fresh_numbers(), 6, fresh_floats(), 5), DGN_CALL, 0), "six numbers for an ellipse");
+    check(refused(dgn_curve(rings, size, 2, 0, fresh_numbers(), 7, fresh_floats(), 4), DGN_CALL, 0), "four floats for an ellipse");
+    check(refused(dgn_curve(rings, size, 2, 1, fresh_numbers(), 7, fresh_floats(), 5), DGN_NO_SUCH, 0), "no ellipse at 1");
+    check(refused(dgn_curve(file, len, 2, 46, fresh_numbers(), 7, fresh_floats(), 5), DGN_KIND, 46), "a line is no ellipse");
+    check(refused(dgn_curve(rings, size, 3, 0, fresh_numbers(), 7, fresh_floats(), 5), DGN_SHORT, 0), "too short for 3D");
+
+    check(dgn_curves(rings, size, 2, 0, fresh_numbers(), 18, fresh_floats(), 10, fresh(), 2) == 0 && ARE(2, 2) && NUMBERS_ARE(0, 1, RING, 36, 0, BOW) && FLOATS_ARE(RING_FLOATS, RING_FLOATS), "ellipses and arcs");
+    check(dgn_curves(rings, size, 2, 0, fresh_numbers(), ROOM, fresh_floats(), 9, fresh(), 2) == 0 && ARE(1, 1) && NUMBERS_ARE(0, 1, RING) && FLOATS_ARE(RING_FLOATS), "floats for one");
+    check(dgn_curves(rings, size, 2, 0, fresh_numbers(), 17, fresh_floats(), ROOM, fresh(), 2) == 0 && ARE(1, 1) && NUMBERS_ARE(0, 1, RING) && FLOATS_ARE(RING_FLOATS), "numbers for one");
+    check(dgn_curves(rings, size, 2, 1, fresh_numbers(), 9, fresh_floats(), 5, fresh(), 2) == 0 && ARE(2, 1) && NUMBERS_ARE(36, 0, BOW) && FLOATS_ARE(RING_FLOATS), "those from 1 on");
+    check(dgn_curves(rings, size, 2, 2, fresh_numbers(), 0, fresh_floats(), 0, fresh(), 2) == 0 && ARE(2, 0) && numbers_are(0, NULL) && floats_are(0, NULL), "no more of them");
+    check(dgn_curves(rings, size, 2, 9, fresh_numbers(), 0, fresh_floats(), 0, fresh(), 2) == 0 && ARE(9, 0) && numbers_are(0, NULL) && floats_are(0, NULL), "none behind the end");
+    check(dgn_curves(file, len, 2, 0, fresh_numbers(), 0, fresh_floats(), 0, fresh(), 2) == 0 && ARE(2, 0) && numbers_are(0, NULL) && floats_are(0, NULL), "none in the cell");
+    check(refused(dgn_curves(rings, size, 2, 0, fresh_numbers(), 8, fresh_floats(), 5, fresh(), 2), DGN_ROOM, 0), "8 numbers for 9");
+    check(refused(dgn_curves(rings, size, 2, 0, fresh_numbers(), 9, fresh_floats(), 4, fresh(), 2), DGN_ROOM, 0), "4 floats for 5");
+    check(refused(dgn_curves(rings, size, 2, 0, fresh_numbers(), 9, fresh_floats(), 5, fresh(), 1), DGN_CALL, 0), "one number for two");
+    put_in(rings, 72, 32768 | 5);
+    check(refused(dgn_judge(rings, size, 2, fresh(), 3), DGN_FLOAT, 36), "a float that is no number");
+    check(refused(dgn_curve(rings, size, 2, 0, fresh_numbers(), 7, fresh_floats(), 5), DGN_FLOAT, 36), "the file's own refusal");
+    check(refused(dgn_curves(rings, size, 2, 0, fresh_numbers(), 18, fresh_floats(), 10, fresh(), 2), DGN_FLOAT, 36), "the file's own refusal of curves");
+    fresh_floats();
+}
+
 static void whole(void)
 {
     check(dgn_views(file, len, 2, 0, fresh_numbers(), ROOM, fresh(), 1) == 0 && ARE(2) && NUMBERS_ARE(CELL, LINE), "all views");
@@ -257,7 +337,7 @@ static void put_parts(void)
     memset(parts + 280, 255, 2);
 }
 
-/* the files of the most elements, points, texts and cells: one call reads all of them */
+/* the files of the most elements, points, texts, cells and ellipses: one call reads all of them */
 static void largest(void)
 {
     static uint8_t large[DGN_FILE_BYTES];
@@ -293,6 +373,12 @@ static void largest(void)
     large[at] = large[at + 1] = 255;
     check(dgn_index(large, sizeof large, 2, index, sizeof index, fresh(), 1) == 0 && ARE(DGN_INDEX_BYTES), "the most cells");
     check(DGN_INDEX_ROOM(DGN_FILE_BYTES) == DGN_INDEX_BYTES && DGN_INDEX_ROOM(at + 2) == DGN_INDEX_BYTES, "room for any index");
+    static double most[DGN_FILE_CURVES * DGN_CURVE_FLOATS];
+    for (at = 0; at < 72 * DGN_FILE_CURVES; at += 72)
+        memcpy(large + at, rings, 72);
+    check(at + 72 + 2 > sizeof large, "no more ellipses in a file");
+    large[at] = large[at + 1] = 255;
+    check(dgn_curves(large, sizeof large, 2, 0, all, DGN_FILE_CURVES * DGN_CURVES_NUMBERS, most, DGN_FILE_CURVES * DGN_CURVE_FLOATS, fresh(), 2) == 0 && ARE(DGN_FILE_CURVES, DGN_FILE_CURVES), "the most ellipses");
 }
 
 static void names(void)
@@ -582,11 +668,11 @@ static void stored(void)
 static void refusals(void)
 {
     static const char *const all[] = {"DONE", "CALL", "NO END", "CUT", "RESERVED", "PLACE", "KIND", "SHORT", "TOTAL", "COUNT", "DEEP", "LINKAGE", "NAME",
-                                      "NO SUCH", "ALREADY", "ROOM", "JOURNAL", "NOTHING", "NOT A CELL", "BAD JOURNAL", "FIELD", "UNKNOWN", "BLOCK"};
+                                      "NO SUCH", "ALREADY", "ROOM", "JOURNAL", "NOTHING", "NOT A CELL", "BAD JOURNAL", "FIELD", "FLOAT", "BLOCK"};
     const size_t none = DGN_BLOCK + 1;
     for (size_t n = 0; n <= DGN_BLOCK; n++) {
         check(strcmp(dgn_refusal_name(n), all[n]) == 0, all[n]);
-        check(strlen(dgn_refusal_text(n)) > 10 && (strcmp(dgn_refusal_text(n), dgn_refusal_text(none)) != 0) == (n != 21), all[n]);
+        check(strlen(dgn_refusal_text(n)) > 10 && strcmp(dgn_refusal_text(n), dgn_refusal_text(none)) != 0, all[n]);
         check(dgn_refusal_name(n + 256 * 1100) == dgn_refusal_name(n), all[n]);
     }
     check(strcmp(dgn_refusal_name(none), "UNKNOWN") == 0 && strcmp(dgn_refusal_name(DGN_TOP), "UNKNOWN") == 0, "no refusal");
@@ -596,10 +682,12 @@ static void refusals(void)
 int main(void)
 {
     fresh_numbers();
+    fresh_floats();
     writing();
     reading();
     writing_text();
     text();
+    curves();
     whole();
     largest();
     names();

@@ -32,6 +32,17 @@ extern "C" {
         room: usize,
         out: *mut usize,
     ) -> usize;
+    fn plain_curves(
+        file: *const u8,
+        len: usize,
+        dim: usize,
+        k: usize,
+        numbers: *mut i64,
+        room: usize,
+        floats: *mut f64,
+        floats_room: usize,
+        out: *mut usize,
+    ) -> usize;
     fn hop_sizes(file: *const u8) -> usize;
     fn hop_totals(file: *const u8) -> usize;
     fn hop_extent(file: *const u8, at: usize, end: usize) -> usize;
@@ -86,52 +97,96 @@ pub fn view(file: &[u8], dim: u64, place: u64) -> Result<(), Refusal> {
     answer(raw::view(file, dim as usize, place as usize, &mut out), ())
 }
 
-/// The number of views from element number k on that are put into the slice.
-pub fn views(file: &[u8], dim: u64, k: usize, views: &mut [i64]) -> Result<usize, u32> {
+/// The slices that a call puts numbers, and floats where it has any, into.
+#[derive(Clone)]
+pub struct Slices {
+    pub numbers: Vec<i64>,
+    pub floats: Vec<f64>,
+}
+
+impl Slices {
+    /// Slices of so many numbers and floats.
+    pub fn new([numbers, floats]: [usize; 2]) -> Slices {
+        Slices { numbers: vec![7; numbers], floats: vec![7.0; floats] }
+    }
+
+    /// The same numbers and, bit by bit, the same floats.
+    pub fn same(&self, other: &Slices) -> bool {
+        let bits = |slices: &Slices| slices.floats.iter().map(|float| float.to_bits()).collect::<Vec<_>>();
+        self.numbers == other.numbers && bits(self) == bits(other)
+    }
+}
+
+/// The next element number, and how many numbers and floats from element number k on are put into the slices; or the number of a
+/// refusal.
+pub type Put = Result<(usize, [usize; 2]), u32>;
+
+fn put(returned: usize, next: usize, written: [usize; 2]) -> Put {
+    answer(returned, (next, written)).map_err(|r| r.number)
+}
+
+pub fn views(file: &[u8], dim: u64, k: usize, slices: &mut Slices) -> Put {
     let mut out = [0];
-    let returned = raw::views(file, dim as usize, k, views, &mut out);
-    answer(returned, out[0]).map_err(|r| r.number)
+    let returned = raw::views(file, dim as usize, k, &mut slices.numbers, &mut out);
+    put(returned, k + out[0], [raw::VIEW_NUMBERS * out[0], 0])
 }
 
-pub fn views_in_c(file: &[u8], dim: u64, k: usize, views: &mut [i64]) -> Result<usize, u32> {
+pub fn views_in_c(file: &[u8], dim: u64, k: usize, slices: &mut Slices) -> Put {
     let mut out = [0];
-    let (v, o) = (views.as_mut_ptr(), out.as_mut_ptr());
-    match unsafe { plain_views(file.as_ptr(), file.len(), dim as usize, k, v, views.len(), o) } {
-        0 => Ok(out[0]),
-        number => Err(number as u32),
-    }
+    let (v, room, o) = (slices.numbers.as_mut_ptr(), slices.numbers.len(), out.as_mut_ptr());
+    let returned = unsafe { plain_views(file.as_ptr(), file.len(), dim as usize, k, v, room, o) };
+    put(returned, k + out[0], [raw::VIEW_NUMBERS * out[0], 0])
 }
 
-/// The next element number, and how many numbers of points from element number k on are put into the slice.
-pub fn points(file: &[u8], dim: u64, k: usize, numbers: &mut [i64]) -> Result<(usize, usize), u32> {
+pub fn points(file: &[u8], dim: u64, k: usize, slices: &mut Slices) -> Put {
     let mut out = [0; 2];
-    let returned = raw::points(file, dim as usize, k, numbers, &mut out);
-    answer(returned, (out[0], out[1])).map_err(|r| r.number)
+    let returned = raw::points(file, dim as usize, k, &mut slices.numbers, &mut out);
+    put(returned, out[0], [out[1], 0])
 }
 
-pub fn points_in_c(file: &[u8], dim: u64, k: usize, numbers: &mut [i64]) -> Result<(usize, usize), u32> {
+pub fn points_in_c(file: &[u8], dim: u64, k: usize, slices: &mut Slices) -> Put {
     let mut out = [0; 2];
-    let (n, o) = (numbers.as_mut_ptr(), out.as_mut_ptr());
-    match unsafe { plain_points(file.as_ptr(), file.len(), dim as usize, k, n, numbers.len(), o) } {
-        0 => Ok((out[0], out[1])),
-        number => Err(number as u32),
-    }
+    let (n, room, o) = (slices.numbers.as_mut_ptr(), slices.numbers.len(), out.as_mut_ptr());
+    let returned = unsafe { plain_points(file.as_ptr(), file.len(), dim as usize, k, n, room, o) };
+    put(returned, out[0], [out[1], 0])
 }
 
-/// The next element number, and how many numbers of texts from element number k on are put into the slice.
-pub fn texts(file: &[u8], dim: u64, k: usize, numbers: &mut [i64]) -> Result<(usize, usize), u32> {
+pub fn texts(file: &[u8], dim: u64, k: usize, slices: &mut Slices) -> Put {
     let mut out = [0; 2];
-    let returned = raw::texts(file, dim as usize, k, numbers, &mut out);
-    answer(returned, (out[0], raw::TEXTS_NUMBERS * out[1])).map_err(|r| r.number)
+    let returned = raw::texts(file, dim as usize, k, &mut slices.numbers, &mut out);
+    put(returned, out[0], [raw::TEXTS_NUMBERS * out[1], 0])
 }
 
-pub fn texts_in_c(file: &[u8], dim: u64, k: usize, numbers: &mut [i64]) -> Result<(usize, usize), u32> {
+pub fn texts_in_c(file: &[u8], dim: u64, k: usize, slices: &mut Slices) -> Put {
     let mut out = [0; 2];
-    let (n, o) = (numbers.as_mut_ptr(), out.as_mut_ptr());
-    match unsafe { plain_texts(file.as_ptr(), file.len(), dim as usize, k, n, numbers.len(), o) } {
-        0 => Ok((out[0], raw::TEXTS_NUMBERS * out[1])),
-        number => Err(number as u32),
-    }
+    let (n, room, o) = (slices.numbers.as_mut_ptr(), slices.numbers.len(), out.as_mut_ptr());
+    let returned = unsafe { plain_texts(file.as_ptr(), file.len(), dim as usize, k, n, room, o) };
+    put(returned, out[0], [raw::TEXTS_NUMBERS * out[1], 0])
+}
+
+pub fn curves(file: &[u8], dim: u64, k: usize, slices: &mut Slices) -> Put {
+    let mut out = [0; 2];
+    let returned = raw::curves(file, dim as usize, k, &mut slices.numbers, &mut slices.floats, &mut out);
+    put(returned, out[0], [raw::CURVES_NUMBERS * out[1], raw::CURVE_FLOATS * out[1]])
+}
+
+pub fn curves_in_c(file: &[u8], dim: u64, k: usize, slices: &mut Slices) -> Put {
+    let mut out = [0; 2];
+    let Slices { numbers, floats } = slices;
+    let returned = unsafe {
+        plain_curves(
+            file.as_ptr(),
+            file.len(),
+            dim as usize,
+            k,
+            numbers.as_mut_ptr(),
+            numbers.len(),
+            floats.as_mut_ptr(),
+            floats.len(),
+            out.as_mut_ptr(),
+        )
+    };
+    put(returned, out[0], [raw::CURVES_NUMBERS * out[1], raw::CURVE_FLOATS * out[1]])
 }
 
 /// The elements at all depths and at the top of an accepted file.

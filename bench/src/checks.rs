@@ -1,18 +1,22 @@
 //! The answers of all on the same files, accepted and refused. The first difference ends the bench.
 
-use crate::calls;
+use crate::calls::{self, Slices};
 use crate::indexes;
 use crate::inputs::{Input, ABSENT, LAST};
 use crate::whole::{self, Fill};
-use dgn::raw;
 use reader::generate::{aimed, changes, large, two_faults, valid, Random, ORDER};
 
-/// Views, points and texts, each by the library and by C, and the numbers of a part.
-const FILLS: [(Fill, Fill, usize); 3] = [
-    (whole::views_by, whole::views_by_c, 32 * whole::VIEWS),
-    (calls::points, calls::points_in_c, whole::NUMBERS),
-    (calls::texts, calls::texts_in_c, raw::TEXTS_NUMBERS * whole::TEXTS),
+/// Views, points, texts, and ellipses and arcs, each by the library and by C, and the numbers and floats of a part.
+const FILLS: [(Fill, Fill, [usize; 2]); 4] = [
+    (calls::views, calls::views_in_c, whole::VIEWS),
+    (calls::points, calls::points_in_c, whole::POINTS),
+    (calls::texts, calls::texts_in_c, whole::TEXTS),
+    (calls::curves, calls::curves_in_c, whole::CURVES),
 ];
+
+/// So many numbers and floats.
+const ROOMS: [[usize; 2]; 9] =
+    [[100, 100], [17, 0], [18, 0], [36, 0], [9, 5], [8, 5], [9, 4], [18, 9], [100, 14]];
 
 /// Files judged alike, and how many of them are refused.
 #[derive(Default)]
@@ -33,26 +37,30 @@ impl Checked {
                 indexes::alike(file, dim, room);
             }
             for (ours, in_c, _) in FILLS {
-                for (k, room) in [(0, 100), (1, 100), (3, 100), (1000, 100), (0, 17), (0, 18), (0, 36)] {
-                    let (mut a, mut b) = (vec![7; room], vec![7; room]);
-                    assert_eq!(ours(file, dim, k, &mut a), in_c(file, dim, k, &mut b), "from {k} in {room}, {what}");
-                    assert_eq!(a, b, "from {k} in {room}, {what}");
+                for (k, room) in [1, 3, 1000].map(|k| (k, ROOMS[0])).into_iter().chain(ROOMS.map(|room| (0, room))) {
+                    let (mut a, mut b) = (Slices::new(room), Slices::new(room));
+                    assert_eq!(ours(file, dim, k, &mut a), in_c(file, dim, k, &mut b), "from {k} in {room:?}, {what}");
+                    assert!(a.same(&b), "from {k} in {room:?}, {what}");
                 }
             }
         }
     }
 
-    /// All views, points and texts of a measured input: those of the library in one part, in parts, and of C.
+    /// All views, points, texts, and ellipses and arcs of a measured input: those of the library in one part, in parts, and of C.
     fn whole(&self, input: &Input) {
         let dim = input.kind.dim();
         let elements = calls::judge(&input.file, dim).expect("an accepted file").elements as usize;
         for (ours, in_c, room) in FILLS {
-            let mut all = Vec::new();
-            whole::in_parts(ours, input, elements, &mut vec![0; room], |part| all.extend_from_slice(part));
+            let mut all = Slices::new([0, 0]);
+            whole::in_parts(ours, input, elements, &mut Slices::new(room), |numbers, floats| {
+                all.numbers.extend_from_slice(numbers);
+                all.floats.extend_from_slice(floats);
+            });
+            let length = [all.numbers.len(), all.floats.len()];
             for fill in [ours, in_c] {
-                let mut one = vec![7; all.len()];
-                assert_eq!(fill(&input.file, dim, 0, &mut one), Ok((elements, all.len())));
-                assert!(one == all, "whole file, {}", input.kind.name());
+                let mut one = Slices::new(length);
+                assert_eq!(fill(&input.file, dim, 0, &mut one), Ok((elements, length)));
+                assert!(one.same(&all), "whole file, {}", input.kind.name());
             }
         }
     }

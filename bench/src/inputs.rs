@@ -19,10 +19,11 @@ pub enum Kind {
     Mixed,
     Mixed3D,
     Texts,
+    Curves,
 }
 
-pub const KINDS: [Kind; 6] =
-    [Kind::Lines, Kind::Cells, Kind::Raw, Kind::Mixed, Kind::Mixed3D, Kind::Texts];
+pub const KINDS: [Kind; 7] =
+    [Kind::Lines, Kind::Cells, Kind::Raw, Kind::Mixed, Kind::Mixed3D, Kind::Texts, Kind::Curves];
 
 impl Kind {
     pub fn name(self) -> &'static str {
@@ -33,6 +34,7 @@ impl Kind {
             Kind::Mixed => "mixed",
             Kind::Mixed3D => "mixed, 3D",
             Kind::Texts => "texts",
+            Kind::Curves => "ellipses and arcs",
         }
     }
 
@@ -55,6 +57,7 @@ impl Kind {
                 elements::tree(random, self.dim(), 0, None, &mut budget)
             }
             Kind::Texts => text(random),
+            Kind::Curves => curve(random),
         }
     }
 }
@@ -86,6 +89,18 @@ fn text(random: &mut Random) -> Node {
     let characters = random.index(53);
     let fields = if characters > 0 && random.one_in(8) { 1 + random.index(3) } else { 0 };
     Node::new(elements::single_with(random, 2, 17, false, characters + 256 * fields))
+}
+
+/// An ellipse or an arc, with any floats but those that are refused.
+fn curve(random: &mut Random) -> Node {
+    let (kind, fixed, axes) = if random.one_in(2) { (15, 36, 18) } else { (16, 40, 22) };
+    let mut own = plain(random, kind, fixed, false);
+    for first in [axes, axes + 4, axes + 10, axes + 14] {
+        if own[first] & 0xff80 == 0x8000 {
+            own[first] &= 0x7fff;
+        }
+    }
+    Node::new(own)
 }
 
 /// The bytes of a line without a tail, for the top.

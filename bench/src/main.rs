@@ -35,7 +35,7 @@ fn main() {
         checked.input(input);
     }
     checked.generated(20);
-    for folder in ["tests/real", "tests/real/texts"] {
+    for folder in ["tests/real", "tests/real/texts", "tests/real/curves"] {
         checked.real(&format!("{ROOT}/{folder}"));
     }
     println!("Answers: {} files judged alike by all three, {} of them refused.", checked.files, checked.refused);
@@ -45,6 +45,7 @@ fn main() {
     whole::views(&all, 1 + rounds / 6);
     whole::points(&all, 1 + rounds / 6);
     whole::texts(&all, 1 + rounds / 6);
+    whole::curves(&all, 1 + rounds / 6);
     edits::table(rounds);
     indexes::tables(rounds);
     blocks::table(rounds);

@@ -1,7 +1,7 @@
 //! Whole programs: celllist against the second reader's listing, and celllist and textlist beside GDAL's ogrinfo where that
 //! is installed.
 
-use crate::calls;
+use crate::calls::{self, Slices};
 use crate::inputs::{make, make_after, Kind, KIB, KINDS};
 use crate::tables::{heading, row};
 use crate::timing::{measure, Measured};
@@ -96,12 +96,17 @@ pub fn beside_gdal(folder: &str, rounds: usize) {
     }
     let real = words_of(&std::fs::read(format!("{ROOT}/tests/real/a02_lines_2d.dgn")).expect("a real file"));
     let front = &real[..2 + real[1] as usize];
-    let mut numbers = vec![0; 18 * 17_476];
+    let mut slices = all_texts();
     let judged = |file: &[u8]| assert!(calls::judge(file, 2).is_ok());
     beside(folder, rounds, front, Kind::Lines, "celllist", "judge", judged);
-    let read = |file: &[u8]| assert!(calls::texts(file, 2, 0, &mut numbers).is_ok());
+    let read = |file: &[u8]| assert!(calls::texts(file, 2, 0, &mut slices).is_ok());
     beside(folder, rounds, front, Kind::Texts, "textlist", "all texts", read);
     texts_in_memory(front, 10 * rounds);
+}
+
+/// Room for all texts of any file.
+fn all_texts() -> Slices {
+    Slices::new([raw::TEXTS_NUMBERS * 17_476, 0])
 }
 
 /// All texts of a file in memory, by `dgn_texts` and by GDAL's own reader, which has no judging to do.
@@ -111,15 +116,15 @@ fn texts_in_memory(front: &[u16], rounds: usize) {
         return;
     }
     let input = make_after(front, Kind::Texts, 1024 * KIB, 1);
-    let mut numbers = vec![0; 18 * 17_476];
-    let (_, read) = calls::texts(&input.file, 2, 0, &mut numbers).expect("all texts");
+    let mut slices = all_texts();
+    let (_, [read, _]) = calls::texts(&input.file, 2, 0, &mut slices).expect("all texts");
     let texts = read / raw::TEXTS_NUMBERS;
     let mut lent = input.file.clone();
     assert!(calls::texts_by_gdal(&mut lent) == texts, "the texts that GDAL's reader finds");
-    let (file, numbers) = (&input.file, &mut numbers);
+    let (file, slices) = (&input.file, &mut slices);
     let times = measure(
         &mut [
-            Box::new(|| assert!(calls::texts(file, 2, 0, numbers).is_ok())),
+            Box::new(|| assert!(calls::texts(file, 2, 0, slices).is_ok())),
             Box::new(|| assert!(calls::texts_by_gdal(&mut lent) == texts)),
         ],
         rounds,

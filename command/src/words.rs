@@ -50,6 +50,7 @@ impl Refused<'_> {
             Number::Field => {
                 "an enter-data field of a text is not within its characters, or its justification is wrong"
             }
+            Number::Float => "a float of an ellipse or an arc is no number",
             other => other.text(),
         }
     }
@@ -78,6 +79,7 @@ impl Refused<'_> {
             Number::Linkage => "return it to its maker",
             Number::Name => "its maker renames the cell: up to six of A-Z, 0-9, $, . and space",
             Number::Field => "its maker types the text anew",
+            Number::Float => "its maker draws the ellipse or the arc anew",
             _ => "",
         }
     }

@@ -8,7 +8,7 @@ const ROOT: &str = concat!(env!("CARGO_MANIFEST_DIR"), "/..");
 /// The real files with the dimension of their table.
 fn real() -> Vec<(String, Vec<u8>, Dimension)> {
     let mut files = Vec::new();
-    for folder in ["tests/real", "tests/real/texts"] {
+    for folder in ["tests/real", "tests/real/texts", "tests/real/curves"] {
         let table = std::fs::read_to_string(format!("{ROOT}/{folder}/TABLE.tsv")).expect("a table");
         for line in table.lines().skip(1) {
             let columns: Vec<&str> = line.split('\t').collect();

@@ -9,7 +9,7 @@ use std::path::{Path, PathBuf};
 const ROOT: &str = concat!(env!("CARGO_MANIFEST_DIR"), "/..");
 
 fn files() -> Vec<PathBuf> {
-    let folders = ["samples", "tests/real", "tests/real/texts"];
+    let folders = ["samples", "tests/real", "tests/real/texts", "tests/real/curves"];
     let mut files: Vec<PathBuf> = folders
         .iter()
         .flat_map(|folder| std::fs::read_dir(Path::new(ROOT).join(folder)).expect("a folder"))

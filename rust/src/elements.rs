@@ -62,6 +62,10 @@ types! {
     ComplexChain = 12,
     /// A header.
     ComplexShape = 14,
+    /// With two axes and an origin.
+    Ellipse = 15,
+    /// A part of an ellipse.
+    Arc = 16,
     /// A text.
     Text = 17,
     /// A header, in 3D files alone.
@@ -186,6 +190,25 @@ impl Point {
     pub(crate) fn of(numbers: &[i64]) -> Point {
         let [x, y, z] = [0, 1, 2].map(|axis| numbers.get(axis).map_or(0, |&number| number as i32));
         Point { x, y, z }
+    }
+}
+
+/// How a text, an ellipse or an arc is turned, in numbers as they are stored.
+#[derive(Clone, Copy, PartialEq, Eq, Hash, Debug)]
+pub enum Turn {
+    /// In a 2D file: the rotation.
+    Flat(u32),
+    /// In a 3D file: the four numbers of a quaternion, in their stored order.
+    Solid([u32; 4]),
+}
+
+impl Turn {
+    /// The turn of four numbers, which have 32 bits each.
+    pub(crate) fn of(numbers: [i64; 4], dimension: Dimension) -> Turn {
+        match dimension {
+            Dimension::Two => Turn::Flat(numbers[0] as u32),
+            Dimension::Three => Turn::Solid(numbers.map(|long| long as u32)),
+        }
     }
 }
 

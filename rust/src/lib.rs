@@ -3,8 +3,8 @@
 //!
 //! A file is a slice of an even number of bytes, at most [`FILE_BYTES`]. A place is the index of a 16-bit word, from 0.
 //! Every file is allowed, and no caller has to check one first. Each call judges the whole file, one pass over its
-//! bytes, so a whole file is read by [`views`], [`points`] and [`texts`] and not by a call for each element. There is no state:
-//! any thread may call.
+//! bytes, so a whole file is read by [`views`], [`points`], [`texts`] and [`curves`] and not by a call for each element. There
+//! is no state: any thread may call.
 //!
 //! A call that is refused answers a [`Refusal`] and changes no byte of what it was lent.
 //!
@@ -36,6 +36,7 @@
 #[cfg(not(target_pointer_width = "64"))]
 compile_error!("the library's numbers have 64 bits");
 
+mod curves;
 mod elements;
 mod indexes;
 mod journals;
@@ -51,7 +52,8 @@ mod texts;
 mod whole;
 mod writing;
 
-pub use elements::{Bounds, Dimension, DisplayHeader, Linkage, LinkageKind, Point, Type, View};
+pub use curves::{all_curves, curve, curves, Curve, CurveAt, Curves, Ellipse, Origin};
+pub use elements::{Bounds, Dimension, DisplayHeader, Linkage, LinkageKind, Point, Turn, Type, View};
 pub use indexes::{all_cells, cells, index_room, Cells, Entries, Entry, Index, LookedUp, ENTRY_BYTES};
 pub use journals::{blocks_of_journal, journal_of_blocks, record, Edit, History, Record};
 pub use names::{pack, unpack, Name};
@@ -59,7 +61,7 @@ pub use reading::{extent, find, find_with_deleted, judge, linkage, point, view, 
 pub use refusals::{Number, Refusal};
 pub use sessions::Session;
 pub use texts::{
-    all_texts, characters, field, text, texts, write_text, Field, Text, TextAt, TextFields, Texts, Turn,
+    all_texts, characters, field, text, texts, write_text, Field, Text, TextAt, TextFields, Texts,
 };
 pub use whole::{all_points, all_views, points, views, Drawn, Pointed, Points, Views};
 pub use writing::{write, Fields};

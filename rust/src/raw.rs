@@ -17,6 +17,15 @@ pub const TEXT_NUMBERS: usize = 15;
 /// The numbers of a text among those of a file.
 pub const TEXTS_NUMBERS: usize = 18;
 
+/// The numbers of an ellipse or an arc.
+pub const CURVE_NUMBERS: usize = 7;
+
+/// The floats of an ellipse or an arc.
+pub const CURVE_FLOATS: usize = 5;
+
+/// The numbers of an ellipse or an arc among those of a file.
+pub const CURVES_NUMBERS: usize = 9;
+
 /// The fields that [`write()`] and [`write_text()`] take.
 pub const WRITE_FIELDS: usize = 16;
 
@@ -84,6 +93,9 @@ functions! {
     /// out: first character, how many, justification.
     pub fn field(file: &[u8], dim: usize, place: usize, k: usize, out: &mut [i64]) = dgn_field;
 
+    /// numbers and floats: the 7 and the 5 of an ellipse or an arc.
+    pub fn curve(file: &[u8], dim: usize, place: usize, numbers: &mut [i64], floats: &mut [f64]) = dgn_curve;
+
     /// out: how many views were put into `views`, 32 numbers each.
     pub fn views(file: &[u8], dim: usize, k: usize, views: &mut [i64], out: &mut [usize]) = dgn_views;
 
@@ -92,6 +104,11 @@ functions! {
 
     /// out: the next element number, how many texts were put into `numbers`, 18 numbers each.
     pub fn texts(file: &[u8], dim: usize, k: usize, numbers: &mut [i64], out: &mut [usize]) = dgn_texts;
+
+    /// out: the next element number, how many ellipses and arcs were put into `numbers` and `floats`, 9 and 5 each.
+    pub fn curves(
+        file: &[u8], dim: usize, k: usize, numbers: &mut [i64], floats: &mut [f64], out: &mut [usize]
+    ) = dgn_curves;
 
     /// out: two words.
     pub fn pack(text: &[u8], out: &mut [usize]) = dgn_pack;

@@ -15,7 +15,7 @@ pub struct Judged {
     pub marker: usize,
 }
 
-/// Judges a file. Refusals: 1 to 12, 20.
+/// Judges a file. Refusals: 1 to 12, 20, 21.
 pub fn judge(file: &[u8], dimension: Dimension) -> Result<Judged, Refusal> {
     let mut out = [0; 3];
     done(raw::judge(file, dimension as usize, &mut out))?;

@@ -10,8 +10,8 @@ extern "C" {
 }
 
 numbered! {
-    /// The number of a refusal. Judging a file can answer those to [`Number::Name`] and [`Number::Field`]; the others are
-    /// about a call.
+    /// The number of a refusal. Judging a file can answer those to [`Number::Name`], [`Number::Field`] and [`Number::Float`];
+    /// the others are about a call.
     pub enum Number {
         /// A length, a field out of its range, a used file without its end.
         Call = 1,
@@ -23,7 +23,7 @@ numbered! {
         Reserved = 4,
         /// The component bit is wrong.
         Place = 5,
-        /// The type may not stand there, or is not read; the element is no text.
+        /// The type may not stand there, or is not read; the element is of another type than asked for.
         Kind = 6,
         /// An element is below its fixed part, or its number of points is out of range.
         Short = 7,
@@ -53,6 +53,8 @@ numbered! {
         BadJournal = 19,
         /// An enter-data field of a text is wrong.
         Field = 20,
+        /// A float of an ellipse or an arc is no number.
+        Float = 21,
         /// A block of a stored journal is wrong.
         Block = 22,
     }

@@ -1,21 +1,12 @@
 //! Texts: what is read of one, all of a file, and writing one.
 
-use crate::elements::{Dimension, Point};
+use crate::elements::{Dimension, Point, Turn};
 use crate::raw::{self, TEXTS_NUMBERS, TEXT_NUMBERS, WRITE_TEXT_NUMBERS};
 use crate::refusals::{done, Refusal};
 use crate::writing::Fields;
 use crate::FILE_BYTES;
 use std::ops::Range;
 use std::slice::ChunksExact;
-
-/// How a text is turned, in numbers as they are stored.
-#[derive(Clone, Copy, PartialEq, Eq, Hash, Debug)]
-pub enum Turn {
-    /// In a 2D file: the rotation.
-    Flat(u32),
-    /// In a 3D file: the four numbers of a quaternion, in their stored order.
-    Solid([u32; 4]),
-}
 
 /// The numbers of a text.
 #[derive(Clone, PartialEq, Eq, Hash, Debug)]
@@ -50,10 +41,7 @@ impl Text {
             justification: justification as u8,
             length: length as u32,
             height: height as u32,
-            turn: match dimension {
-                Dimension::Two => Turn::Flat(turn[0] as u32),
-                Dimension::Three => Turn::Solid(turn.map(|long: i64| long as u32)),
-            },
+            turn: Turn::of(turn, dimension),
             origin: Point::of(&[x, y, z]),
             characters: start..start + characters as usize,
             fields: fields as u8,

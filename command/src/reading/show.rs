@@ -6,7 +6,7 @@ use crate::files::{self, File};
 use crate::help::Subcommand;
 use crate::output::{self, Output, Stop};
 use crate::parts;
-use dgn::{Bounds, Dimension, LinkageKind, Point, Turn, Type, View};
+use dgn::{Bounds, Curve, Dimension, LinkageKind, Point, Turn, Type, View};
 
 /// The subcommand.
 pub const SUBCOMMAND: Subcommand = Subcommand {
@@ -15,8 +15,9 @@ pub const SUBCOMMAND: Subcommand = Subcommand {
     about: "show an element: what it says of itself, its points, its linkages",
     text: "\
 All that the file says of one element: where it stands, its extent (its own words and those of all under it), its level, range, \
-display, name, points, characters and linkages, each where it has them. Points and ranges are in units of resolution. A range is \
-stored 2,147,483,648 above the points' coordinates and is shown without that.
+display, name, points, characters, axes with origin and angles, and linkages, each where it has them. Points, ranges, axes and origins \
+are in units of resolution. A range is stored 2,147,483,648 above the points' coordinates and is shown without that. Of angles \
+360,000 is a degree, and bit 31 of a sweep is shown as a part of the number.
 
 With --tsv a line for each fact: file, 2D or 3D, place of the element, name of the fact, fact.",
     choices: &[],
@@ -79,6 +80,7 @@ fn facts(file: &File, place: usize) -> Result<Facts, dgn::Refusal> {
     }
     facts.extend(points(file, &view)?);
     facts.extend(text(file, &view)?);
+    facts.extend(curve(file, &view)?);
     facts.extend(linkages(file, &view));
     Ok(facts)
 }
@@ -129,17 +131,13 @@ fn text(file: &File, view: &View) -> Result<Facts, dgn::Refusal> {
         return Ok(Vec::new());
     }
     let text = dgn::text(&file.bytes, file.dimension, view.place)?;
-    let turn = match text.turn {
-        Turn::Flat(rotation) => rotation.to_string(),
-        Turn::Solid(numbers) => numbers.map(|number| number.to_string()).join(" "),
-    };
     let mut facts = vec![
         ("text".to_string(), output::characters(&file.bytes[text.characters])),
         ("font".to_string(), text.font.to_string()),
         ("justification".to_string(), text.justification.to_string()),
         ("length, stored".to_string(), text.length.to_string()),
         ("height, stored".to_string(), text.height.to_string()),
-        ("turn, stored".to_string(), turn),
+        ("turn, stored".to_string(), turn(text.turn)),
         ("origin".to_string(), coordinates(text.origin, file.dimension)),
     ];
     for k in 0..usize::from(text.fields) {
@@ -147,6 +145,37 @@ fn text(file: &File, view: &View) -> Result<Facts, dgn::Refusal> {
         let shown =
             format!("from character {}, {} long, justification {}", field.first, field.length, field.justification);
         facts.push((format!("field {k}"), shown));
+    }
+    Ok(facts)
+}
+
+fn turn(turn: Turn) -> String {
+    match turn {
+        Turn::Flat(rotation) => rotation.to_string(),
+        Turn::Solid(numbers) => numbers.map(|number| number.to_string()).join(" "),
+    }
+}
+
+/// The axes, origin and angles of an ellipse or an arc. A float is shown by the fewest digits that no other one is nearest to.
+fn curve(file: &File, view: &View) -> Result<Facts, dgn::Refusal> {
+    if !matches!(view.kind, Type::Ellipse | Type::Arc) {
+        return Ok(Vec::new());
+    }
+    let (angles, of) = match dgn::curve(&file.bytes, file.dimension, view.place)? {
+        Curve::Ellipse(of) => (None, of),
+        Curve::Arc { start, sweep, of } => (Some((start, sweep)), of),
+    };
+    let origin = [of.origin.x, of.origin.y, of.origin.z];
+    let origin = origin[..file.dimension as usize].iter().map(f64::to_string).collect::<Vec<_>>().join(" ");
+    let mut facts = vec![
+        ("primary axis".to_string(), of.primary.to_string()),
+        ("secondary axis".to_string(), of.secondary.to_string()),
+        ("turn, stored".to_string(), turn(of.turn)),
+        ("origin".to_string(), origin),
+    ];
+    if let Some((start, sweep)) = angles {
+        facts.push(("start, stored".to_string(), start.to_string()));
+        facts.push(("sweep, stored".to_string(), sweep.to_string()));
     }
     Ok(facts)
 }

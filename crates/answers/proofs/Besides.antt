@@ -8,14 +8,21 @@ use lib.ListN.{length, getD, take, drop, set, List·getD-append}
 use lib.Seq.{take-at, take-suc, length-take-le, sets, sets-eq}
 use borrow.Author.Tests.{le-leb, lt-leb}
 use Rattle.answers.specs.Answers.{Reply, withRoom}
-use Rattle.answers.specs.Besides.{besides}
+use Rattle.answers.specs.Besides.{ifDone, besides}
+
+module _ {A S : Type 0} (needed : ℕ) where
+  pub done-beside : (q r : Reply A) (s : List A) (made was : S) → q ≡ r → needed ≤ length s → ifDone (withRoom needed q s) made was ≡ ifDone r made was
+  done-beside q r s made was e h = simp (le-leb needed (length s) h, e)
+
+  pub short-beside : (q : Reply A) (s : List A) (made was : S) → length s < needed → ifDone (withRoom needed q s) made was ≡ was
+  short-beside q s made was h = simp (lt-leb needed (length s) h)
 
 module _ {A B : Type 0} (needed : ℕ) where
   pub besides-done : (q r : Reply A) (s : List A) (more t : List B) → q ≡ r → needed ≤ length s → besides (withRoom needed q s) more t ≡ besides r more t
-  besides-done q r s more t e h = simp (le-leb needed (length s) h, e)
+  besides-done q r s more t e h = done-beside needed q r s (sets t 0 more) t e h
 
   pub besides-short : (q : Reply A) (s : List A) (more t : List B) → length s < needed → besides (withRoom needed q s) more t ≡ t
-  besides-short q s more t h = simp (lt-leb needed (length s) h)
+  besides-short q s more t h = short-beside needed q s (sets t 0 more) t h
 
 pub put-then : {A : Type 0} (s : List A) (at : ℕ) (x y : List A) (m : ℕ) → m ≡ at + length x → sets (sets s at x) m y ≡ sets s at (x ++ y)
 put-then s at [] y m e = ap (λ i. sets s i y) (e ∙ add-zero at)

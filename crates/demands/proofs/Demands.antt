@@ -8,6 +8,7 @@ use mathlib.Core.Option.{Option, none, some}
 use lib.ListN.{length, take, drop}
 use lib.IntN.{ℤ}
 use lib.Signed.{mag}
+use lib.Ieee.{Float}
 use Rattle.words.specs.Words.{words, wordAt, longAt, signed, unsigned, putWord, putLong, Below}
 use Rattle.words.proofs.Laws as stores
 use Rattle.words.proofs.Signed as signs
@@ -146,6 +147,17 @@ use Rattle.text_views.specs.Fields.{FieldsWithin}
 use Rattle.text_views.specs.Refusals.{TextRefused}
 use Rattle.text_views.proofs.Fields as text-fields
 use Rattle.text_views.proofs.Refusals as texts-refused
+use Rattle.dfloats.specs.Promises.{FloatRounded, NearestOnly, FloatNearest, FloatStandard, FloatExact, FloatZero, FloatHeld, FloatOne}
+use Rattle.dfloats.proofs.Meaning as floats
+use Rattle.curve_views.specs.CurveViews.{curveOf}
+use Rattle.curve_views.specs.Promises.{CurveRefused, CurveGiven, FloatsNumbers, CurveHeld}
+use Rattle.curve_views.proofs.Promises as curve-calls
+use Rattle.dgn_curve.specs.CurveReplies.{curveReply, withFloats}
+use Rattle.dgn_curve.proofs.Small as small-curve
+use Rattle.dgn_curves.specs.Answers.{curvesReply}
+use Rattle.dgn_curves.specs.Calls.{AllCurves}
+use Rattle.dgn_curves.proofs.All as every-curve
+use Rattle.dgn_curves.proofs.Small as small-curves
 use Rattle.text_parts.specs.Own.{CharactersOwn, TextsApart}
 use Rattle.text_parts.proofs.Own as own-characters
 use Rattle.dgn_linkages.specs.LinkageNumbers.{linkageReply}
@@ -187,8 +199,8 @@ use Rattle.dgn_sessions.proofs.History as history
 pub refusal-keeps : (dim : ℕ) (s : Session) (c : Call) → wasRefused (step dim s c .answer) ≡ true → step dim s c .after ≡ s
 refusal-keeps = refusals.refusal-keeps
 
--- and its number is one from 1 to 20
-pub call-number : (dim : ℕ) (s : Session) (c : Call) (n p : ℕ) → step dim s c .answer ≡ edit.Refused n p → (1 ≤ n) × (n ≤ 20)
+-- and its number is one from 1 to 21
+pub call-number : (dim : ℕ) (s : Session) (c : Call) (n p : ℕ) → step dim s c .answer ≡ edit.Refused n p → (1 ≤ n) × (n ≤ 21)
 call-number = calls.call-number
 
 -- and its place is at most 524,288, so the one number that the C interface returns gives both back
@@ -205,7 +217,7 @@ pub bad-text : (dim : ℕ) (s : Session) (p : ℕ) (t : List ℕ) (n q : ℕ) �
     wasRefused (step dim s (rename-call p t) .answer) ≡ true
 bad-text = reads.bad-text
 
--- the piece's own refusal is a number from 3 to 12 or 20, at a word of the piece; of an empty piece at 0
+-- the piece's own refusal is a number from 3 to 12, 20 or 21, at a word of the piece; of an empty piece at 0
 pub piece-place : PiecePlace
 piece-place = calls.piece-place
 
@@ -241,6 +253,10 @@ characters-refused = texts-refused.characters-refused
 
 pub field-refused : (dim : ℕ) (s : List ℕ) (at n p k : ℕ) → fieldOf dim s at k ≡ field.Refused n p → TextRefused dim s at n p
 field-refused = texts-refused.field-refused
+
+-- the call for an ellipse or an arc, also with 6 at an element that is neither
+pub curve-refused : CurveRefused
+curve-refused = curve-calls.curve-refused
 
 pub linkage-refused : (dim : ℕ) (s : List ℕ) (at k n p : ℕ) → linkageOf dim s at k ≡ attribute.Refused n p → RefusedBy dim s (13 ∷ []) n p
 linkage-refused = points.linkage-refused
@@ -347,6 +363,12 @@ points-small = small-points.points-small
 pub texts-small : (dim : ℕ) (s : List ℕ) (k room : ℕ) → SmallReply (textsReply dim s k room)
 texts-small = small-texts.texts-small
 
+pub curve-small : (dim : ℕ) (s : List ℕ) (at : ℕ) (floats : List Float) → SmallReply (withFloats (curveReply (curveOf dim s at)) floats)
+curve-small = small-curve.curve-reply-small
+
+pub curves-small : (dim : ℕ) (s : List ℕ) (k room : ℕ) → SmallReply (curvesReply dim s k room)
+curves-small = small-curves.curves-small
+
 pub record-small : (journal : List ℕ) (used : ℕ) → SmallReply (recordReply journal used)
 record-small = small-record.record-small
 
@@ -385,6 +407,11 @@ all-points = every-point.all-points
 pub all-texts : AllTexts
 all-texts = every-text.all-texts
 
+-- and of all ellipses and arcs by dgn_curves: of each its place, whether it is deleted, and the numbers and floats that the call for it
+-- gives
+pub all-curves : AllCurves
+all-curves = every-curve.all-curves
+
 -- every number of a view is below 4,294,967,296
 pub view-below : (dim : ℕ) (s : List ℕ) (at : ℕ) (e : Element) → Below 256 s → viewOf dim s at ≡ view.Seen e → Below 4294967296 (viewNumbers at e)
 view-below = shown.view-below
@@ -416,7 +443,7 @@ one-fault = faults.one-fault
 pub refused-call : (dim : ℕ) (s : List ℕ) → (judgeOf dim s ≡ Refused 1 0) ↔ (callOk dim s ≡ false)
 refused-call = faults.refused-call
 
--- a refusal is 1 at 0, 2 at the file's end, or a number from 3 to 12 or 20 at a word of the file
+-- a refusal is 1 at 0, 2 at the file's end, or a number from 3 to 12, 20 or 21 at a word of the file
 pub refusal-place : (dim : ℕ) (s : List ℕ) (n p : ℕ) → judgeOf dim s ≡ Refused n p → Refusal (length (words s)) n p
 refusal-place = faults.refusal-place
 
@@ -577,6 +604,52 @@ texts-apart = own-characters.texts-apart
 -- a field that is given lies in the characters, with a justification of -1, 0 or 1
 pub fields-within : FieldsWithin
 fields-within = text-fields.fields-within
+
+---- demand 2: ellipses and arcs, and their floats
+
+-- each float of a file of the grammar is a number: a file with one that is refused is none
+pub floats-numbers : FloatsNumbers
+floats-numbers = curve-calls.floats-numbers
+
+-- of an accepted file the call for an ellipse or an arc gives each of them, by its layout
+pub curve-given : CurveGiven
+curve-given = curve-calls.curve-given
+
+-- over whole numbers: the float that four words are read as is m / 8 to the nearest, ties to even, of the words' sign and scaled by their E
+pub float-rounded : FloatRounded
+float-rounded = floats.float-rounded
+
+-- there is one nearest number
+pub nearest-only : NearestOnly
+nearest-only = floats.nearest-only
+
+-- of all finite 64-bit floats none is nearer to the exact number
+pub float-nearest : FloatNearest
+float-nearest = floats.float-nearest
+
+-- it is what IEEE 754 rounds the exact number to
+pub float-standard : FloatStandard
+float-standard = floats.float-standard
+
+-- it is exact where the low three bits of the fraction are zero
+pub float-exact : FloatExact
+float-exact = floats.float-exact
+
+-- with E = 0 it is +0
+pub float-zero : FloatZero
+float-zero = floats.float-zero
+
+-- it is never a NaN and never an infinity
+pub float-held : FloatHeld
+float-held = floats.float-held
+
+-- so is each float that the call for an ellipse or an arc gives, whatever the bytes
+pub curve-held : CurveHeld
+curve-held = curve-calls.curve-held
+
+-- 16512, 0, 0, 0 is 1
+pub float-one : FloatOne
+float-one = floats.float-one
 
 ---- demand 2: what is written reads back the same, and what was accepted rewrites to the same bytes
 

@@ -10,7 +10,7 @@ use Rattle.names.specs.Names.{wordOk, nameOk}
 use Rattle.kinds.specs.Kinds.{fixedPart, mayStand}
 use Rattle.headers.specs.Flags.{reservedOk, placeOk}
 use Rattle.elements.specs.Attributes.{attributesOk, linkagesOk}
-use Rattle.elements.specs.Rules.{fixedOk, textFieldsOk, extentOk, storedNameOk, faultOf, headOf, countOk}
+use Rattle.elements.specs.Rules.{fixedOk, textFieldsOk, curveFloatsOk, extentOk, storedNameOk, faultOf, headOf, countOk}
 use Rattle.limits.specs.Limits.{sizeOk}
 use Rattle.files.specs.Ends.{stopOf}
 use Rattle.files.specs.Judge.{listFrom, elementOf, topOf}
@@ -25,7 +25,7 @@ abbrev ws : List ℕ
 ws = usedWords (full .file) (full .used)
 
 pub growth-first : (rest : List ℕ) → length rest ≡ 130880 → step 2 full (putLarge rest) .answer ≡ Refused 8 2
-unfolding wordOk nameOk fixedPart mayStand reservedOk placeOk attributesOk linkagesOk fixedOk textFieldsOk extentOk storedNameOk faultOf headOf
+unfolding wordOk nameOk fixedPart mayStand reservedOk placeOk attributesOk linkagesOk fixedOk textFieldsOk curveFloatsOk extentOk storedNameOk faultOf headOf
     countOk stopOf listFrom elementOf topOf spotsFrom spotsOf gapOk pieceFault insertFault editFault sessionOk sessionFault
     openFault edited step
 growth-first rest h =

@@ -4,18 +4,26 @@ use mathlib.Core.Bool.{true}
 use Rattle.words.specs.Words.{over, putWord}
 use Rattle.names.specs.Names.{codeOf, letterOf, wordFrom, packed, wordOk, nameOk, textIn, textAnswer, unpacked}
 use Rattle.linkages.specs.Linkages.{linkageWords, fillFrom, linkagesFill}
+use lib.Count.{trailingZeros}
+use lib.Ieee.{odd, toBits, size}
+use Rattle.dfloats.specs.FirstWord.{isReserved}
+use Rattle.dfloats.specs.Fields.{digits, eighth, float}
+use Rattle.dfloats.specs.Reading.{dFloat}
+use Rattle.curves.specs.Curves.{floatsOk}
+use Rattle.turns.specs.Turns.{turnAt}
 use Rattle.texts.specs.Texts.{byteAt, textPart, eachFieldOk, fieldsOk}
 use Rattle.kinds.specs.Kinds.{fixedPart, mayStand}
 use Rattle.elements.specs.Attributes.{attributesOk, linkagesOk}
 use Rattle.headers.specs.Flags.{reservedOk, placeOk}
-use Rattle.elements.specs.Rules.{fixedOk, textFieldsOk, extentOk, storedNameOk, faultOf, headOf, countOk}
+use Rattle.elements.specs.Rules.{fixedOk, textFieldsOk, curveFloatsOk, extentOk, storedNameOk, faultOf, headOf, countOk}
 use Rattle.files.specs.Ends.{stopOf}
 use Rattle.files.specs.Judge.{elementFrom, listFrom, elementOf, topOf, judgeOf}
 use Rattle.files.specs.Spots.{spotsFrom, spotsOf}
 use Rattle.limits.specs.Limits.{callOk}
 use Rattle.places.specs.Places.{spottedAt}
 use Rattle.points_linkages.specs.Points.{pointOf}
-use Rattle.text_views.specs.TextViews.{turnAt, originAt, oddAt, textAt, fieldAt, textIn as textRead, charactersAt, fieldIn, textOf, charactersOf, fieldOf}
+use Rattle.text_views.specs.TextViews.{originAt, oddAt, textAt, fieldAt, textIn as textRead, charactersAt, fieldIn, textOf, charactersOf, fieldOf}
+use Rattle.curve_views.specs.CurveViews.{floatAt, originAt as curveOrigin, curveAt, curveIn, curveOf}
 use Rattle.edits.specs.Bits.{flagWords, wordFlags, flagsOk}
 use Rattle.edits.specs.Edits.{extentPlaces, corrected, splice, cut, apply}
 use Rattle.edits.specs.Allowed.{markFault, renameFault, gapOk, pieceFault, insertFault, removeFault, restoreFault, editFault}
@@ -33,10 +41,11 @@ use Rattle.demands.specs.Starred.{allHold, starred}
 
 pub starred-hold : allHold starred ≡ true
 unfolding over putWord codeOf letterOf wordFrom packed wordOk nameOk textIn textAnswer unpacked linkageWords fillFrom linkagesFill
-    byteAt textPart eachFieldOk fieldsOk fixedPart mayStand attributesOk linkagesOk reservedOk placeOk fixedOk textFieldsOk extentOk storedNameOk faultOf headOf countOk stopOf
+    byteAt textPart eachFieldOk fieldsOk fixedPart mayStand attributesOk linkagesOk reservedOk placeOk fixedOk textFieldsOk curveFloatsOk extentOk storedNameOk faultOf headOf countOk stopOf
     listFrom elementFrom elementOf topOf callOk judgeOf spotsFrom spotsOf spottedAt pointOf turnAt originAt oddAt textAt fieldAt textRead charactersAt fieldIn textOf charactersOf fieldOf flagWords wordFlags flagsOk extentPlaces corrected splice cut apply markFault renameFault
     gapOk pieceFault insertFault removeFault restoreFault editFault recordOf recordWords lastRecord reversal reversible sessionOk
     sessionFault openFault stored editMade editWithin edited undoMade undone step completing padded closed block blocksFor storedAs used
     chunk rest sound fewest most good blocksIn firstBad flatOf
     entries image shown cellHere cellsOf indexOf indexBytes listed halved lookUp lookUpOf hasName isHit findOf liveCell lookOn liveLookUpOf
+    odd trailingZeros toBits size isReserved digits eighth float dFloat floatsOk floatAt curveOrigin curveAt curveIn curveOf
 starred-hold = refl

@@ -1,10 +1,12 @@
 pub mod Cases
 pub mod Elements
+pub mod Shown
 pub mod SessionCases
 pub mod BlockCases
 pub mod IndexCases
 pub mod IndexPromises
 pub mod FindCases
+pub mod CurveCases
 pub mod Starred
 pub mod Listing
 pub mod ReadingCalls

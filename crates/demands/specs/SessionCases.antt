@@ -12,7 +12,7 @@ use Rattle.edits.specs.Records.{recordWords, flag, inserted}
 use Rattle.edits.specs.Calls.{Session, Call, mark-call, rename-call, insert-call, remove-call, undo-call, Result, step, editedNumbers}
 use Rattle.edits.specs.Demand.{runOf}
 use Rattle.demands.specs.Cases.{Case, case}
-use Rattle.demands.specs.Elements.{firstWord, live, element, raw, raws, line, deadLine, cell, deadCell, namedCell, libraryCell, chain, text00417, text417}
+use Rattle.demands.specs.Elements.{firstWord, live, element, plain, raw, raws, line, deadLine, cell, deadCell, namedCell, libraryCell, chain, text00417, text417}
 
 -- a session by the file's words, the words behind its marker, the journal's records and the words behind them
 abbrev pub session : List ℕ → List ℕ → List ℕ → List ℕ → Session
@@ -175,6 +175,9 @@ insertCases =
     refuses (session [] (nines 48) [] (nines 6)) (insert-call none 0 (bytes (cell 0 29 ++ raw 0))) 5 46 ∷
     refuses (session [] (nines 28) [] (nines 6)) (insert-call none 0 (bytes (line 0 ++ raw 0))) 3 26 ∷
     refuses (session [] (nines 28) [] (nines 6)) (insert-call none 0 []) 3 0 ∷
+    -- 21 for an ellipse with a float that is refused, in the piece and in the file itself
+    refuses (session (raw 0) (nines 36) [] (nines 6)) (insert-call none 2 (bytes (plain 15 0 36 (32768 ∷ [])))) 21 0 ∷
+    refuses (session (raw 0 ++ plain 15 0 36 (32768 ∷ [])) (nines 26) [] (nines 6)) (insert-call none 0 (bytes (line 0))) 21 2 ∷
     -- the piece's own before 15; the file's buffer one word too small: 15, before 16
     refuses (session empty [] [] (nines 6)) (insert-call (some 92) 112 (bytes (line 0))) 5 0 ∷
     refuses (session empty (nines 25) [] (nines 6)) (insert-call (some 92) 112 (bytes (line 1))) 15 0 ∷

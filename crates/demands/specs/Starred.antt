@@ -1,6 +1,6 @@
 -- The worked cases that RULES.md marks with *, its table of fixed parts, its rules of what may stand where and of
 -- bits 6 and 7, cases of its depths, totals, counts, stored names, attribute parts and texts, of its orders of checks, of
--- sessions, of an index and of deleted cells, as one list. That all hold is one statement of the page of demands.
+-- sessions, of an index, of deleted cells, of floats and of ellipses and arcs, as one list. That all hold is one statement of the page of demands.
 use Prim.Native.Nat.{ℕ, zero, suc, _+_, _*_}
 use mathlib.Core.List.{List, [], _∷_, _++_}
 use mathlib.Core.Bool.{Bool, true, _&&_}
@@ -20,8 +20,6 @@ use Rattle.points_linkages.specs.Points.{pointOf}
 use Rattle.points_linkages.specs.declared.Point.{Point}
 use Rattle.points_linkages.specs.declared.Point.the-variants as point
 use Rattle.text_views.specs.TextViews.{textOf, charactersOf, fieldOf}
-use Rattle.text_views.specs.declared.Turn.{Turn}
-use Rattle.text_views.specs.declared.Turn.the-variants as turn
 use Rattle.text_views.specs.declared.Origin.{Origin}
 use Rattle.text_views.specs.declared.Origin.the-variants as origin
 use Rattle.text_views.specs.declared.Odd.{Odd}
@@ -33,11 +31,13 @@ use Rattle.text_views.specs.declared.Characters.the-variants as characters
 use Rattle.text_views.specs.declared.FieldView.{FieldView}
 use Rattle.text_views.specs.declared.FieldView.the-variants as field
 use Rattle.demands.specs.Cases.{Case, case, holds}
+use Rattle.demands.specs.Shown.{withMarker, judged2D, judged3D, fixedParts, turnShown}
 use Rattle.demands.specs.Elements.{firstWord, live, plain, attributed, raw, line, deadLine, text, texted, flatText, solidText, cell, namedCell, libraryCell, chain, counting, inCells, text00417, text417}
 use Rattle.demands.specs.SessionCases.{sessionCases}
 use Rattle.demands.specs.BlockCases.{blockCases}
 use Rattle.demands.specs.IndexCases.{indexCases}
 use Rattle.demands.specs.FindCases.{deletedCases}
+use Rattle.demands.specs.CurveCases.{curveCases}
 
 -- whether each case of a list holds
 abbrev pub allHold : List Case → Bool
@@ -92,16 +92,6 @@ nameCases =
     case (answerNumbers (unpacked 0 64000 .answer)) (12 ∷ 0 ∷ []) ∷
     []
 
--- what judging a file of these words and the marker answers, in 2D and in 3D
-abbrev pub judged : ℕ → List ℕ → List ℕ
-judged dim ws = judgedNumbers (judgeOf dim (bytes (ws ++ (65535 ∷ []))))
-
-abbrev pub judged2D : List ℕ → List ℕ
-judged2D = judged 2
-
-abbrev pub judged3D : List ℕ → List ℕ
-judged3D = judged 3
-
 -- the 2D cell of 46 words with total T and one 26-word line
 abbrev pub cellWithLine : ℕ → List ℕ
 cellWithLine total = cell 0 total ++ line 1
@@ -139,10 +129,6 @@ cellCases =
     case (judged2D (cellWithLine 52)) (3 ∷ 46 ∷ []) ∷
     case (judged2D (cellWithLine 54)) (3 ∷ 72 ∷ []) ∷
     []
-
--- the fixed parts of a type in words, 2D and 3D, by the word that sizes them
-abbrev pub fixedParts : ℕ → ℕ → List ℕ
-fixedParts kind n = fixedPart 2 kind n ∷ fixedPart 3 kind n ∷ []
 
 -- the table of fixed parts: 1, 2, 3; 4, 6, 11, 21 with N=2 and N=101; 7, 12, 14; 17 with no characters
 -- and fields, with one of each and with 255 of each; 18 and 19, in a 2D file refused, 6
@@ -367,7 +353,8 @@ textCases =
 abbrev pub largeText : List ℕ → List ℕ
 largeText given = firstFault (contentChecks 2 (live 17 0 ∷ 65534 ∷ replicate 16 0 ++ texted 11 1 1 given) 0 65536) ∷ []
 
--- the order of checks of one element: 3, 4, 5, 10, 6, 7, 20, 8, 11, 12, its components, 9; each case has two faults
+-- the order of checks of one element: 3, 4, 5, 10, 6, 7, 20, 8, 11, 21, 12, its components, 9; each case has two faults
+-- (those of 21 are among the cases of ellipses and arcs)
 abbrev pub orderCases : List Case
 orderCases =
     -- cut, and bit 6 set
@@ -434,10 +421,6 @@ givenCases =
 
 -- what the calls for a text, its characters and a field give, of the element at the front of a file: 0 and the numbers, signed ones as
 -- for points, the odd byte behind a 1; or the refusal
-abbrev pub turnShown : Turn → List ℕ
-turnShown (turn.Flat rotation) = rotation ∷ []
-turnShown (turn.Solid a b c d) = a ∷ b ∷ c ∷ d ∷ []
-
 abbrev pub originShown : Origin → List ℕ
 originShown (origin.Flat x y) = signedAll (x ∷ y ∷ [])
 originShown (origin.Solid x y z) = signedAll (x ∷ y ∷ z ∷ [])
@@ -459,9 +442,6 @@ charactersShown (characters.Refused n p) = n ∷ p ∷ []
 abbrev pub fieldShown : FieldView → List ℕ
 fieldShown (field.Read first count justification) = 0 ∷ first ∷ count ∷ signedAll (justification ∷ [])
 fieldShown (field.Refused n p) = n ∷ p ∷ []
-
-abbrev pub withMarker : List ℕ → List ℕ
-withMarker ws = bytes (ws ++ (65535 ∷ []))
 
 -- `SEAL 7`, a field of its last two characters with justification -1, and an odd byte 42, in 2D and in 3D, every number another
 abbrev pub sealBytes : List ℕ
@@ -497,4 +477,4 @@ abbrev pub starred : List Case
 starred =
     longCases ++ nameCases ++ fileCases ++ lineCases ++ pointCases ++ cellCases ++ tableCases ++ placeCases ++ ruleCases
     ++ lengthCases ++ givenCases ++ codeCases ++ depthCases ++ totalCases ++ countCases ++ attributeCases ++ textCases
-    ++ readCases ++ orderCases ++ sessionCases ++ blockCases ++ indexCases ++ deletedCases
+    ++ readCases ++ orderCases ++ sessionCases ++ blockCases ++ indexCases ++ deletedCases ++ curveCases

@@ -5,6 +5,10 @@ use mathlib.Core.List.{List, [], _∷_, _++_, append-assoc}
 use native.Mathlib.Omega.{arith}
 use lib.ListN.{length, getD, take, drop, length-append, length-map, length-take, length-drop}
 use lib.IntN.{pos}
+use lib.Seq.{sets}
+use lib.Dec.{leb}
+use borrow.Author.Tests.{leb-true}
+use mathlib.Core.Bool.{and-eq-true-iff}
 use Rattle.words.specs.Words.{words}
 use Rattle.files.specs.Judge.{judgeOf}
 use Rattle.files.specs.Spots.{Spot, spotsOf}
@@ -49,7 +53,7 @@ module _ (dim : ℕ) (s : List ℕ) (e d m : ℕ) (j : judgeOf dim s ≡ Accepte
 
   -- what a call that is done gives
   gave : (k many : ℕ) (x y : Lent) → k + many ≤ length (spotsOf dim (words s)) → 32 * many ≤ length (x .numbers) →
-      Done 1 many k e (many ∷ []) (x .out) (y .out) (viewsPart dim s k many) (x .numbers) (y .numbers) →
+      Done 1 many k e (many ∷ []) (x .out) (y .out) (sets (x .numbers) 0 (viewsPart dim s k many)) (y .numbers) →
       Gave (spotsOf dim (words s)) (viewsOf dim s) k (k + getD (y .out) 0 0) (take (32 * getD (y .out) 0 0) (y .numbers))
   unfolding viewsPart
   gave k many x y h r w =
@@ -67,7 +71,7 @@ module _ (dim : ℕ) (s : List ℕ) (e d m : ℕ) (j : judgeOf dim s ≡ Accepte
       }
 
   pub step : (k : ℕ) (x : Lent) (n : ℕ) (y : Lent) → k ≤ length (spotsOf dim (words s)) → viewsCall dim s .Answers k x n y →
-      Step (viewsCall dim s) (spotsOf dim (words s)) (viewsOf dim s) 32 1 k x n y
+      Step (viewsCall dim s) (spotsOf dim (words s)) (viewsOf dim s) k x n y
   unfolding viewsReply
   step k x n y h a =
       let many = viewsCount (judgeOf dim s) (length (x .numbers)) k in
@@ -75,9 +79,12 @@ module _ (dim : ℕ) (s : List ℕ) (e d m : ℕ) (j : judgeOf dim s ≡ Accepte
       let c = count-is dim s e d m j in
       record {
         gives = λ z. gave k many x y (omega arith) (omega arith)
-            (when-done (judgeOf dim s) j 1 many k (many ∷ []) (x .out) (a .replied) (viewsPart dim s k many) (x .numbers) (y .numbers) (a .given) z);
-        done = λ u v. done-when (judgeOf dim s) j 1 many k (many ∷ []) (x .out) (a .replied) v (none-left many k e (λ i. omega arith));
+            (when-done (judgeOf dim s) j 1 many k (many ∷ []) (x .out) (a .replied) (sets (x .numbers) 0 (viewsPart dim s k many)) (x .numbers) (y .numbers) (a .given) z);
+        done = λ u.
+            let both = and-eq-true-iff (leb 32 (length (x .numbers))) (leb 1 (length (x .out))) .0 u in
+            let r = leb-true 32 (length (x .numbers)) (both .0) in
+            done-when (judgeOf dim s) j 1 many k (many ∷ []) (x .out) (a .replied) (leb-true 1 (length (x .out)) (both .1)) (none-left many k e (λ i. omega arith));
       }
 
 pub all-views : AllViews
-all-views dim s e d m j calls got last c = gives-all (viewsCall dim s) (spotsOf dim (words s)) (viewsOf dim s) 32 1 (views-append dim s) refl (step dim s e d m j) c
+all-views dim s e d m j calls got last c = gives-all (viewsCall dim s) (spotsOf dim (words s)) (viewsOf dim s) (record { append = views-append dim s; empty = refl; unit = λ l. refl }) (step dim s e d m j) c

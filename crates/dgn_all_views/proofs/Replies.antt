@@ -25,7 +25,7 @@ module _ (dim : ℕ) (s : List ℕ) (k : ℕ) (views : List ℤ) (out : List ℕ
   pub views-refused : (a : ℕ) → begunOf dim s 1 (length out) ≡ Refused a → ViewsGiven dim s k views out a views out
   unfolding viewsReply
   views-refused a q =
-      let g = call-refused dim s 1 many k (many ∷ []) out (viewsPart dim s k many) views a q in
+      let g = call-refused dim s 1 many k (many ∷ []) out (sets views 0 (viewsPart dim s k many)) views a q in
       record { replied = g .0; given = g .1 }
 
   module _ (e : ℕ) (on : GoesOn dim s 1 (length out) e) (n : ℕ) (count : n ≡ viewsMany (length views) k e) where
@@ -43,7 +43,7 @@ module _ (dim : ℕ) (s : List ℕ) (k : ℕ) (views : List ℤ) (out : List ℕ
     pub views-full : true ≡ noneFits n k e → ViewsGiven dim s k views out 15 views out
     unfolding viewsReply
     views-full f =
-        let g = call-full dim s 1 many k (many ∷ []) out (viewsPart dim s k many) views e on (f ∙ ap (λ i. noneFits i k e) counted) in
+        let g = call-full dim s 1 many k (many ∷ []) out (sets views 0 (viewsPart dim s k many)) views e on (f ∙ ap (λ i. noneFits i k e) counted) in
         record { replied = g .0; given = g .1 }
 
     -- what is put is those of the elements
@@ -59,5 +59,5 @@ module _ (dim : ℕ) (s : List ℕ) (k : ℕ) (views : List ℤ) (out : List ℕ
     unfolding viewsReply
     views-done f b t h =
         let z = part-is b t h ∙ ap (λ i. sets views 0 (viewsPart dim s k i)) counted in
-        let g = call-done dim s 1 many k (many ∷ []) out (viewsPart dim s k many) views e on (f ∙ ap (λ i. noneFits i k e) counted) in
+        let g = call-done dim s 1 many k (many ∷ []) out (sets views 0 (viewsPart dim s k many)) views e on (f ∙ ap (λ i. noneFits i k e) counted) in
         subst (λ i. ViewsGiven dim s k views out 0 t (set out 0 i)) (sym counted) (record { replied = g .0; given = z ∙ g .1 })

@@ -4,6 +4,7 @@ use mathlib.Core.Path.{_≡_, refl, sym, ap, _∙_, subst}
 use mathlib.Core.Bool.{Bool, true, false}
 use mathlib.Core.List.{List, [], _∷_}
 use native.Mathlib.Omega.{arith}
+use lib.Seq.{sets}
 use lib.ListN.{length, getD, take, drop}
 use lib.Dec.{leb}
 use borrow.Author.Tests.{leb-true, leb-false}
@@ -59,7 +60,7 @@ module _ (dim : ℕ) (s : List ℕ) (e d m : ℕ) (j : judgeOf dim s ≡ Accepte
       let many = viewsCount (judgeOf dim s) (length (x .numbers)) k in
       let count : viewsCount (judgeOf dim s) (length (x .numbers)) k ≡ viewsMany (length (x .numbers)) k e = ap (λ v. viewsCount v (length (x .numbers)) k) j in
       let c = count-is dim s e d m j in
-      let w = when-done (judgeOf dim s) j 1 many k (many ∷ []) (x .out) (a .replied) (viewsPart dim s k many) (x .numbers) (y .numbers) (a .given) refl in
+      let w = when-done (judgeOf dim s) j 1 many k (many ∷ []) (x .out) (a .replied) (sets (x .numbers) 0 (viewsPart dim s k many)) (x .numbers) (y .numbers) (a .given) refl in
       let got : getD (y .out) 0 0 ≡ 0 = ap (λ o. getD o 0 0) (w .answer) ∙ front-at (many ∷ []) (x .out) 0 0 (omega arith) (w .room) ∙ omega arith in
       (omega arith, rw got tt)
 

@@ -9,23 +9,19 @@ use Rattle.words.specs.Words.{words, Below}
 use Rattle.files.specs.Judge.{judgeOf}
 use Rattle.files.specs.Spots.{spotsOf}
 use Rattle.files.specs.declared.Judged.the-variants.{Accepted}
-use Rattle.order.specs.Parts.{Lent, InParts, Called, GivesAll, Within}
+use Rattle.order.specs.Parts.{Lent, InParts, numbersCall, Called, GivesAll, Within}
 use Rattle.dgn_all_views.specs.Views.{viewsOf}
 use Rattle.dgn_all_views.specs.Answers.{ViewsGiven}
 
--- the call by its contract; the first number of its answer is how many views there are, of 32 numbers each
-abbrev pub viewsCall : ℕ → List ℕ → InParts
-viewsCall dim s = record {
-  Answers = λ k x n y. ViewsGiven dim s k (x .numbers) (x .out) n (y .numbers) (y .out);
-  next = λ k out. k + getD out 0 0;
-  written = λ out. 32 * getD out 0 0;
-}
+-- the call by its contract; the first number of its answer is how many views there are, of 32 numbers each. A slice of 32 numbers holds
+-- any view, and one of 1 the answer
+abbrev pub viewsCall : ℕ → List ℕ → InParts Lent (List ℤ)
+viewsCall dim s = numbersCall (λ k x n y. ViewsGiven dim s k (x .numbers) (x .out) n (y .numbers) (y .out)) (λ k out. k + getD out 0 0) (λ out. 32 * getD out 0 0) 32 1
 
--- a slice of 32 numbers holds any view, and one of 1 the answer
 abbrev pub AllViews : Type 0
 AllViews =
     (dim : ℕ) (s : List ℕ) (e d m : ℕ) → judgeOf dim s ≡ Accepted e d m → (calls : List Lent) (got : List ℤ) (last : ℕ) →
-    Called (viewsCall dim s) 0 calls got last → GivesAll (spotsOf dim (words s)) (viewsOf dim s) 32 1 calls got last
+    Called (viewsCall dim s) 0 calls got last → GivesAll (viewsCall dim s) (spotsOf dim (words s)) (viewsOf dim s) calls got last
 
 -- a call that is done gives at most 524,288 views, whose numbers are below 4,294,967,296
 abbrev pub ViewsWithin : Type 0

@@ -28,7 +28,8 @@ use Rattle.points_linkages.specs.Coordinates.{longs}
 use Rattle.points_linkages.specs.Coordinates as calls
 use Rattle.points_linkages.proofs.Numbered.{point-there}
 use Rattle.points_linkages.proofs.Coordinates.{length-longs, points-longs}
-use Rattle.order.proofs.Took.{all-taken}
+use Rattle.order.specs.Fitting.{inNumbers}
+use Rattle.order.proofs.Took.{all-taken, takes-numbers}
 use Rattle.dgn_points.specs.Points.{pointNumbers, pointsPart}
 use Rattle.dgn_points.specs.Answers.{pointsReply}
 use Rattle.dgn_points.specs.Calls.{elementPoints, pointsCall, AllPoints}
@@ -81,5 +82,6 @@ module _ (dim : ℕ) (s : List ℕ) (e d m : ℕ) (j : judgeOf dim s ≡ Accepte
 pub all-points : AllPoints
 unfolding pointsReply pointsPart
 all-points dim s e d m j calls got last c =
-    all-taken dim s e d m j (λ x. pointNumbers dim (words s) (x .place)) (λ x. elementPoints dim s (x .place)) 305 (numbers-each dim s e d m j) (numbers-few dim s e d m j)
-    (λ n. n) (λ n. n) (λ xs. refl) (pointsCall dim s .Answers) (λ k x n y h a. a .replied) (λ k x n y h a. a .given) calls got last c
+    all-taken (pointsCall dim s) inNumbers (λ x. x .numbers) (λ x. x .out) dim s e d m j (λ x. pointNumbers dim (words s) (x .place)) (λ x. elementPoints dim s (x .place)) (λ l. l) 305 (λ n. n)
+    (takes-numbers (pointsCall dim s .Answers) (λ x. elementPoints dim s (x .place)) 305 (λ n. n) (λ n. n) (λ xs. refl))
+    (numbers-each dim s e d m j) (numbers-few dim s e d m j) (λ k x n y h a. a .replied) (λ k x n y h a. a .given) calls got last c

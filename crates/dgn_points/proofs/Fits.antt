@@ -14,7 +14,7 @@ use Rattle.points_linkages.specs.Coordinates.{longs}
 use Rattle.points_linkages.proofs.Coordinates.{length-longs}
 use Rattle.points_linkages.proofs.Numbered.{count-small}
 use Rattle.order.specs.declared.Taken.the-variants.{Full, Used}
-use Rattle.order.specs.Fitting.{ElementPut}
+use Rattle.order.specs.Fitting.{inNumbers, ElementPut}
 use Rattle.dgn_points.specs.Points.{pointNumbers}
 
 ---- signed longs
@@ -53,7 +53,7 @@ numbers-few s b dim at n h e =
     go (suc (suc (suc (suc d)))) l = absurd (omega arith)
 
 module _ (dim : ℕ) (ws : List ℕ) (at n : ℕ) (numbers : List ℤ) (used : ℕ) (count : n ≡ pointCount ws at) where
-  pub element-none : n ≡ 0 → ElementPut (pointNumbers dim ws at) numbers used (Used used) numbers
+  pub element-none : n ≡ 0 → ElementPut inNumbers (pointNumbers dim ws at) numbers used (Used used) numbers
   unfolding pointNumbers
   element-none z = rw (← count, z)
       (record { is = rw (le-leb 0 (length numbers - used) (omega arith)) (ap Used (omega arith)); given = rw (le-leb 0 (length numbers - used) (omega arith)) refl })
@@ -65,7 +65,7 @@ module _ (dim : ℕ) (ws : List ℕ) (at n : ℕ) (numbers : List ℤ) (used : �
   unfolding pointNumbers
   numbers-are z = rw (← count, ne-eqb n 0 z) refl
 
-  pub element-full : (n ≡ 0 → ⊥) → length numbers - used < 2 + n * dim → ElementPut (pointNumbers dim ws at) numbers used Full numbers
+  pub element-full : (n ≡ 0 → ⊥) → length numbers - used < 2 + n * dim → ElementPut inNumbers (pointNumbers dim ws at) numbers used Full numbers
   element-full z h = rw (numbers-are z)
       (let l = long in
       let no = lt-leb (suc (suc (length (longs (n * dim) ws (at + beforePoints ws at))))) (length numbers - used) (omega arith) in
@@ -73,7 +73,7 @@ module _ (dim : ℕ) (ws : List ℕ) (at n : ℕ) (numbers : List ℤ) (used : �
 
   pub element-put : (n ≡ 0 → ⊥) → 2 + n * dim ≤ length numbers - used → (t : List ℤ) (b : ℕ) (first second : ℤ) → b ≡ beforePoints ws at → first ≡ pos at → second ≡ pos n →
       t ≡ sets (set (set numbers used first) (used + 1) second) (used + 2) (longs (n * dim) ws (at + b)) →
-      ElementPut (pointNumbers dim ws at) numbers used (Used (used + 2 + n * dim)) t
+      ElementPut inNumbers (pointNumbers dim ws at) numbers used (Used (used + 2 + n * dim)) t
   element-put z h t b first second e f g q = rw (numbers-are z)
       (let l = long in
       let yes = le-leb (suc (suc (length (longs (n * dim) ws (at + beforePoints ws at))))) (length numbers - used) (omega arith) in

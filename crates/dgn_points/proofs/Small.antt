@@ -7,6 +7,7 @@ use mathlib.Core.Option.{some}
 use native.Mathlib.Omega.{arith}
 use lib.IntN.{ℤ, pos}
 use lib.ListN.{length, getD, take, drop, length-drop, length-map}
+use lib.Seq.{sets}
 use lib.Dec.{eqb}
 use Rattle.words.specs.Words.{words, Below, longAt}
 use Rattle.words.proofs.Laws.{words-below}
@@ -56,7 +57,7 @@ done-read dim s e d m j k x y a =
     let q = pointsPart dim (words s) (length (x .numbers)) k in
     let t = taken dim (words s) (length (x .numbers)) k in
     let answer = q .next ∷ length (q .given) ∷ [] in
-    let w = when-done (judgeOf dim s) j 2 (length (q .given)) (q .next) answer (x .out) (a .replied) (q .given) (x .numbers) (y .numbers) (a .given) refl in
+    let w = when-done (judgeOf dim s) j 2 (length (q .given)) (q .next) answer (x .out) (a .replied) (sets (x .numbers) 0 (q .given)) (x .numbers) (y .numbers) (a .given) refl in
     let size = ap (λ o. getD o 1 0) (w .answer) ∙ front-at answer (x .out) 1 0 (omega arith) (w .room) in
     record {
       took = t;

@@ -14,7 +14,7 @@ use Rattle.files.specs.declared.Judged.the-variants.{Accepted}
 use Rattle.points_linkages.specs.Points.{pointCount}
 use Rattle.points_linkages.specs.Coordinates.{pointsFrom}
 use Rattle.order.specs.Fitting.{allOf}
-use Rattle.order.specs.Parts.{Lent, InParts, Called, GivesAll, Within}
+use Rattle.order.specs.Parts.{Lent, InParts, numbersCall, Called, GivesAll, Within}
 use Rattle.dgn_points.specs.Answers.{PointsGiven}
 
 -- of the element at a place: none where it has no points; else its place, how many points it has, and their coordinates by the calls
@@ -28,19 +28,15 @@ elementPoints dim s at =
 abbrev pub pointsOf : ℕ → List ℕ → List Spot → List ℤ
 pointsOf dim s = allOf (λ x. elementPoints dim s (x .place))
 
--- the call by its contract; its answer is the number of the element to go on with, and how many numbers there are
-abbrev pub pointsCall : ℕ → List ℕ → InParts
-pointsCall dim s = record {
-  Answers = λ k x n y. PointsGiven dim s k (x .numbers) (x .out) n (y .numbers) (y .out);
-  next = λ k out. getD out 0 0;
-  written = λ out. getD out 1 0;
-}
+-- the call by its contract; its answer is the number of the element to go on with, and how many numbers there are. A slice of 305 numbers
+-- holds any element, and one of 2 the answer
+abbrev pub pointsCall : ℕ → List ℕ → InParts Lent (List ℤ)
+pointsCall dim s = numbersCall (λ k x n y. PointsGiven dim s k (x .numbers) (x .out) n (y .numbers) (y .out)) (λ k out. getD out 0 0) (λ out. getD out 1 0) 305 2
 
--- a slice of 305 numbers holds any element, and one of 2 the answer
 abbrev pub AllPoints : Type 0
 AllPoints =
     (dim : ℕ) (s : List ℕ) (e d m : ℕ) → judgeOf dim s ≡ Accepted e d m → (calls : List Lent) (got : List ℤ) (last : ℕ) →
-    Called (pointsCall dim s) 0 calls got last → GivesAll (spotsOf dim (words s)) (pointsOf dim s) 305 2 calls got last
+    Called (pointsCall dim s) 0 calls got last → GivesAll (pointsCall dim s) (spotsOf dim (words s)) (pointsOf dim s) calls got last
 
 -- a call that is done goes on at most at the element after the last, or where it was asked to begin; it gives no more numbers than its
 -- slice holds, each from -2,147,483,648 to 2,147,483,647

@@ -7,7 +7,7 @@ use lib.ListN.{drop}
 use lib.Dec.{eqb}
 use Rattle.files.specs.Spots.{spotsOf}
 use Rattle.order.specs.Order.{placeOf}
-use Rattle.order.specs.Fitting.{Fitting, partOf, numbersFrom}
+use Rattle.order.specs.Fitting.{Fitting, partOf, itemsFrom}
 use Rattle.points_linkages.specs.Points.{pointCount, beforePoints}
 use Rattle.points_linkages.specs.Coordinates.{longs}
 
@@ -19,9 +19,9 @@ pointNumbers dim ws at =
     (pos at ∷ pos (pointCount ws at) ∷ longs (pointCount ws at * dim) ws (at + beforePoints ws at))
 
 -- those of a file
-unfoldable pub pointsPart : ℕ → List ℕ → ℕ → ℕ → Fitting
+unfoldable pub pointsPart : ℕ → List ℕ → ℕ → ℕ → Fitting ℤ
 pointsPart dim ws room k = partOf room k (map (λ x. pointNumbers dim ws (x .place)) (drop k (spotsOf dim ws)))
 
 -- the same of n elements from number k on, by places
 abbrev pub pointsFrom : ℕ → ℕ → List ℕ → ℕ → List (List ℤ)
-pointsFrom n dim ws k = numbersFrom n (λ i. pointNumbers dim ws (placeOf ws i)) k
+pointsFrom n dim ws k = itemsFrom n (λ i. pointNumbers dim ws (placeOf ws i)) k

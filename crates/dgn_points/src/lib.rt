@@ -7,25 +7,11 @@ ghost use lib.Seq.{sets};
 ghost use Rattle.words.specs.Words.{words};
 ghost use Rattle.points_linkages.specs.Coordinates.{longs};
 ghost use Rattle.order.specs.Order.{placeOf};
-ghost use Rattle.order.specs.Fitting.{partOf, ElementPut, PartPut};
+ghost use Rattle.order.specs.Fitting.{partOf, inNumbers, ElementPut, PartPut};
 ghost use Rattle.dgn_points.specs.Points.{pointNumbers, pointsFrom};
 ghost use Rattle.dgn_points.specs.Answers.{PointsGiven};
 use order::Part;
 use order::Taken;
-
-// The place of element number k.
-fn place_of(file: &[u8], k: usize) -> usize
-    requires { ⌜ k ≤ 1048576 ⌝ }
-    ensures { λ r. ⌜ r ≡ placeOf (words (now (file .entry))) k ⌝ }
-{
-    let mut at = 0;
-    let mut i = 0;
-    while i < k {
-        at += headers::size_at(file, at);
-        i += 1;
-    }
-    at
-}
 
 // n signed longs, from a place of the numbers on.
 fn put_longs(file: &[u8], first: usize, n: usize, numbers: &mut [i64], from: usize)
@@ -42,7 +28,7 @@ fn put_longs(file: &[u8], first: usize, n: usize, numbers: &mut [i64], from: usi
 // The numbers of the element at a place behind those that are used, where they fit; none of one without points.
 fn put_element(file: &[u8], dim: usize, at: usize, numbers: &mut [i64], used: usize) -> Taken
     requires { ⌜ (dim ≤ 3) × ((at < 2 ^ 40) × (used ≤ length (now numbers))) ⌝ }
-    ensures { λ r. ⌜ ElementPut (pointNumbers dim (words (now (file .entry))) at) (now (numbers .entry)) used r (now (numbers .exit)) ⌝ }
+    ensures { λ r. ⌜ ElementPut inNumbers (pointNumbers dim (words (now (file .entry))) at) (now (numbers .entry)) used r (now (numbers .exit)) ⌝ }
 {
     let n = points_linkages::point_count(file, at);
     if n == 0 {
@@ -64,12 +50,12 @@ fn put_element(file: &[u8], dim: usize, at: usize, numbers: &mut [i64], used: us
 // The numbers of the elements number k, k + 1, .., up to the first that does not fit.
 fn put_points(file: &[u8], dim: usize, elements: usize, k: usize, numbers: &mut [i64]) -> Part
     requires { ⌜ (dim ≤ 3) × (elements ≤ 1048576) ⌝ }
-    ensures { λ r. ⌜ PartPut (partOf (length (now (numbers .entry))) k (pointsFrom (elements - k) dim (words (now (file .entry))) k)) (now (numbers .entry)) r (now (numbers .exit)) ⌝ }
+    ensures { λ r. ⌜ PartPut inNumbers (partOf (length (now (numbers .entry))) k (pointsFrom (elements - k) dim (words (now (file .entry))) k)) (now (numbers .entry)) r (now (numbers .exit)) ⌝ }
 {
     if elements <= k {
         return Part { next: k, used: 0 };
     }
-    let mut at = place_of(file, k);
+    let mut at = order::start_of(file, k);
     let mut i = k;
     let mut used = 0;
     while i < elements {

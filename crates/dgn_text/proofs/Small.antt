@@ -19,9 +19,9 @@ use Rattle.text_views.specs.declared.Characters.{Characters}
 use Rattle.text_views.specs.declared.Characters.the-variants as parts
 use Rattle.text_views.specs.declared.FieldView.{FieldView}
 use Rattle.text_views.specs.declared.FieldView.the-variants as fields
-use Rattle.text_views.specs.TextViews.{textAt, textIn, textOf, charactersOf, fieldOf}
+use Rattle.text_views.specs.TextViews.{isText, textAt, textIn, textOf, charactersOf, fieldOf}
 use Rattle.text_views.specs.Refusals.{TextRefused}
-use Rattle.text_views.proofs.Ways.{Way, nowhere, another, a-text, way}
+use Rattle.places.proofs.OfType.{Way, nowhere, another, of-type, way}
 use Rattle.text_views.proofs.Refusals.{text-refused, characters-refused, field-refused}
 use Rattle.answers.specs.Answers.{Small, SmallReply}
 use Rattle.answers.proofs.Elements.{call-words}
@@ -39,12 +39,12 @@ module _ (dim : ℕ) (s : List ℕ) (at : ℕ) where
 
   pub text-small : (t : Text) → textOf dim s at ≡ views.Read t → at < 524288
   unfolding textOf textIn
-  text-small t q = go (way views.Refused dim s at (views.Read (textAt dim (words s) at)) (views.Read t) q)
+  text-small t q = go (way isText views.Refused dim s at (views.Read (textAt dim (words s) at)) (views.Read t) q)
     where
-      go : Way views.Refused dim s at (views.Read (textAt dim (words s) at)) (views.Read t) → at < 524288
+      go : Way isText views.Refused dim s at (views.Read (textAt dim (words s) at)) (views.Read t) → at < 524288
       go (nowhere n p e f) = let z : _≡_ {A = ℕ} 0 1 = cc in absurd (omega arith)
       go (another end depth above e h f) = found-small end depth above e
-      go (a-text end depth above e h f) = found-small end depth above e
+      go (of-type end depth above e h f) = found-small end depth above e
 
   refused-small : (n p : ℕ) → TextRefused dim s at n p → Small n p
   refused-small n p (inl r) = place-small dim s n p r

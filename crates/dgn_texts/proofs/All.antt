@@ -7,8 +7,8 @@ use native.Mathlib.Omega.{arith}
 use lib.ListN.{length, length-append}
 use Rattle.words.specs.Words.{words}
 use Rattle.files.specs.Spots.{Spot}
-use Rattle.order.specs.Fitting.{allOf}
-use Rattle.order.proofs.Took.{all-taken}
+use Rattle.order.specs.Fitting.{allOf, inNumbers}
+use Rattle.order.proofs.Took.{all-taken, takes-numbers}
 use Rattle.text_views.specs.declared.TextView.{TextView}
 use Rattle.text_views.specs.declared.TextView.the-variants as view
 use Rattle.text_views.specs.TextViews.{textOf}
@@ -44,5 +44,6 @@ module _ (dim : ℕ) (s : List ℕ) where
 pub all-texts : AllTexts
 unfolding textsReply textsPart
 all-texts dim s e d m j calls got last c =
-    all-taken dim s e d m j (textEntry dim s) (textEntry dim s) 18 (λ x f. refl) (λ x f. few dim s x) (λ n. n / 18) (λ n. 18 * n) (whole dim s)
-    (textsCall dim s .Answers) (λ k x n y h a. a .replied) (λ k x n y h a. a .given) calls got last c
+    all-taken (textsCall dim s) inNumbers (λ x. x .numbers) (λ x. x .out) dim s e d m j (textEntry dim s) (textEntry dim s) (λ l. l) 18 (λ n. n / 18)
+    (takes-numbers (textsCall dim s .Answers) (textEntry dim s) 18 (λ n. n / 18) (λ n. 18 * n) (whole dim s))
+    (λ x f. refl) (λ x f. few dim s x) (λ k x n y h a. a .replied) (λ k x n y h a. a .given) calls got last c

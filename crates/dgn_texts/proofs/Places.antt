@@ -19,7 +19,7 @@ use Rattle.walking.specs.Walk.{walkStart, nextOf}
 use Rattle.walking.proofs.Walks.{walked, walk-is}
 use Rattle.places.specs.Places.{foundBy}
 use Rattle.places.proofs.Places.{spot-inside, spotted-found}
-use Rattle.order.specs.Fitting.{Fitting, partOf, numbersFrom}
+use Rattle.order.specs.Fitting.{Fitting, partOf, itemsFrom}
 use Rattle.order.proofs.Order.{FoundIn, found-drop, file-found, count-is}
 use Rattle.text_views.specs.TextViews.{textIn, textOf}
 use Rattle.dgn_texts.specs.Texts.{entryBy, textEntry, textsPart, walkOf, entryAt, textsFrom, fromNumber}
@@ -31,11 +31,11 @@ module _ (k room : ℕ) (f : ℕ → List ℤ) where
   abbrev late : ℕ → List ℤ
   late i = fromNumber k i (f i)
 
-  same-late : (n i : ℕ) → k ≤ i → numbersFrom n late i ≡ numbersFrom n f i
+  same-late : (n i : ℕ) → k ≤ i → itemsFrom n late i ≡ itemsFrom n f i
   same-late zero i h = refl
   same-late (suc n) i h = rw (le-ltb i k h, same-late n (suc i) (omega arith)) refl
 
-  skip : (d n i : ℕ) → i + d ≡ k → partOf room i (numbersFrom (d + n) late i) ≡ partOf room k (numbersFrom n late k)
+  skip : (d n i : ℕ) → i + d ≡ k → partOf room i (itemsFrom (d + n) late i) ≡ partOf room k (itemsFrom n late k)
   skip zero n i e =
       let a : i ≡ k = omega arith in
       let b : zero + n ≡ n = omega arith in
@@ -46,10 +46,10 @@ module _ (k room : ℕ) (f : ℕ → List ℤ) where
       let z : room - 0 ≡ room = omega arith in
       rw (a, none, le-leb 0 room (omega arith), z) (skip d n (suc i) (omega arith))
 
-  pub from-first : (n : ℕ) → k ≤ n → partOf room 0 (numbersFrom (n - 0) late 0) ≡ partOf room k (numbersFrom (n - k) f k)
+  pub from-first : (n : ℕ) → k ≤ n → partOf room 0 (itemsFrom (n - 0) late 0) ≡ partOf room k (itemsFrom (n - k) f k)
   from-first n h =
       let a : n - 0 ≡ k + (n - k) = omega arith in
-      ap (λ m. partOf room 0 (numbersFrom m late 0)) a ∙ skip k (n - k) 0 (omega arith) ∙ ap (partOf room k) (same-late (n - k) k (omega arith))
+      ap (λ m. partOf room 0 (itemsFrom m late 0)) a ∙ skip k (n - k) 0 (omega arith) ∙ ap (partOf room k) (same-late (n - k) k (omega arith))
 
 ---- the walk and the list
 

@@ -12,7 +12,7 @@ use Rattle.texts.specs.Texts.{countsWord, firstCharacter}
 use Rattle.kinds.specs.FirstWord.{deletedOf}
 use Rattle.order.specs.declared.Taken.{Taken}
 use Rattle.order.specs.declared.Taken.the-variants.{Full, Used}
-use Rattle.order.specs.Fitting.{ElementPut}
+use Rattle.order.specs.Fitting.{inNumbers, ElementPut}
 use Rattle.text_views.specs.declared.Text.{Text}
 use Rattle.text_views.specs.declared.TextView.{TextView}
 use Rattle.text_views.specs.declared.TextView.the-variants as view
@@ -41,9 +41,9 @@ entry-put dim ws at depth n text numbers t from a b c ea eb ec e h put =
 
 module _ (dim : ℕ) (ws : List ℕ) (k i at depth : ℕ) (numbers : List ℤ) (used : ℕ) where
   abbrev Put : TextView → Taken → List ℤ → Type 0
-  Put v r t = ElementPut (fromNumber k i (entryBy v dim ws at depth)) numbers used r t
+  Put v r t = ElementPut inNumbers (fromNumber k i (entryBy v dim ws at depth)) numbers used r t
 
-  nothing : (e : List ℤ) → e ≡ [] → ElementPut e numbers used (Used used) numbers
+  nothing : (e : List ℤ) → e ≡ [] → ElementPut inNumbers e numbers used (Used used) numbers
   nothing e q = rw q (record { is = rw (le-leb 0 (length numbers - used) (omega arith)) (ap Used (omega arith)); given = rw (le-leb 0 (length numbers - used) (omega arith)) refl })
 
   pub put-before : (v : TextView) → i < k → Put v (Used used) numbers

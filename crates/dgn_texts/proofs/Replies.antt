@@ -11,34 +11,35 @@ use Rattle.answers.proofs.Elements.{call-words}
 use Rattle.order.specs.declared.Begun.the-variants.{Refused}
 use Rattle.order.specs.declared.Part.{Part}
 use Rattle.order.specs.Calls.{begunOf, noneFits}
-use Rattle.order.specs.Fitting.{Fitting, partOf, PartPut}
+use Rattle.order.specs.Fitting.{inNumbers, Fitting, partOf, PartPut}
 use Rattle.order.proofs.Calls.{GoesOn}
+use Rattle.order.proofs.Fitting.{lays-numbers}
 use Rattle.order.proofs.Replies.{taken-refused, taken-full, taken-done}
 use Rattle.dgn_texts.specs.Texts.{textsPart, textsFrom, walkOf}
 use Rattle.dgn_texts.specs.Answers.{textsReply, TextsGiven}
 use Rattle.dgn_texts.proofs.Places.{texts-are, walk-inside}
 
 module _ (dim : ℕ) (s : List ℕ) (k : ℕ) (numbers : List ℤ) (out : List ℕ) where
-  abbrev part : Fitting
+  abbrev part : Fitting ℤ
   part = textsPart dim s (length numbers) k
 
   pub texts-refused : (a : ℕ) → begunOf dim s 2 (length out) ≡ Refused a → TextsGiven dim s k numbers out a numbers out
   unfolding textsReply
-  texts-refused a q = let g = taken-refused dim s part (length (part .given) / 18) numbers out a q in record { replied = g .0; given = g .1 }
+  texts-refused a q = let g = taken-refused inNumbers lays-numbers dim s part (length (part .given) / 18) numbers out a q in record { replied = g .0; given = g .1 }
 
-  module _ (e : ℕ) (on : GoesOn dim s 2 (length out) e) (t : List ℤ) (r : Part) (put : PartPut (partOf (length numbers) k (textsFrom (e - k) dim (words s) k)) numbers r t) where
-    put-part : PartPut part numbers r t
-    put-part = subst (λ p. PartPut p numbers r t) (texts-are dim s e (on .deepest) (on .marker) (on .accepted) (length numbers) k) put
+  module _ (e : ℕ) (on : GoesOn dim s 2 (length out) e) (t : List ℤ) (r : Part) (put : PartPut inNumbers (partOf (length numbers) k (textsFrom (e - k) dim (words s) k)) numbers r t) where
+    put-part : PartPut inNumbers part numbers r t
+    put-part = subst (λ p. PartPut inNumbers p numbers r t) (texts-are dim s e (on .deepest) (on .marker) (on .accepted) (length numbers) k) put
 
     pub texts-full : true ≡ noneFits (r .used) (r .next) e → TextsGiven dim s k numbers out 15 t out
     unfolding textsReply
-    texts-full f = let g = taken-full dim s part (length (part .given) / 18) numbers out e on t r put-part f in record { replied = g .0; given = g .1 }
+    texts-full f = let g = taken-full inNumbers lays-numbers dim s part (length (part .given) / 18) numbers out e on t r put-part f in record { replied = g .0; given = g .1 }
 
     pub texts-done : false ≡ noneFits (r .used) (r .next) e → (n : ℕ) → n ≡ r .used / 18 →
         TextsGiven dim s k numbers out 0 t (set (set out 0 (r .next)) 1 n)
     unfolding textsReply
     texts-done f n q =
-        let g = taken-done dim s part (length (part .given) / 18) numbers out e on t r put-part f n (q ∙ ap (λ m. m / 18) (put-part .used)) in
+        let g = taken-done inNumbers lays-numbers dim s part (length (part .given) / 18) numbers out e on t r put-part f n (q ∙ ap (λ m. m / 18) (put-part .used)) in
         record { replied = g .0; given = g .1 }
 
 -- what is handed on: the file is small, and each element is in it

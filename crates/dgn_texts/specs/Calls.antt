@@ -10,20 +10,16 @@ use Rattle.files.specs.Judge.{judgeOf}
 use Rattle.files.specs.Spots.{spotsOf}
 use Rattle.files.specs.declared.Judged.the-variants.{Accepted}
 use Rattle.order.specs.Fitting.{allOf}
-use Rattle.order.specs.Parts.{Lent, InParts, Called, GivesAll}
+use Rattle.order.specs.Parts.{Lent, InParts, numbersCall, Called, GivesAll}
 use Rattle.dgn_texts.specs.Texts.{textEntry}
 use Rattle.dgn_texts.specs.Answers.{TextsGiven}
 
--- the call by its contract; its answer is the number of the element to go on with, and how many texts there are, of 18 numbers each
-abbrev pub textsCall : ℕ → List ℕ → InParts
-textsCall dim s = record {
-  Answers = λ k x n y. TextsGiven dim s k (x .numbers) (x .out) n (y .numbers) (y .out);
-  next = λ k out. getD out 0 0;
-  written = λ out. 18 * getD out 1 0;
-}
+-- the call by its contract; its answer is the number of the element to go on with, and how many texts there are, of 18 numbers each. A
+-- slice of 18 numbers holds a text, and one of 2 the answer
+abbrev pub textsCall : ℕ → List ℕ → InParts Lent (List ℤ)
+textsCall dim s = numbersCall (λ k x n y. TextsGiven dim s k (x .numbers) (x .out) n (y .numbers) (y .out)) (λ k out. getD out 0 0) (λ out. 18 * getD out 1 0) 18 2
 
--- a slice of 18 numbers holds a text, and one of 2 the answer
 abbrev pub AllTexts : Type 0
 AllTexts =
     (dim : ℕ) (s : List ℕ) (e d m : ℕ) → judgeOf dim s ≡ Accepted e d m → (calls : List Lent) (got : List ℤ) (last : ℕ) →
-    Called (textsCall dim s) 0 calls got last → GivesAll (spotsOf dim (words s)) (allOf (textEntry dim s)) 18 2 calls got last
+    Called (textsCall dim s) 0 calls got last → GivesAll (textsCall dim s) (spotsOf dim (words s)) (allOf (textEntry dim s)) calls got last

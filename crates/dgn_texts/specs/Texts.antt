@@ -11,7 +11,7 @@ use Rattle.kinds.specs.FirstWord.{deletedOf}
 use Rattle.files.specs.Spots.{Spot, spotsOf}
 use Rattle.walking.specs.declared.Walk.{Walk}
 use Rattle.walking.specs.Walk.{walkStart, nextOf}
-use Rattle.order.specs.Fitting.{Fitting, partOf, numbersFrom}
+use Rattle.order.specs.Fitting.{Fitting, partOf, itemsFrom}
 use Rattle.text_views.specs.declared.TextView.{TextView}
 use Rattle.text_views.specs.declared.TextView.the-variants as view
 use Rattle.text_views.specs.TextViews.{textIn, textOf}
@@ -28,7 +28,7 @@ abbrev pub textEntry : ℕ → List ℕ → Spot → List ℤ
 textEntry dim s x = entryBy (textOf dim s (x .place)) dim (words s) (x .place) (x .depth)
 
 -- those of a file
-unfoldable pub textsPart : ℕ → List ℕ → ℕ → ℕ → Fitting
+unfoldable pub textsPart : ℕ → List ℕ → ℕ → ℕ → Fitting ℤ
 textsPart dim s room k = partOf room k (map (textEntry dim s) (drop k (spotsOf dim (words s))))
 
 -- the same by the walk: where it stands at element number i, and what is read there
@@ -40,7 +40,7 @@ abbrev pub entryAt : ℕ → List ℕ → Walk → List ℤ
 entryAt dim ws w = entryBy (textIn dim ws (w .place)) dim ws (w .place) (w .depth)
 
 abbrev pub textsFrom : ℕ → ℕ → List ℕ → ℕ → List (List ℤ)
-textsFrom n dim ws k = numbersFrom n (λ i. entryAt dim ws (walkOf ws i)) k
+textsFrom n dim ws k = itemsFrom n (λ i. entryAt dim ws (walkOf ws i)) k
 
 -- the numbers of element number i, where that is k or more; none before
 abbrev pub fromNumber : ℕ → ℕ → List ℤ → List ℤ

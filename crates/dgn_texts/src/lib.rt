@@ -5,7 +5,7 @@ ghost use Prim.Native.Nat.{ℕ, _+_, _-_, _/_, _≤_, _<_};
 ghost use lib.ListN.{length};
 ghost use lib.Seq.{sets};
 ghost use Rattle.words.specs.Words.{words};
-ghost use Rattle.order.specs.Fitting.{partOf, ElementPut, PartPut};
+ghost use Rattle.order.specs.Fitting.{inNumbers, partOf, ElementPut, PartPut};
 ghost use Rattle.text_views.specs.declared.TextView.the-variants.{Read};
 ghost use Rattle.text_views.specs.TextViews.{textIn};
 ghost use Rattle.dgn_texts.specs.Texts.{entryBy, walkOf, textsFrom, fromNumber};
@@ -47,7 +47,7 @@ fn put_from(
     used: usize,
 ) -> Taken
     requires { ⌜ (place < 1073741824) × ((depth < 1073741824) × (used ≤ length (now numbers))) ⌝ }
-    ensures { λ r. ⌜ ElementPut (fromNumber k i (entryBy (textIn dim (words (now (file .entry))) place) dim (words (now (file .entry))) place depth)) (now (numbers .entry)) used r (now (numbers .exit)) ⌝ }
+    ensures { λ r. ⌜ ElementPut inNumbers (fromNumber k i (entryBy (textIn dim (words (now (file .entry))) place) dim (words (now (file .entry))) place depth)) (now (numbers .entry)) used r (now (numbers .exit)) ⌝ }
 {
     if i < k {
         return Taken::Used { used };
@@ -71,7 +71,7 @@ fn put_from(
 // element, which keeps for each depth where the list around it ends.
 fn put_texts(file: &[u8], dim: usize, elements: usize, k: usize, numbers: &mut [i64]) -> Part
     requires { ⌜ (length (words (now file)) ≤ 524288) × ((i : ℕ) → i < elements → walkOf (words (now file)) i .place < length (words (now file))) ⌝ }
-    ensures { λ r. ⌜ PartPut (partOf (length (now (numbers .entry))) k (textsFrom (elements - k) dim (words (now (file .entry))) k)) (now (numbers .entry)) r (now (numbers .exit)) ⌝ }
+    ensures { λ r. ⌜ PartPut inNumbers (partOf (length (now (numbers .entry))) k (textsFrom (elements - k) dim (words (now (file .entry))) k)) (now (numbers .entry)) r (now (numbers .exit)) ⌝ }
 {
     if elements <= k {
         return Part { next: k, used: 0 };

@@ -12,7 +12,7 @@ use Rattle.words.specs.Words.{Below, wordAt}
 use Rattle.names.specs.Names.{nameOk}
 use Rattle.kinds.specs.FirstWord.{reservedOf, cOf, typeOf}
 use Rattle.headers.specs.Header.{typeAt, sizingAt}
-use Rattle.kinds.specs.Kinds.{isHeader, isCounted, isSized, isLinked, isCell, nameWord, fixedPart}
+use Rattle.kinds.specs.Kinds.{isHeader, isCounted, isLinked, isCell, nameWord, fixedPart}
 use Rattle.headers.proofs.Laws.{own-first, own-second}
 use Rattle.elements.specs.Rules.{storedNameOk, countOk}
 use Rattle.grammar.proofs.Tests.{OwnTests, Extent}
@@ -82,7 +82,7 @@ own-marked {dim} {inside = inside} {k} {own} d o =
       reserved = ap reservedOf first ∙ reserved-flagged d (wordAt own 0);
       c = ap cOf first ∙ c-flagged d (wordAt own 0);
       follow = marked-other d own 1 (omega arith);
-      sized = λ _ i h. marked-other d own i (omega arith);
+      simple = λ _ i h. marked-other d own i (omega arith);
       index = λ _. marked-other d own 15 (omega arith);
       properties = λ _. marked-other d own 16 (omega arith);
       tail = λ e i b. let l = linked-long dim (typeAt own 0) (sizingAt dim own 0) e in marked-other d own i (omega arith);
@@ -134,7 +134,7 @@ module _ {dim depth under inside k : ℕ} {own : List ℕ} (o : OwnTests dim dep
   cell-named e = rule-of (isCell (typeAt own 0)) (nameOk (wordAt own (nameIn own)) (wordAt own (nameIn own + 1))) (rw (own-first own, own-second own) at (o .name)) e
 
   -- two words of the fixed part stored that no rule but the name's reads
-  alike-two : (i a b : ℕ) → 2 ≤ i → isSized (typeAt own 0) ≡ false → (isLinked (typeAt own 0) ≡ true → (17 ≤ i) × (i + 1 < fixedPart dim (typeAt own 0) (sizingAt dim own 0))) →
+  alike-two : (i a b : ℕ) → 2 ≤ i → isHeader (typeAt own 0) ≡ true → (isLinked (typeAt own 0) ≡ true → (17 ≤ i) × (i + 1 < fixedPart dim (typeAt own 0) (sizingAt dim own 0))) →
       Alike dim own (set2 own i a b)
   alike-two i a b h p l =
       let first = set2-other own i a b 0 (omega arith) (omega arith) in
@@ -144,7 +144,7 @@ module _ {dim depth under inside k : ℕ} {own : List ℕ} (o : OwnTests dim dep
         reserved = ap reservedOf first;
         c = ap cOf first;
         follow = set2-other own i a b 1 (omega arith) (omega arith);
-        sized = λ e. absurd (false≢true (sym p ∙ e));
+        simple = λ e. absurd (false≢true (sym e ∙ p));
         index = λ e. let m = l e .0 in set2-other own i a b 15 (omega arith) (omega arith);
         properties = λ e. let m = l e .0 in set2-other own i a b 16 (omega arith) (omega arith);
         tail = λ e j f. let m = l e .1 in set2-other own i a b j (omega arith) (omega arith);

@@ -18,7 +18,7 @@ use Rattle.kinds.specs.Kinds.{isHeader, isCounted, isCell, nameWord}
 use Rattle.headers.proofs.Laws.{own-first, own-second}
 use Rattle.elements.specs.Rules.{storedNameOk, countOk}
 use Rattle.grammar.proofs.Tests.{OwnTests, Extent}
-use Rattle.kinds.proofs.Types.{header-long, header-unsized, each-named}
+use Rattle.kinds.proofs.Types.{header-long, each-named}
 use Rattle.edits.specs.Edits.{moved, countMoved, corrected}
 use Rattle.edits.proofs.Tests.{both-and, rule-of, of-rule}
 use Rattle.edits.proofs.Parts.{read-in, read-first, set-in}
@@ -164,7 +164,7 @@ module _ {dim depth under inside k : ℕ} {own : List ℕ} (o : OwnTests dim dep
         reserved = ap reservedOf first;
         c = ap cOf first;
         follow = grown-other up n direct own 1 (omega arith) (omega arith);
-        sized = λ e. absurd (false≢true (sym (header-unsized (typeAt own 0) h) ∙ e));
+        simple = λ e. absurd (false≢true (sym e ∙ h));
         index = λ _. grown-other up n direct own 15 (omega arith) (omega arith);
         properties = λ _. grown-other up n direct own 16 (omega arith) (omega arith);
         tail = λ _ i b. let l = header-long dim (typeAt own 0) (sizingAt dim own 0) h in grown-other up n direct own i (omega arith) (omega arith);

@@ -205,16 +205,16 @@ every-refusal dim s c = by-so dim s c (openFault dim s c) (callOn dim s (wordsOf
 
 abbrev inTable : List ℕ → Bool
 inTable [] = true
-inTable (m ∷ ms) = (leb 1 m && leb m 20) && inTable ms
+inTable (m ∷ ms) = (leb 1 m && leb m 21) && inTable ms
 
-table-number : (ms : List ℕ) (n : ℕ) → inTable ms ≡ true → OneOf ms n → (1 ≤ n) × (n ≤ 20)
+table-number : (ms : List ℕ) (n : ℕ) → inTable ms ≡ true → OneOf ms n → (1 ≤ n) × (n ≤ 21)
 table-number [] n t o = absurd o
 table-number (m ∷ ms) n t (inl e) =
-    let p = and-eq-true-iff (leb 1 m) (leb m 20) .0 (and-eq-true-iff (leb 1 m && leb m 20) (inTable ms) .0 t .0) in
+    let p = and-eq-true-iff (leb 1 m) (leb m 21) .0 (and-eq-true-iff (leb 1 m && leb m 21) (inTable ms) .0 t .0) in
     let low = leb-true 1 m (p .0) in
-    let high = leb-true m 20 (p .1) in
+    let high = leb-true m 21 (p .1) in
     (omega arith, omega arith)
-table-number (m ∷ ms) n t (inr o) = table-number ms n (and-eq-true-iff (leb 1 m && leb m 20) (inTable ms) .0 t .1) o
+table-number (m ∷ ms) n t (inr o) = table-number ms n (and-eq-true-iff (leb 1 m && leb m 21) (inTable ms) .0 t .1) o
 
 own-table : (c : Call) → inTable (ownNumbers c) ≡ true
 own-table (mark-call p d) = refl
@@ -251,7 +251,7 @@ piece-place dim xs ws h x n p = judged (elementOf dim (depthUnder xs h) (typeUnd
         let f = element-refusal dim x (depthUnder xs h) (typeUnder ws h) 0 (length x) (omega arith) (omega arith) m r t in
         (subst ElementNumber number (f .0), omega arith)
 
-piece-number : (dim : ℕ) (ws : List ℕ) (c : Call) (n p : ℕ) → PieceRefused dim ws c n p → (1 ≤ n) × (n ≤ 20)
+piece-number : (dim : ℕ) (ws : List ℕ) (c : Call) (n p : ℕ) → PieceRefused dim ws c n p → (1 ≤ n) × (n ≤ 21)
 piece-number dim ws (mark-call p d) n q x = absurd x
 piece-number dim ws (rename-call p text) n q x = absurd x
 piece-number dim ws (insert-call h p piece) n q (inl e) = let x = number-within (piece-place dim (spotsOf dim ws) ws h (words piece) n q e .0) in (omega arith, omega arith)
@@ -259,10 +259,10 @@ piece-number dim ws (insert-call h p piece) n q (inr x) = let z = x .0 in (omega
 piece-number dim ws (remove-call p) n q x = absurd x
 piece-number dim ws undo-call n q x = absurd x
 
-pub call-number : (dim : ℕ) (s : Session) (c : Call) (n p : ℕ) → step dim s c .answer ≡ Refused n p → (1 ≤ n) × (n ≤ 20)
+pub call-number : (dim : ℕ) (s : Session) (c : Call) (n p : ℕ) → step dim s c .answer ≡ Refused n p → (1 ≤ n) × (n ≤ 21)
 call-number dim s c n p e = go (every-refusal dim s c n p e)
   where
-    go : RefusedSo dim s c n p → (1 ≤ n) × (n ≤ 20)
+    go : RefusedSo dim s c n p → (1 ≤ n) × (n ≤ 21)
     go (inl (inl j)) = let x = refusal-number dim (usedBytes s) n p j in (omega arith, omega arith)
     go (inl (inr o)) = table-number (ownNumbers c) n (own-table c) (o .0)
     go (inr x) = piece-number dim (wordsOf s) c n p x

@@ -13,17 +13,19 @@ use Rattle.linkages.specs.Linkages.{linkagesFill}
 use Rattle.linkages.proofs.Local.{fill-local}
 use Rattle.texts.specs.Texts.{fieldsOk}
 use Rattle.texts.proofs.Laws.{counts-late, text-same}
+use Rattle.curves.specs.Curves.{floatsOk}
+use Rattle.curves.proofs.Laws.{floats-same}
 use Rattle.kinds.specs.FirstWord.{reservedOf, cOf}
 use Rattle.headers.specs.Header.{typeAt, sizeAt, sizingAt, attributesAt, attributePartAt}
-use Rattle.kinds.specs.Kinds.{isHeader, isPointed, isSized, sizingWord, pointsWithin, isLinked, fixedPart}
+use Rattle.kinds.specs.Kinds.{isHeader, isPointed, isSized, sizingWord, pointsWithin, isCurve, isLinked, fixedPart}
 use Rattle.elements.specs.Attributes.{hasAttributes, attributesOk, linkagesOk}
 use Rattle.headers.specs.Flags.{reservedOk, placeOk}
-use Rattle.elements.specs.Rules.{sizedOk, pointsOk, fixedOk, textFieldsOk, storedNameOk, countOk}
+use Rattle.elements.specs.Rules.{sizedOk, pointsOk, fixedOk, textFieldsOk, curveFloatsOk, storedNameOk, countOk}
 use Rattle.grammar.proofs.Tests.{OwnTests, Extent}
-use Rattle.kinds.proofs.Types.{fixed-any, sizing-late, pointed-sized}
+use Rattle.kinds.proofs.Types.{fixed-any, sizing-late, pointed-sized, sized-simple, CurveType, curve-type}
 use Rattle.edits.proofs.Tests.{both-and, rule-of, of-rule}
 
--- own′ has the length of own and the words that the rules read: those of the first two, for a type that a word sizes all
+-- own′ has the length of own and the words that the rules read: those of the first two, for a type that is no header all
 -- from word 18 on, and for a type with attributes words 15, 16 and all from the fixed part's end on
 pub record Alike (dim : ℕ) (own own′ : List ℕ) : Type 0 where
   pub long : length own′ ≡ length own
@@ -31,7 +33,7 @@ pub record Alike (dim : ℕ) (own own′ : List ℕ) : Type 0 where
   pub reserved : reservedOf (wordAt own′ 0) ≡ reservedOf (wordAt own 0)
   pub c : cOf (wordAt own′ 0) ≡ cOf (wordAt own 0)
   pub follow : wordAt own′ 1 ≡ wordAt own 1
-  pub sized : isSized (typeAt own 0) ≡ true → (i : ℕ) → 18 ≤ i → wordAt own′ i ≡ wordAt own i
+  pub simple : isHeader (typeAt own 0) ≡ false → (i : ℕ) → 18 ≤ i → wordAt own′ i ≡ wordAt own i
   pub index : isLinked (typeAt own 0) ≡ true → wordAt own′ 15 ≡ wordAt own 15
   pub properties : isLinked (typeAt own 0) ≡ true → wordAt own′ 16 ≡ wordAt own 16
   pub tail : isLinked (typeAt own 0) ≡ true → (i : ℕ) → fixedPart dim (typeAt own 0) (sizingAt dim own 0) ≤ i → wordAt own′ i ≡ wordAt own i
@@ -58,7 +60,7 @@ parts-attribute dim own p q f = both-and (le-leb _ _ p) (both-and (le-leb _ _ q)
 module _ {dim : ℕ} {own own′ : List ℕ} (a : Alike dim own own′) where
   -- the word that sizes a fixed part
   sizing-same : isSized (typeAt own 0) ≡ true → wordAt own′ (0 + sizingWord dim (typeAt own 0)) ≡ sizingAt dim own 0
-  sizing-same e = let l = sizing-late dim (typeAt own 0) in a .sized e (0 + sizingWord dim (typeAt own 0)) (omega arith)
+  sizing-same e = let l = sizing-late dim (typeAt own 0) in a .simple (sized-simple (typeAt own 0) e) (0 + sizingWord dim (typeAt own 0)) (omega arith)
 
   fixed-same : fixedPart dim (typeAt own′ 0) (sizingAt dim own′ 0) ≡ fixedPart dim (typeAt own 0) (sizingAt dim own 0)
   fixed-same = rw (a .type) (go (isSized (typeAt own 0)) refl)
@@ -85,7 +87,7 @@ module _ {dim : ℕ} {own own′ : List ℕ} (a : Alike dim own own′) where
   points-same = rw (a .type) (go (isPointed (typeAt own 0)) refl)
     where
       go : (b : Bool) → isPointed (typeAt own 0) ≡ b → (not b || pointsWithin (wordAt own′ 18)) ≡ (not b || pointsWithin (wordAt own 18))
-      go true e = ap pointsWithin (a .sized (pointed-sized dim (typeAt own 0) e .0) 18 (omega arith))
+      go true e = ap pointsWithin (a .simple (sized-simple (typeAt own 0) (pointed-sized dim (typeAt own 0) e .0)) 18 (omega arith))
       go false e = refl
 
   fixed-alike : fixedOk dim own′ 0 ≡ fixedOk dim own 0
@@ -98,8 +100,16 @@ module _ {dim : ℕ} {own own′ : List ℕ} (a : Alike dim own own′) where
     where
       go : (b : Bool) → eqb (typeAt own 0) 17 ≡ b → (not b || fieldsOk dim own′ 0) ≡ (not b || fieldsOk dim own 0)
       go true e =
-          let t : isSized (typeAt own 0) ≡ true = rw (eqb-true (typeAt own 0) 17 e) refl in
-          text-same dim own′ own 0 0 (λ i h _. let l = counts-late dim in a .sized t (0 + i) (omega arith))
+          let t : isHeader (typeAt own 0) ≡ false = rw (eqb-true (typeAt own 0) 17 e) refl in
+          text-same dim own′ own 0 0 (λ i h _. let l = counts-late dim in a .simple t (0 + i) (omega arith))
+      go false e = refl
+
+  floats-alike : curveFloatsOk dim own′ 0 ≡ curveFloatsOk dim own 0
+  unfolding curveFloatsOk
+  floats-alike = rw (a .type) (go (isCurve (typeAt own 0)) refl)
+    where
+      go : (b : Bool) → isCurve (typeAt own 0) ≡ b → (not b || floatsOk dim (typeAt own 0) own′ 0) ≡ (not b || floatsOk dim (typeAt own 0) own 0)
+      go true e = floats-same dim (typeAt own 0) own′ own 0 0 (λ i h _. a .simple (curve-type (typeAt own 0) e .simple) (0 + i) (omega arith))
       go false e = refl
 
   -- where the attribute part begins and ends, and between, the words are the same
@@ -139,6 +149,7 @@ module _ {dim : ℕ} {own own′ : List ℕ} (a : Alike dim own own′) where
     small = rw (a .long) (o .small);
     extent = x;
     linkages = linkages-alike (o .linkages);
+    floats = floats-alike ∙ o .floats;
     name = m;
     count = k;
   }

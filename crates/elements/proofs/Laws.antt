@@ -9,16 +9,18 @@ use borrow.Author.Tests.{leb-true, leb-false, le-leb, lt-leb, eqb-true, eqb-fals
 use Rattle.words.specs.Words.{words, wordAt}
 use Rattle.texts.specs.Texts.{countsWord, countsAt, textPart, fieldsOk}
 use Rattle.texts.proofs.Laws.{text-past}
+use Rattle.curves.specs.Curves.{originWord, floatsOk}
 use Rattle.headers.specs.Header.{typeAt, sizeAt, sizingAt, extentAt, attributesAt}
-use Rattle.kinds.specs.Kinds.{isHeader, isLinked, isSized, isUnread, fixedPart, mayStand}
+use Rattle.kinds.specs.Kinds.{isHeader, isLinked, isSized, isCurve, isUnread, fixedPart, mayStand}
 use Rattle.elements.specs.Attributes.{attributesOk, linkagesOk}
 use Rattle.headers.specs.Flags.{reservedOk, placeOk}
-use Rattle.elements.specs.Rules.{sizedOk, pointsOk, fixedOk, textFieldsOk, extentOk, storedNameOk, checks, faultOf, headOf, HeadRead}
+use Rattle.elements.specs.Rules.{sizedOk, pointsOk, fixedOk, textFieldsOk, extentOk, curveFloatsOk, storedNameOk, checks, faultOf, headOf, HeadRead}
+use Rattle.elements.specs.Simple.{simpleChecks}
 use Rattle.headers.proofs.Checks.{both-true, pass-all}
 use Rattle.headers.specs.Checks.{Check, check, firstFault}
 use Rattle.elements.specs.declared.Head.{Head}
 use Rattle.elements.specs.declared.Head.the-variants.{Bad, Plain, Complex}
-use Rattle.kinds.proofs.Types.{header-long, linked-long, fixed-any, unsized-no-text, unsized-pointless, not-header, raw-unsized, raw-part, header-unsized, stands-raw}
+use Rattle.kinds.proofs.Types.{header-long, linked-long, fixed-any, unsized-no-text, unsized-pointless, not-header, raw-unsized, raw-no-curve, raw-part, header-unsized, header-no-curve, CurveType, curve-type, curve-part, stands-raw}
 
 -- all tests of an element pass
 pub record Checked (dim depth under : ℕ) (ws : List ℕ) (at bound : ℕ) : Type 0 where
@@ -32,6 +34,7 @@ pub record Checked (dim depth under : ℕ) (ws : List ℕ) (at bound : ℕ) : Ty
   pub fields : textFieldsOk dim ws at ≡ true
   pub extent : extentOk ws at (bound - at) ≡ true
   pub linkages : linkagesOk dim ws at ≡ true
+  pub floats : curveFloatsOk dim ws at ≡ true
   pub name : storedNameOk ws at ≡ true
 
 ---- the sizes that the fixed part gives
@@ -92,6 +95,11 @@ module _ (dim : ℕ) (ws : List ℕ) (at : ℕ) where
   unfolding textFieldsOk
   fields-none e = rw e
 
+  -- only an ellipse or an arc has floats
+  pub floats-none : isCurve (typeAt ws at) ≡ false → curveFloatsOk dim ws at ≡ true
+  unfolding curveFloatsOk
+  floats-none e = rw e
+
   pub linkages-linked : isLinked (typeAt ws at) ≡ true → linkagesOk dim ws at ≡ (not (attributesAt ws at) || attributesOk dim ws at)
   unfolding linkagesOk
   linkages-linked e = rw e
@@ -142,6 +150,20 @@ module _ (dim : ℕ) (ws : List ℕ) (at t size : ℕ) (q : t ≡ typeAt ws at) 
   pub header-fields : isHeader t ≡ true → textFieldsOk dim ws at ≡ true
   header-fields k = fields-none dim ws at (unsized-no-text (typeAt ws at) (header-unsized (typeAt ws at) (rw q at k)))
 
+  pub header-floats : isHeader t ≡ true → curveFloatsOk dim ws at ≡ true
+  header-floats k = floats-none dim ws at (header-no-curve (typeAt ws at) (rw q at k))
+
+  -- the same of an ellipse or an arc, whose fixed part no word sizes
+  pub curve-fixed : (fixed : ℕ) → ((n : ℕ) → fixed ≡ fixedPart dim t n) → isCurve t ≡ true → fixedOk dim ws at ≡ leb fixed size
+  curve-fixed fixed e k = fixed-unsized dim ws at (curve-type (typeAt ws at) (rw q at k) .unsized) ∙ rw (e 0, q, z)
+
+  pub curve-fields : isCurve t ≡ true → textFieldsOk dim ws at ≡ true
+  curve-fields k = fields-none dim ws at (curve-type (typeAt ws at) (rw q at k) .other)
+
+  pub curve-floats : isCurve t ≡ true → curveFloatsOk dim ws at ≡ floatsOk dim t ws at
+  unfolding curveFloatsOk
+  curve-floats k = rw (sym q, k)
+
 -- the same of a text, whose counts size its fixed part
 module _ (dim : ℕ) (ws : List ℕ) (at : ℕ) (e : 17 ≡ typeAt ws at) where
   pub text-part-is : fixedPart dim (typeAt ws at) (sizingAt dim ws at) ≡ textPart dim (countsAt dim ws at)
@@ -163,10 +185,20 @@ module _ (dim : ℕ) (ws : List ℕ) (at : ℕ) (e : 17 ≡ typeAt ws at) where
   unfolding textFieldsOk
   text-fields = rw (sym e)
 
+-- an ellipse or an arc ends with its origin
+pub curve-end : (dim t n : ℕ) → isCurve t ≡ true → fixedPart dim t n ≡ originWord dim t + cond (eqb dim 2) 8 12
+curve-end dim t n k = curve-part dim t n k ∙ go (eqb t 15) (eqb dim 2)
+  where
+    go : (e f : Bool) → cond e (cond f 36 46) (cond f 40 50) ≡ cond e 18 22 + 8 + cond f 2 8 + cond f 8 12
+    go true true = refl
+    go true false = refl
+    go false true = refl
+    go false false = refl
+
 -- the checks that a raw type leaves
 pub raw-same : (dim under : ℕ) (ws : List ℕ) (at t size : ℕ) → t ≡ typeAt ws at → isHeader t ≡ false → isLinked t ≡ false →
     firstFault (check (not (eqb under 7)) 6 ∷ check (not (isUnread t)) 6 ∷ check (leb size 65535) 8 ∷ [])
-    ≡ firstFault (check (mayStand dim under t) 6 ∷ check (fixedOk dim ws at) 7 ∷ check (textFieldsOk dim ws at) 20 ∷ check (leb size 65535) 8 ∷ check (linkagesOk dim ws at) 11 ∷ [])
+    ≡ firstFault (check (mayStand dim under t) 6 ∷ simpleChecks dim ws at size)
 raw-same dim under ws at t size q h k =
     let raw : isLinked (typeAt ws at) ≡ false = rw q at k in
     rw (
@@ -174,10 +206,11 @@ raw-same dim under ws at t size q h k =
       fixed-raw dim ws at (rw q at h) raw,
       fields-none dim ws at (unsized-no-text (typeAt ws at) (raw-unsized (typeAt ws at) raw)),
       linkages-none dim ws at raw,
+      floats-none dim ws at (raw-no-curve (typeAt ws at) raw),
     )
     (go (eqb under 7) (isUnread t) (leb size 65535))
   where
-    go : (u v c : Bool) → firstFault (check (not u) 6 ∷ check (not v) 6 ∷ check c 8 ∷ []) ≡ firstFault (check (not v && not u) 6 ∷ check true 7 ∷ check true 20 ∷ check c 8 ∷ check true 11 ∷ [])
+    go : (u v c : Bool) → firstFault (check (not u) 6 ∷ check (not v) 6 ∷ check c 8 ∷ []) ≡ firstFault (check (not v && not u) 6 ∷ check true 7 ∷ check true 20 ∷ check c 8 ∷ check true 11 ∷ check true 21 ∷ [])
     go true true c = refl
     go true false c = refl
     go false true c = refl
@@ -185,17 +218,18 @@ raw-same dim under ws at t size q h k =
     go false false false = refl
 
 -- the checks that a type that is no header leaves: the first ones as they are
-pub simple-same : (ws : List ℕ) (at room : ℕ) (cs : List Check) (l : Bool) → isHeader (typeAt ws at) ≡ false →
-    firstFault (cs ++ (check (leb (sizeAt ws at) 65535) 8 ∷ check l 11 ∷ []))
-    ≡ firstFault (cs ++ (check (extentOk ws at room) 8 ∷ check l 11 ∷ check (storedNameOk ws at) 12 ∷ []))
-simple-same ws at room [] l h = rw (extent-simple ws at room h, name-simple ws at h) (go (leb (sizeAt ws at) 65535) l)
+pub simple-same : (ws : List ℕ) (at room : ℕ) (cs : List Check) (l f : Bool) → isHeader (typeAt ws at) ≡ false →
+    firstFault (cs ++ (check (leb (sizeAt ws at) 65535) 8 ∷ check l 11 ∷ check f 21 ∷ []))
+    ≡ firstFault (cs ++ (check (extentOk ws at room) 8 ∷ check l 11 ∷ check f 21 ∷ check (storedNameOk ws at) 12 ∷ []))
+simple-same ws at room [] l f h = rw (extent-simple ws at room h, name-simple ws at h) (go (leb (sizeAt ws at) 65535) l f)
   where
-    go : (e l : Bool) → firstFault (check e 8 ∷ check l 11 ∷ []) ≡ firstFault (check e 8 ∷ check l 11 ∷ check true 12 ∷ [])
-    go false l = refl
-    go true false = refl
-    go true true = refl
-simple-same ws at room (check true n ∷ cs) l h = simple-same ws at room cs l h
-simple-same ws at room (check false n ∷ cs) l h = refl
+    go : (e l f : Bool) → firstFault (check e 8 ∷ check l 11 ∷ check f 21 ∷ []) ≡ firstFault (check e 8 ∷ check l 11 ∷ check f 21 ∷ check true 12 ∷ [])
+    go false l f = refl
+    go true false f = refl
+    go true true false = refl
+    go true true true = refl
+simple-same ws at room (check true n ∷ cs) l f h = simple-same ws at room cs l f h
+simple-same ws at room (check false n ∷ cs) l f h = refl
 
 ---- no fault: every test passes
 
@@ -215,7 +249,8 @@ module _ (dim depth under : ℕ) (ws : List ℕ) (at bound : ℕ) where
         fields = p .1 .1 .1 .1 .1 .1 .1 .0;
         extent = p .1 .1 .1 .1 .1 .1 .1 .1 .0;
         linkages = p .1 .1 .1 .1 .1 .1 .1 .1 .1 .0;
-        name = p .1 .1 .1 .1 .1 .1 .1 .1 .1 .1 .0;
+        floats = p .1 .1 .1 .1 .1 .1 .1 .1 .1 .1 .0;
+        name = p .1 .1 .1 .1 .1 .1 .1 .1 .1 .1 .1 .0;
       }
 
   pub fault-none : Checked dim depth under ws at bound → faultOf dim depth under ws at bound ≡ 0
@@ -232,6 +267,7 @@ module _ (dim depth under : ℕ) (ws : List ℕ) (at bound : ℕ) where
         c .fields,
         c .extent,
         c .linkages,
+        c .floats,
         c .name,
       )
 

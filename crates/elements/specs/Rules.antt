@@ -1,5 +1,5 @@
--- The rules of one element, in their order (RULES.md, "Order of checks": 3, 4, 5, 10, 6, 7, 20, 8, 11, 12), apart from its
--- components.
+-- The rules of one element, in their order (RULES.md, "Order of checks": 3, 4, 5, 10, 6, 7, 20, 8, 11, 21, 12), apart from
+-- its components.
 -- An element starts at the place `at`, its bound is the place `bound`, `under` is the type of its direct header (0 at
 -- the top) and `depth` how many headers stand above it.
 use Prim.Native.Nat.{ℕ, _+_, _-_, _≤_}
@@ -10,11 +10,12 @@ use lib.Dec.{eqb, leb}
 use Rattle.words.specs.Words.{words, wordAt}
 use Rattle.names.specs.Names.{nameOk}
 use Rattle.texts.specs.Texts.{fieldsOk}
+use Rattle.curves.specs.Curves.{floatsOk}
 use Rattle.kinds.specs.FirstWord.{typeOf}
 use Rattle.headers.specs.Checks.{Check, check, firstFault}
 use Rattle.headers.specs.Flags.{flagChecks}
 use Rattle.headers.specs.Header.{typeAt, sizeAt, pointsAt, sizingAt, extentAt, countAt, nameFirst, nameSecond}
-use Rattle.kinds.specs.Kinds.{isHeader, isCounted, isPointed, isSized, sizingWord, isCell, fixedPart, mayStand, pointsWithin}
+use Rattle.kinds.specs.Kinds.{isHeader, isCounted, isPointed, isSized, sizingWord, isCurve, isCell, fixedPart, mayStand, pointsWithin}
 use Rattle.elements.specs.Attributes.{linkagesOk}
 use Rattle.elements.specs.declared.Head.{Head}
 use Rattle.elements.specs.declared.Head.the-variants.{Bad, Plain, Complex}
@@ -44,6 +45,10 @@ extentOk ws at room =
     && (not (isHeader (typeAt ws at))
     || (leb (sizeAt ws at) (extentAt ws at) && (leb (extentAt ws at) room && leb (extentAt ws at) 65535)))
 
+-- 21 unless each float of an ellipse or an arc is a number
+unfoldable pub curveFloatsOk : ℕ → List ℕ → ℕ → Bool
+curveFloatsOk dim ws at = not (isCurve (typeAt ws at)) || floatsOk dim (typeAt ws at) ws at
+
 -- 12 unless the stored name of a cell is right
 unfoldable pub storedNameOk : List ℕ → ℕ → Bool
 storedNameOk ws at = not (isCell (typeAt ws at)) || nameOk (nameFirst ws at) (nameSecond ws at)
@@ -59,6 +64,7 @@ contentChecks dim ws at room =
     ∷ check (textFieldsOk dim ws at) 20
     ∷ check (extentOk ws at room) 8
     ∷ check (linkagesOk dim ws at) 11
+    ∷ check (curveFloatsOk dim ws at) 21
     ∷ check (storedNameOk ws at) 12
     ∷ []
 

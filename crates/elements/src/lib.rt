@@ -6,11 +6,12 @@ ghost use mathlib.Core.List.{[], _∷_};
 ghost use Prim.Native.Nat.{ℕ, _+_, _<_, _≤_, _^_};
 ghost use lib.Dec.{eqb, leb};
 ghost use Rattle.words.specs.Words.{words};
-ghost use Rattle.kinds.specs.Kinds.{isHeader, isLinked, isUnread, fixedPart, mayStand};
+ghost use Rattle.kinds.specs.Kinds.{isHeader, isCurve, isLinked, isUnread, fixedPart, mayStand};
 ghost use Rattle.headers.specs.Checks.{check, firstFault};
 ghost use Rattle.headers.specs.Header.{typeAt, sizeAt, sizingAt, extentAt, attributesAt};
 ghost use Rattle.elements.specs.Attributes.{attributesOk, linkagesOk};
-ghost use Rattle.elements.specs.Rules.{fixedOk, textFieldsOk, storedNameOk, contentChecks, HeadRead};
+ghost use Rattle.elements.specs.Rules.{fixedOk, storedNameOk, contentChecks, HeadRead};
+ghost use Rattle.elements.specs.Simple.{simpleChecks};
 
 // What one element is read as: refused with a number; an element that its own words end; or a header, whose
 // components stand from `inner` to `end`.
@@ -47,7 +48,7 @@ fn raw_fault(t: usize, size: usize, under: usize) -> usize
 // where it is the element's own.
 fn plain_part(s: &[u8], at: usize, t: usize, size: usize, dim: usize) -> usize
     requires { ⌜ (t ≡ typeAt (words (now s)) at) × (size ≡ sizeAt (words (now s)) at) ⌝ }
-    requires { ⌜ (isLinked t ≡ true) × ((isHeader t ≡ false) × ((eqb t 17 ≡ false) × (at + size < 2 ^ 64))) ⌝ }
+    requires { ⌜ (isLinked t ≡ true) × ((isHeader t ≡ false) × ((isCurve t ≡ false) × ((eqb t 17 ≡ false) × (at + size < 2 ^ 64)))) ⌝ }
     ensures { λ r. ⌜ (leb r size ≡ fixedOk dim (words (now (s .entry))) at) × (fixedOk dim (words (now (s .entry))) at ≡ true → r ≡ fixedPart dim t (sizingAt dim (words (now (s .entry))) at)) ⌝ }
 {
     if t == 3 {
@@ -89,7 +90,7 @@ fn attributes_ok(s: &[u8], at: usize, fixed: usize, size: usize) -> bool
 // own.
 fn text_fault(s: &[u8], at: usize, size: usize, dim: usize) -> usize
     requires { ⌜ (17 ≡ typeAt (words (now s)) at) × ((size ≡ sizeAt (words (now s)) at) × (at + size < 2 ^ 64)) ⌝ }
-    ensures { λ r. ⌜ r ≡ firstFault (check (fixedOk dim (words (now (s .entry))) at) 7 ∷ check (textFieldsOk dim (words (now (s .entry))) at) 20 ∷ check (leb size 65535) 8 ∷ check (linkagesOk dim (words (now (s .entry))) at) 11 ∷ []) ⌝ }
+    ensures { λ r. ⌜ r ≡ firstFault (simpleChecks dim (words (now (s .entry))) at size) ⌝ }
 {
     let place = texts::counts_word(dim);
     if size <= place {
@@ -112,15 +113,76 @@ fn text_fault(s: &[u8], at: usize, size: usize, dim: usize) -> usize
     0
 }
 
+// The fixed part of an ellipse or an arc.
+fn curve_part(dim: usize, t: usize) -> usize
+    requires { ⌜ isCurve t ≡ true ⌝ }
+    ensures { λ r. ⌜ ((n : ℕ) → r ≡ fixedPart dim t n) ⌝ }
+{
+    kinds::pick(
+        t == 15,
+        kinds::pick(dim == 2, 36, 46),
+        kinds::pick(dim == 2, 40, 50),
+    )
+}
+
+// The number of the first fault in what an ellipse or an arc holds, 0 where there is none.
+fn curve_fault(s: &[u8], at: usize, t: usize, size: usize, dim: usize) -> usize
+    requires { ⌜ (t ≡ typeAt (words (now s)) at) × (size ≡ sizeAt (words (now s)) at) ⌝ }
+    requires { ⌜ (isCurve t ≡ true) × (at + size < 2 ^ 64) ⌝ }
+    ensures { λ r. ⌜ r ≡ firstFault (simpleChecks dim (words (now (s .entry))) at size) ⌝ }
+{
+    let fixed = curve_part(dim, t);
+    if size < fixed {
+        return 7;
+    }
+    if !size_ok(size) {
+        return 8;
+    }
+    if !attributes_ok(s, at, fixed, size) {
+        return 11;
+    }
+    if !curves::floats_ok(s, at, t, dim) {
+        return 21;
+    }
+    0
+}
+
+// Whether a known type that is no header is an ellipse, an arc or a text. Asked by the order of the types: most elements have
+// one of the first.
+fn is_late(t: usize) -> bool
+    requires { ⌜ (isLinked t ≡ true) × (isHeader t ≡ false) ⌝ }
+    ensures { λ r. ⌜ r ≡ (isCurve t || eqb t 17) ⌝ }
+{
+    if t < 15 {
+        return false;
+    }
+    t != 21
+}
+
+// The number of the first fault of an ellipse, an arc or a text, 0 where there is none: only a text may stand under 7.
+fn late_fault(s: &[u8], at: usize, t: usize, size: usize, under: usize, dim: usize) -> usize
+    requires { ⌜ (t ≡ typeAt (words (now s)) at) × (size ≡ sizeAt (words (now s)) at) ⌝ }
+    requires { ⌜ ((isCurve t || eqb t 17) ≡ true) × (at + size < 2 ^ 64) ⌝ }
+    ensures { λ r. ⌜ r ≡ firstFault (check (not (eqb under 7) || eqb t 17) 6 ∷ simpleChecks dim (words (now (s .entry))) at size) ⌝ }
+{
+    if t == 17 {
+        return text_fault(s, at, size, dim);
+    }
+    if under == 7 {
+        return 6;
+    }
+    curve_fault(s, at, t, size, dim)
+}
+
 // The number of the first fault of an element of a known type that is no header, 0 where there is none: only type 17 may
 // stand under 7.
 fn plain_fault(s: &[u8], at: usize, t: usize, size: usize, under: usize, dim: usize) -> usize
     requires { ⌜ (t ≡ typeAt (words (now s)) at) × (size ≡ sizeAt (words (now s)) at) ⌝ }
     requires { ⌜ (isLinked t ≡ true) × ((isHeader t ≡ false) × (at + size < 2 ^ 64)) ⌝ }
-    ensures { λ r. ⌜ r ≡ firstFault (check (not (eqb under 7) || eqb t 17) 6 ∷ check (fixedOk dim (words (now (s .entry))) at) 7 ∷ check (textFieldsOk dim (words (now (s .entry))) at) 20 ∷ check (leb size 65535) 8 ∷ check (linkagesOk dim (words (now (s .entry))) at) 11 ∷ []) ⌝ }
+    ensures { λ r. ⌜ r ≡ firstFault (check (not (eqb under 7) || eqb t 17) 6 ∷ simpleChecks dim (words (now (s .entry))) at size) ⌝ }
 {
-    if t == 17 {
-        return text_fault(s, at, size, dim);
+    if is_late(t) {
+        return late_fault(s, at, t, size, under, dim);
     }
     if under == 7 {
         return 6;
@@ -142,7 +204,7 @@ fn plain_fault(s: &[u8], at: usize, t: usize, size: usize, under: usize, dim: us
 fn simple_fault(s: &[u8], at: usize, t: usize, size: usize, under: usize, dim: usize) -> usize
     requires { ⌜ (t ≡ typeAt (words (now s)) at) × (size ≡ sizeAt (words (now s)) at) ⌝ }
     requires { ⌜ (isHeader t ≡ false) × (at + size < 2 ^ 64) ⌝ }
-    ensures { λ r. ⌜ r ≡ firstFault (check (mayStand dim under t) 6 ∷ check (fixedOk dim (words (now (s .entry))) at) 7 ∷ check (textFieldsOk dim (words (now (s .entry))) at) 20 ∷ check (leb size 65535) 8 ∷ check (linkagesOk dim (words (now (s .entry))) at) 11 ∷ []) ⌝ }
+    ensures { λ r. ⌜ r ≡ firstFault (check (mayStand dim under t) 6 ∷ simpleChecks dim (words (now (s .entry))) at size) ⌝ }
 {
     if kinds::is_linked(t) {
         return plain_fault(s, at, t, size, under, dim);

@@ -44,19 +44,20 @@ use Rattle.grammar.proofs.Complete.{element-complete, list-complete}
 
 -- an element whose own words are at fault has one of the numbers
 abbrev elementNumber : ℕ → Bool
-elementNumber n = (leb 3 n && leb n 12) || eqb n 20
+elementNumber n = (leb 3 n && leb n 12) || (eqb n 20 || eqb n 21)
 
 bad-number : (dim depth under : ℕ) (ws : List ℕ) (at bound n : ℕ) → headOf dim depth under ws at bound ≡ Bad n → ElementNumber n
 unfolding faultOf
 bad-number dim depth under ws at bound n e =
     let m = head-means dim depth under ws at bound (Bad n) e in
     let r = first-in elementNumber (checks dim depth under ws at bound) refl (λ z. m .1 (sym (m .0) ∙ z)) in
-    says-or (says-and (says-le 3 n) (says-le n 12)) (says-eq n 20) .said (subst (λ k. elementNumber k ≡ true) (m .0) r)
+    says-or (says-and (says-le 3 n) (says-le n 12)) (says-or (says-eq n 20) (says-eq n 21)) .said (subst (λ k. elementNumber k ≡ true) (m .0) r)
 
--- which are from 3 to 20
-pub number-within : {n : ℕ} → ElementNumber n → (3 ≤ n) × (n ≤ 20)
+-- which are from 3 to 21
+pub number-within : {n : ℕ} → ElementNumber n → (3 ≤ n) × (n ≤ 21)
 number-within (inl x) = omega arith
-number-within (inr x) = omega arith
+number-within (inr (inl x)) = omega arith
+number-within (inr (inr x)) = omega arith
 
 ---- what a refusal was made of
 

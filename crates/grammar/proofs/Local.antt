@@ -13,15 +13,16 @@ use Rattle.words.specs.Words.{wordAt}
 use Rattle.names.specs.Names.{nameOk}
 use Rattle.linkages.specs.Linkages.{linkagesFill}
 use Rattle.texts.proofs.Laws.{text-same}
+use Rattle.curves.proofs.Laws.{floats-same}
 use Rattle.kinds.specs.FirstWord.{typeOf}
 use Rattle.headers.specs.Header.{typeAt, sizeAt, sizingAt, extentAt, attributesAt, attributePartAt}
-use Rattle.kinds.specs.Kinds.{isHeader, isCounted, isPointed, isSized, sizingWord, isLinked, isCell, nameWord, fixedPart, pointsWithin}
+use Rattle.kinds.specs.Kinds.{isHeader, isCounted, isPointed, isSized, sizingWord, isCurve, isLinked, isCell, nameWord, fixedPart, pointsWithin}
 use Rattle.headers.proofs.Laws.{own-first, own-second}
 use Rattle.elements.specs.Attributes.{attributesOk, linkagesOk}
-use Rattle.elements.specs.Rules.{fixedOk, textFieldsOk, storedNameOk, countOk}
+use Rattle.elements.specs.Rules.{fixedOk, textFieldsOk, curveFloatsOk, storedNameOk, countOk}
 use Rattle.grammar.proofs.Stands.{Stands, stands-word, stands-first}
 use Rattle.kinds.proofs.Types.{header-long, linked-long, sized-long, pointed-sized, unsized-pointless, fixed-any, name-early}
-use Rattle.elements.proofs.Laws.{fixed-least, text-part-is}
+use Rattle.elements.proofs.Laws.{fixed-least, text-part-is, curve-end}
 use Rattle.grammar.proofs.Types.{counted-header, cell-long}
 use Rattle.linkages.proofs.Local.{fill-local}
 
@@ -117,6 +118,13 @@ module _ (own ws : List ℕ) (at : ℕ) (s : Stands own at ws) (size : sizeAt ow
         rw type-local (where-same (eqb (typeAt own 0) 17) (λ h.
         let part = text-part-is dim own 0 (sym (eqb-true (typeAt own 0) 17 h)) in
         text-same dim ws own at 0 (λ i _ l. word-local i (own-long (omega arith)))))
+
+    pub floats-local : curveFloatsOk dim ws at ≡ curveFloatsOk dim own 0
+    unfolding curveFloatsOk
+    floats-local =
+        rw type-local (where-same (isCurve (typeAt own 0)) (λ h.
+        let last = curve-end dim (typeAt own 0) (sizingAt dim own 0) h in
+        floats-same dim (typeAt own 0) ws own at 0 (λ i _ l. word-local i (own-long (omega arith)))))
 
     filled-local : (a : ℕ) → a ≤ length own → linkagesFill ws (at + a) (at + length own) ≡ linkagesFill own (0 + a) (0 + length own)
     filled-local a h =

@@ -2,7 +2,7 @@
 use Prim.Native.Nat.{ℕ, zero, suc, _+_, _-_, _*_, _/_, _%_, _≤_, _<_}
 use mathlib.Core.Path.{_≡_, refl, sym, ap, ap₂, _∙_, subst}
 use mathlib.Core.Logic.{_⊎_, _↔_, inl, inr}
-use mathlib.Core.Bool.{Bool, true, false, cond, _||_, or-false}
+use mathlib.Core.Bool.{Bool, true, false, not, cond, _||_, or-false}
 use mathlib.Core.List.{List, [], _∷_, _++_, append-nil}
 use native.Mathlib.Nat.{zero-add}
 use native.Mathlib.Omega.{arith}
@@ -15,6 +15,8 @@ use Rattle.names.specs.Names.{nameOk, textOf}
 use Rattle.names.proofs.OneToOne.{pack-unpack, pack-stored}
 use Rattle.texts.specs.Texts.{byteAt, countsWord, charactersIn, fieldsIn, textBytes, textPart, fieldByte, fieldOk, eachFieldOk, fieldsOk}
 use Rattle.texts.proofs.Laws.{byte-of}
+use Rattle.dfloats.specs.FirstWord.{isReserved}
+use Rattle.curves.specs.Curves.{axesWord, floatPlaces, eachFloatOk, floatsOk}
 use Rattle.kinds.specs.FirstWord.{reservedOf, cOf}
 use Rattle.kinds.specs.Kinds.{oneOf, isHeader, sizingWord, fixedPart, mayStand}
 use Rattle.kinds.proofs.Types.{Each, each-named, sized-long}
@@ -23,10 +25,10 @@ use Rattle.linkages.proofs.Meaning.{fills-is, is-fills}
 use Rattle.headers.specs.Header.{typeAt, sizingAt, nameFirst, nameSecond}
 use Rattle.headers.specs.Flags.{reservedOk, placeOk}
 use Rattle.elements.specs.Attributes.{attributesOk, linkagesOk}
-use Rattle.elements.specs.Rules.{fixedOk, textFieldsOk, storedNameOk, countOk}
+use Rattle.elements.specs.Rules.{fixedOk, textFieldsOk, curveFloatsOk, storedNameOk, countOk}
 use Rattle.words.specs.OneOf.{OneOf}
 use Rattle.grammar.specs.Types.{headers, counted, pointed, linked, Row, row, textWords, fixedParts, NotBelow}
-use Rattle.grammar.specs.Own.{typeIn, PastFixed, byteIn, Field, Fields, Allowed, Attributes, Named, Own}
+use Rattle.grammar.specs.Own.{typeIn, PastFixed, byteIn, Field, Fields, IsNumber, Numbers, Allowed, Attributes, Named, Own}
 use Rattle.grammar.proofs.Tests.{Extent, OwnTests}
 use Rattle.grammar.proofs.Says.{Says, says-as, says-so, says-eq, says-le, says-not, says-and, says-rule, says-with, says-never, says-or, says-unless, says-one-of, says-which}
 
@@ -109,7 +111,7 @@ module _ (dim t m : ℕ) where
   table-right own =
       let alike : (x : ℕ) → x ≡ cond (eqb dim 2) x x = λ x. sym (same x (eqb dim 2)) in (
         (alike 35, tt),
-        ((refl, tt), ((refl, tt), ((refl, (refl, (refl, (refl, tt)))), ((refl, tt), ((alike 20, (alike 20, tt)), ((sym (text-row dim own), tt), ((alike 21, (alike 21, tt)), tt))))))),
+        ((refl, tt), ((refl, tt), ((refl, (refl, (refl, (refl, tt)))), ((refl, tt), ((alike 20, (alike 20, tt)), ((refl, tt), ((refl, tt), ((sym (text-row dim own), tt), ((alike 21, (alike 21, tt)), tt))))))))),
       )
 
   by-part : (part : ℕ → ℕ) (rows : List Row) → Right part rows → 2 ≤ m → part t ≤ m → NotBelow dim t rows m
@@ -203,6 +205,47 @@ text-fields-say dim own =
     ))
     (says-which (says-eq dim 2) (λ b. Fields own (cond b 29 37)))))
 
+---- the floats of ellipses and arcs
+
+number-says : (own : List ℕ) (k : ℕ) → Says (not (isReserved (wordAt own k))) (IsNumber own k)
+unfolding isReserved
+number-says own k = says-never (says-eq (wordAt own k / 32768 % 2) 1) (says-eq (wordAt own k / 128 % 256) 0)
+
+-- those that begin at these words
+numbers-say : (own ks : List ℕ) → Says (eachFloatOk ks own 0) (Numbers own ks)
+numbers-say own [] = record { said = λ e k h. absurd h; says = λ f. refl }
+numbers-say own (k ∷ ks) = rw (zero-add k) (says-as (says-and (number-says own k) (numbers-say own ks)) (there, λ f. (f k (inl refl), λ i h. f i (inr h))))
+  where
+    there : IsNumber own k × Numbers own ks → Numbers own (k ∷ ks)
+    there h i (inl e) = rw e (h .0)
+    there h i (inr o) = h .1 i o
+
+-- those of a type, in 2D and in 3D
+typed-say : (dim : ℕ) (own : List ℕ) (t : ℕ) →
+    Says (floatsOk dim t own 0) ((dim ≡ 2 → Numbers own (floatPlaces 2 t)) × (¬ (dim ≡ 2) → Numbers own (floatPlaces 3 t)))
+unfolding floatsOk
+typed-say dim own t =
+    says-as (numbers-say own (floatPlaces dim t))
+    (says-which (says-eq dim 2) (λ b. let origin = axesWord t + 8 + cond b 2 8 in Numbers own (axesWord t ∷ (axesWord t + 4) ∷ origin ∷ (origin + 4) ∷ cond b [] ((origin + 8) ∷ []))))
+
+abbrev Ellipse : ℕ → List ℕ → Type 0
+Ellipse dim own = (dim ≡ 2 → Numbers own (18 ∷ 22 ∷ 28 ∷ 32 ∷ [])) × (¬ (dim ≡ 2) → Numbers own (18 ∷ 22 ∷ 34 ∷ 38 ∷ 42 ∷ []))
+
+abbrev Arc : ℕ → List ℕ → Type 0
+Arc dim own = (dim ≡ 2 → Numbers own (22 ∷ 26 ∷ 32 ∷ 36 ∷ [])) × (¬ (dim ≡ 2) → Numbers own (22 ∷ 26 ∷ 38 ∷ 42 ∷ 46 ∷ []))
+
+floats-say : (dim : ℕ) (own : List ℕ) → Says (curveFloatsOk dim own 0) ((typeIn own ≡ 15 → Ellipse dim own) × (typeIn own ≡ 16 → Arc dim own))
+unfolding curveFloatsOk
+floats-say dim own =
+    says-as
+    (says-rule (says-one-of (15 ∷ 16 ∷ []) (typeIn own)) (says-so (floatsOk dim (typeIn own) own 0)))
+    (λ f. (λ t. typed-say dim own 15 .said (rw t at (f (inl t))), λ t. typed-say dim own 16 .said (rw t at (f (inr (inl t))))), back)
+  where
+    back : (typeIn own ≡ 15 → Ellipse dim own) × (typeIn own ≡ 16 → Arc dim own) → OneOf (15 ∷ 16 ∷ []) (typeIn own) → floatsOk dim (typeIn own) own 0 ≡ true
+    back f (inl t) = rw t (typed-say dim own 15 .says (f .0 t))
+    back f (inr (inl t)) = rw t (typed-say dim own 16 .says (f .1 t))
+    back f (inr (inr x)) = absurd x
+
 count-says : (own : List ℕ) (n : ℕ) → Says (countOk own 0 n) (OneOf counted (typeIn own) → wordAt own 19 ≡ n)
 unfolding countOk
 count-says own n = says-rule (says-one-of counted (typeIn own)) (says-eq (wordAt own 19) n)
@@ -294,6 +337,7 @@ module _ {dim depth under : ℕ} {own : List ℕ} {inside n : ℕ} where
     small = o .small;
     extent = extent-is own inside n .1 (λ h. (o .total h, o .extent h), o .plain);
     linkages = linkages-says dim own (o .size) .says (o .linkages);
+    floats = floats-say dim own .says (o .ellipse, o .arc);
     name = names-says own .says (o .library-name, o .cell-name);
     count = count-says own n .says (o .count);
   }
@@ -303,6 +347,7 @@ module _ {dim depth under : ℕ} {own : List ℕ} {inside n : ℕ} where
       let fixed = fixed-says dim own (t .size) .said (t .fixed) in
       let extent = extent-is own inside n .0 (t .extent) in
       let names = names-says own .said (t .name) in
+      let floats = floats-say dim own .said (t .floats) in
       record {
         reserved = reserved-says own .said (t .reserved);
         size = t .size;
@@ -310,6 +355,8 @@ module _ {dim depth under : ℕ} {own : List ℕ} {inside n : ℕ} where
         points = fixed .0;
         fixed = fixed .1;
         fields = text-fields-say dim own .said (t .fields);
+        ellipse = floats .0;
+        arc = floats .1;
         total = λ h. extent .0 h .0;
         extent = λ h. extent .0 h .1;
         count = count-says own n .said (t .count);

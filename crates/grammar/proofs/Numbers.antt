@@ -11,19 +11,19 @@ use Rattle.files.specs.declared.Judged.the-variants.{Refused}
 use Rattle.grammar.specs.FirstFault.{Refusal}
 use Rattle.grammar.proofs.FirstFault.{number-within, element-refusal, top-exactly, fault-place, refusal-place}
 
-one-of-twenty : {size n p : ℕ} → Refusal size n p → (1 ≤ n) × (n ≤ 20)
-one-of-twenty (inl x) = omega arith
-one-of-twenty (inr (inl x)) = omega arith
-one-of-twenty (inr (inr x)) = omega (arith, number-within (x .0))
+in-table : {size n p : ℕ} → Refusal size n p → (1 ≤ n) × (n ≤ 21)
+in-table (inl x) = omega arith
+in-table (inr (inl x)) = omega arith
+in-table (inr (inr x)) = omega (arith, number-within (x .0))
 
 -- an element with its extent, by the end of the words
 pub element-refused : (dim : ℕ) (ws : List ℕ) (depth under at bound : ℕ) → at ≤ bound → bound ≤ length ws →
-    (n p : ℕ) → elementOf dim depth under ws at bound ≡ Fault n p → (1 ≤ n) × (n ≤ 20)
+    (n p : ℕ) → elementOf dim depth under ws at bound ≡ Fault n p → (1 ≤ n) × (n ≤ 21)
 element-refused dim ws depth under at bound a b n p e = omega (arith, number-within (element-refusal dim ws depth under at bound a b n p e .0))
 
 -- all elements of a file, and the file
-pub top-refused : (dim : ℕ) (ws : List ℕ) (n p : ℕ) → topOf dim ws ≡ Fault n p → (1 ≤ n) × (n ≤ 20)
-top-refused dim ws n p e = one-of-twenty (inr (fault-place dim ws n p (top-exactly dim ws n p .0 e)))
+pub top-refused : (dim : ℕ) (ws : List ℕ) (n p : ℕ) → topOf dim ws ≡ Fault n p → (1 ≤ n) × (n ≤ 21)
+top-refused dim ws n p e = in-table (inr (fault-place dim ws n p (top-exactly dim ws n p .0 e)))
 
-pub refusal-number : (dim : ℕ) (s : List ℕ) (n p : ℕ) → judgeOf dim s ≡ Refused n p → (1 ≤ n) × (n ≤ 20)
-refusal-number dim s n p e = one-of-twenty (refusal-place dim s n p e)
+pub refusal-number : (dim : ℕ) (s : List ℕ) (n p : ℕ) → judgeOf dim s ≡ Refused n p → (1 ≤ n) × (n ≤ 21)
+refusal-number dim s n p e = in-table (refusal-place dim s n p e)

@@ -17,7 +17,7 @@ use Rattle.grammar.proofs.Tests.{OwnTests, Extent}
 use Rattle.grammar.proofs.Stands.{Stands, stands-word}
 use Rattle.elements.proofs.Laws.{Checked, no-fault}
 use Rattle.grammar.proofs.Types.{plain-uncounted}
-use Rattle.grammar.proofs.Local.{first-local, type-local, size-local, fixed-local, fields-local, extent-local, count-local, name-local, linkages-local}
+use Rattle.grammar.proofs.Local.{first-local, type-local, size-local, fixed-local, fields-local, floats-local, extent-local, count-local, name-local, linkages-local}
 
 ---- what an element is read as
 
@@ -125,6 +125,7 @@ module _ {dim depth under inside n : ℕ} {own ws : List ℕ} {at : ℕ} (o : Ow
         fields = fields-local own ws at s (o .size) dim (o .fixed) ∙ o .fields;
         extent = is-extent ws at (bound - at) (omega arith) (rw (own-type, own-size) (ends-of (bound - at) (omega arith) (isHeader (typeAt own 0)) refl (o .extent)));
         linkages = linkages-local own ws at s (o .size) dim (o .fixed) ∙ o .linkages;
+        floats = floats-local own ws at s (o .size) dim (o .fixed) ∙ o .floats;
         name = name-local own ws at s (o .size) dim (o .fixed) ∙ o .name;
       }
 
@@ -161,6 +162,7 @@ module _ {dim depth under : ℕ} {ws : List ℕ} {at bound : ℕ} (c : Checked d
         small = omega arith;
         extent = x;
         linkages = sym (linkages-local own ws at s own-sized dim checked-fixed) ∙ c .linkages;
+        floats = sym (floats-local own ws at s own-sized dim checked-fixed) ∙ c .floats;
         name = sym (name-local own ws at s own-sized dim checked-fixed) ∙ c .name;
         count = sym (count-local own ws at s own-sized dim checked-fixed n) ∙ k;
       }

@@ -10,7 +10,7 @@ use Rattle.kinds.specs.Kinds.{isHeader, mayStand}
 use Rattle.headers.specs.Header.{typeAt, sizeAt, extentAt}
 use Rattle.headers.specs.Flags.{reservedOk, placeOk}
 use Rattle.elements.specs.Attributes.{linkagesOk}
-use Rattle.elements.specs.Rules.{fixedOk, textFieldsOk, storedNameOk, countOk}
+use Rattle.elements.specs.Rules.{fixedOk, textFieldsOk, curveFloatsOk, storedNameOk, countOk}
 
 -- the extent of a header, and of any other element
 abbrev pub Extent : Bool → List ℕ → ℕ → ℕ → Type 0
@@ -28,5 +28,6 @@ pub record OwnTests (dim depth under : ℕ) (own : List ℕ) (inside n : ℕ) : 
   pub small : length own ≤ 65535
   pub extent : Extent (isHeader (typeAt own 0)) own inside n
   pub linkages : linkagesOk dim own 0 ≡ true
+  pub floats : curveFloatsOk dim own 0 ≡ true
   pub name : storedNameOk own 0 ≡ true
   pub count : countOk own 0 n ≡ true

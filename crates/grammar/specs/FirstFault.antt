@@ -53,9 +53,9 @@ mutual
 abbrev pub FirstFault : ℕ → List ℕ → ℕ → ℕ → Type 0
 FirstFault dim ws n p = ListFault dim ws 0 0 none 0 (length ws) n p
 
--- the numbers of an element's faults: 3 to 12, and 20
+-- the numbers of an element's faults: 3 to 12, 20 and 21
 abbrev pub ElementNumber : ℕ → Type 0
-ElementNumber n = ((3 ≤ n) × (n ≤ 12)) ⊎ (n ≡ 20)
+ElementNumber n = ((3 ≤ n) × (n ≤ 12)) ⊎ ((n ≡ 20) ⊎ (n ≡ 21))
 
 -- a refusal of a file of so many words, in plain numbers: 1 at 0, 2 at the end, or an element's at a word of the file
 abbrev pub Refusal : ℕ → ℕ → ℕ → Type 0

@@ -37,6 +37,14 @@ Fields own k =
     let counts = wordAt own k in
     (i : ℕ) → i < fieldCount counts → Field own (characters counts) (2 * (k + 1) + characters counts + 3 * i)
 
+-- the float that begins at word k is a number: where its sign, bit 15, is set, its exponent, bits 7 to 14, is not 0
+abbrev pub IsNumber : List ℕ → ℕ → Type 0
+IsNumber own k = wordAt own k / 32768 % 2 ≡ 1 → ¬ (wordAt own k / 128 % 256 ≡ 0)
+
+-- and so each of those that begin at these words
+abbrev pub Numbers : List ℕ → List ℕ → Type 0
+Numbers own ks = (k : ℕ) → OneOf ks k → IsNumber own k
+
 -- what may stand under a header of the type `under`, 0 at the top: no type that is refused, 18 and 19 not in a 2D file,
 -- type 1 only at the top, under 7 only type 17, under 12, 14, 18 and 19 no header
 pub record Allowed (dim under t : ℕ) : Type 0 where
@@ -73,6 +81,9 @@ pub record Own (dim depth under : ℕ) (own : List ℕ) (inside n : ℕ) : Type 
   pub fixed : PastFixed dim own (length own)
   -- the fields of a text
   pub fields : typeIn own ≡ 17 → (dim ≡ 2 → Fields own 29) × (¬ (dim ≡ 2) → Fields own 37)
+  -- the floats of an ellipse and of an arc: the axes, x and y, in 3D z
+  pub ellipse : typeIn own ≡ 15 → (dim ≡ 2 → Numbers own (18 ∷ 22 ∷ 28 ∷ 32 ∷ [])) × (¬ (dim ≡ 2) → Numbers own (18 ∷ 22 ∷ 34 ∷ 38 ∷ 42 ∷ []))
+  pub arc : typeIn own ≡ 16 → (dim ≡ 2 → Numbers own (22 ∷ 26 ∷ 32 ∷ 36 ∷ [])) × (¬ (dim ≡ 2) → Numbers own (22 ∷ 26 ∷ 38 ∷ 42 ∷ 46 ∷ []))
   -- complex elements: the total counts the header's own words after word 18 and all words under it
   pub total : OneOf headers (typeIn own) → 19 + wordAt own 18 ≡ length own + inside
   pub extent : OneOf headers (typeIn own) → length own + inside ≤ 65535

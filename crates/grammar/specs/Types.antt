@@ -18,7 +18,7 @@ pointed = 4 ∷ 6 ∷ 11 ∷ 21 ∷ []
 
 -- the types that have an attribute part where A is set
 abbrev pub linked : List ℕ
-linked = 2 ∷ 3 ∷ 4 ∷ 6 ∷ 7 ∷ 11 ∷ 12 ∷ 14 ∷ 17 ∷ 18 ∷ 19 ∷ 21 ∷ []
+linked = 2 ∷ 3 ∷ 4 ∷ 6 ∷ 7 ∷ 11 ∷ 12 ∷ 14 ∷ 15 ∷ 16 ∷ 17 ∷ 18 ∷ 19 ∷ 21 ∷ []
 
 -- a row of the table: types, and the words of their fixed part in 2D and in 3D
 pub data Row : Type 0 where
@@ -50,6 +50,8 @@ fixedParts own =
     ∷ row (4 ∷ 6 ∷ 11 ∷ 21 ∷ []) (19 + 4 * n) (19 + 6 * n)
     ∷ row (7 ∷ []) 35 43
     ∷ row (12 ∷ 14 ∷ []) 20 20
+    ∷ row (15 ∷ []) 36 46
+    ∷ row (16 ∷ []) 40 50
     ∷ row (17 ∷ []) (30 + textWords (wordAt own 29)) (38 + textWords (wordAt own 37))
     ∷ row (18 ∷ 19 ∷ []) 21 21
     ∷ []

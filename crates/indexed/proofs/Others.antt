@@ -41,7 +41,8 @@ or-other (fault n p) g a b = a
 
 element-other : {n : ℕ} → ElementNumber n → n ≢ 16
 element-other (inl x) = λ e. omega arith
-element-other (inr x) = λ e. omega arith
+element-other (inr (inl x)) = λ e. omega arith
+element-other (inr (inr x)) = λ e. omega arith
 
 refusal-other : {size n p : ℕ} → Refusal size n p → n ≢ 16
 refusal-other (inl x) = λ e. omega arith

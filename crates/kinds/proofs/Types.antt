@@ -8,7 +8,7 @@ use native.Mathlib.Omega.{arith}
 use borrow.Author.Tests.{ne-eqb, eqb-true}
 use types.Run.{OneOf}
 use lib.Dec.{eqb, ltb}
-use Rattle.kinds.specs.Kinds.{oneOf, isHeader, isCounted, isPointed, isSized, sizingWord, isLinked, isUnread, fixedPart, mayStand, nameWord}
+use Rattle.kinds.specs.Kinds.{oneOf, isHeader, isCounted, isPointed, isSized, sizingWord, isCurve, isLinked, isUnread, fixedPart, mayStand, nameWord}
 use Rattle.texts.specs.Texts.{countsWord, textPart}
 use Rattle.texts.proofs.Laws.{counts-late, text-long, text-past}
 
@@ -93,9 +93,11 @@ linked-long dim t n =
     let three = both 18 26 30 (omega arith) (omega arith) (eqb dim 2) in
     let points = both 18 (19 + 4 * n) (19 + 6 * n) (omega arith) (omega arith) (eqb dim 2) in
     let seven = both 18 35 43 (omega arith) (omega arith) (eqb dim 2) in
+    let ellipse = both 18 36 46 (omega arith) (omega arith) (eqb dim 2) in
+    let arc = both 18 40 50 (omega arith) (omega arith) (eqb dim 2) in
     let text : 18 ≤ textPart dim n = omega (arith, text-long dim n) in
-    each-named (λ (t : ℕ). 18 ≤ fixedPart dim t n) (2 ∷ 3 ∷ 4 ∷ 6 ∷ 7 ∷ 11 ∷ 12 ∷ 14 ∷ 17 ∷ 18 ∷ 19 ∷ 21 ∷ []) t
-    (two, (three, (points, (points, (seven, (points, (omega arith, (omega arith, (text, (omega arith, (omega arith, (points, tt))))))))))))
+    each-named (λ (t : ℕ). 18 ≤ fixedPart dim t n) (2 ∷ 3 ∷ 4 ∷ 6 ∷ 7 ∷ 11 ∷ 12 ∷ 14 ∷ 15 ∷ 16 ∷ 17 ∷ 18 ∷ 19 ∷ 21 ∷ []) t
+    (two, (three, (points, (points, (seven, (points, (omega arith, (omega arith, (ellipse, (arc, (text, (omega arith, (omega arith, (points, tt))))))))))))))
 
 ---- the word that sizes a fixed part
 
@@ -143,7 +145,7 @@ pub not-header : (t k : ℕ) → isHeader t ≡ false → isHeader k ≡ true �
 not-header t k = apart (1 ∷ 2 ∷ 7 ∷ 12 ∷ 14 ∷ 18 ∷ 19 ∷ []) t k
 
 not-linked : (t k : ℕ) → isLinked t ≡ false → isLinked k ≡ true → eqb t k ≡ false
-not-linked t k = apart (2 ∷ 3 ∷ 4 ∷ 6 ∷ 7 ∷ 11 ∷ 12 ∷ 14 ∷ 17 ∷ 18 ∷ 19 ∷ 21 ∷ []) t k
+not-linked t k = apart (2 ∷ 3 ∷ 4 ∷ 6 ∷ 7 ∷ 11 ∷ 12 ∷ 14 ∷ 15 ∷ 16 ∷ 17 ∷ 18 ∷ 19 ∷ 21 ∷ []) t k
 
 -- where a type that is no header may stand
 under-seven : (u t : Bool) → not (u && not t) ≡ (not u || t)
@@ -169,7 +171,7 @@ stands dim under t h =
 
 -- a known type is read
 linked-read : (t : ℕ) → isLinked t ≡ true → isUnread t ≡ false
-linked-read t k = each-named (λ (t : ℕ). isUnread t ≡ false) (2 ∷ 3 ∷ 4 ∷ 6 ∷ 7 ∷ 11 ∷ 12 ∷ 14 ∷ 17 ∷ 18 ∷ 19 ∷ 21 ∷ []) t (refl, (refl, (refl, (refl, (refl, (refl, (refl, (refl, (refl, (refl, (refl, (refl, tt)))))))))))) k
+linked-read t k = each-named (λ (t : ℕ). isUnread t ≡ false) (2 ∷ 3 ∷ 4 ∷ 6 ∷ 7 ∷ 11 ∷ 12 ∷ 14 ∷ 15 ∷ 16 ∷ 17 ∷ 18 ∷ 19 ∷ 21 ∷ []) t (refl, (refl, (refl, (refl, (refl, (refl, (refl, (refl, (refl, (refl, (refl, (refl, (refl, (refl, tt)))))))))))))) k
 
 pub stands-plain : (dim under t : ℕ) → isHeader t ≡ false → isLinked t ≡ true → mayStand dim under t ≡ (not (eqb under 7) || eqb t 17)
 stands-plain dim under t h k = stands dim under t h ∙ ap (λ (b : Bool). not b && (not (eqb under 7) || eqb t 17)) (linked-read t k)
@@ -183,24 +185,58 @@ stands-raw dim under t h k =
 other : {P : Type 0} → true ≡ false → P
 other e = absurd (false≢true (sym e))
 
--- a known type that is no header, 3 or 17 has points
-pub plain-pointed : (t : ℕ) → isLinked t ≡ true → isHeader t ≡ false → eqb t 3 ≡ false → eqb t 17 ≡ false → isPointed t ≡ true
+-- of the known types that are no headers 15, 16 and 17 are those from 15 on but 21
+pub plain-late : (t : ℕ) → isLinked t ≡ true → isHeader t ≡ false → cond (ltb t 15) false (not (eqb t 21)) ≡ (isCurve t || eqb t 17)
+plain-late t =
+    each-named (λ (t : ℕ). isHeader t ≡ false → cond (ltb t 15) false (not (eqb t 21)) ≡ (isCurve t || eqb t 17))
+    (2 ∷ 3 ∷ 4 ∷ 6 ∷ 7 ∷ 11 ∷ 12 ∷ 14 ∷ 15 ∷ 16 ∷ 17 ∷ 18 ∷ 19 ∷ 21 ∷ []) t
+    (λ h. refl, (λ h. refl, (λ h. refl, (λ h. refl, (λ h. refl, (λ h. refl, (λ h. refl, (λ h. refl, (λ h. refl, (λ h. refl, (λ h. refl, (other, (other, (λ h. refl, tt))))))))))))))
+
+-- a known type that is no header, 3, 15, 16 or 17 has points
+pub plain-pointed : (t : ℕ) → isLinked t ≡ true → isHeader t ≡ false → eqb t 3 ≡ false → isCurve t ≡ false → eqb t 17 ≡ false → isPointed t ≡ true
 plain-pointed t =
-    each-named (λ (t : ℕ). isHeader t ≡ false → eqb t 3 ≡ false → eqb t 17 ≡ false → isPointed t ≡ true) (2 ∷ 3 ∷ 4 ∷ 6 ∷ 7 ∷ 11 ∷ 12 ∷ 14 ∷ 17 ∷ 18 ∷ 19 ∷ 21 ∷ []) t (
-      λ h a b. other h,
-      (
-        λ h a b. other a,
-        (λ h a b. refl, (λ h a b. refl, (λ h a b. other h, (λ h a b. refl, (λ h a b. other h, (λ h a b. other h, (λ h a b. other b, (λ h a b. other h, (λ h a b. other h, (λ h a b. refl, tt)))))))))),
-      ),
-    )
+    each-named (λ (t : ℕ). isHeader t ≡ false → eqb t 3 ≡ false → isCurve t ≡ false → eqb t 17 ≡ false → isPointed t ≡ true)
+    (2 ∷ 3 ∷ 4 ∷ 6 ∷ 7 ∷ 11 ∷ 12 ∷ 14 ∷ 15 ∷ 16 ∷ 17 ∷ 18 ∷ 19 ∷ 21 ∷ []) t
+    (header, (λ h a d b. other a, (points, (points, (header, (points, (header, (header, (curve, (curve, (λ h a d b. other b, (header, (header, (points, tt))))))))))))))
+  where
+    header : {P : Type 0} {a d b : Bool} → true ≡ false → a ≡ false → d ≡ false → b ≡ false → P
+    header h a d b = other h
+
+    curve : {P : Type 0} {h a b : Bool} → h ≡ false → a ≡ false → true ≡ false → b ≡ false → P
+    curve h a d b = other d
+
+    points : {h a d b : Bool} → h ≡ false → a ≡ false → d ≡ false → b ≡ false → true ≡ true
+    points h a d b = refl
 
 pub pointed-part : (dim t n : ℕ) → isPointed t ≡ true → fixedPart dim t n ≡ cond (eqb dim 2) (19 + 4 * n) (19 + 6 * n)
 unfolding fixedPart
 pointed-part dim t n = each-named (λ (t : ℕ). fixedPart dim t n ≡ cond (eqb dim 2) (19 + 4 * n) (19 + 6 * n)) (4 ∷ 6 ∷ 11 ∷ 21 ∷ []) t (refl, (refl, (refl, (refl, tt))))
 
+-- an ellipse or an arc is a known type and no header; no word sizes it, and it is no text
+pub record CurveType (t : ℕ) : Type 0 where
+  pub linked : isLinked t ≡ true
+  pub simple : isHeader t ≡ false
+  pub unsized : isSized t ≡ false
+  pub other : eqb t 17 ≡ false
+
+pub curve-type : (t : ℕ) → isCurve t ≡ true → CurveType t
+curve-type t =
+    each-named CurveType (15 ∷ 16 ∷ []) t
+    (record { linked = refl; simple = refl; unsized = refl; other = refl }, (record { linked = refl; simple = refl; unsized = refl; other = refl }, tt))
+
+pub curve-part : (dim t n : ℕ) → isCurve t ≡ true → fixedPart dim t n ≡ cond (eqb t 15) (cond (eqb dim 2) 36 46) (cond (eqb dim 2) 40 50)
+unfolding fixedPart
+curve-part dim t n = each-named (λ (t : ℕ). fixedPart dim t n ≡ cond (eqb t 15) (cond (eqb dim 2) 36 46) (cond (eqb dim 2) 40 50)) (15 ∷ 16 ∷ []) t (refl, (refl, tt))
+
 -- no word sizes a raw type, and its fixed part is two words
 pub raw-unsized : (t : ℕ) → isLinked t ≡ false → isSized t ≡ false
 raw-unsized t k = simp (not-linked t 4 k refl, not-linked t 6 k refl, not-linked t 11 k refl, not-linked t 17 k refl, not-linked t 21 k refl)
+
+pub raw-no-curve : (t : ℕ) → isLinked t ≡ false → isCurve t ≡ false
+raw-no-curve t k = simp (not-linked t 15 k refl, not-linked t 16 k refl)
+
+pub header-no-curve : (t : ℕ) → isHeader t ≡ true → isCurve t ≡ false
+header-no-curve t = each-named (λ (t : ℕ). isCurve t ≡ false) (1 ∷ 2 ∷ 7 ∷ 12 ∷ 14 ∷ 18 ∷ 19 ∷ []) t (refl, (refl, (refl, (refl, (refl, (refl, (refl, tt)))))))
 
 pub raw-part : (dim t n : ℕ) → isHeader t ≡ false → isLinked t ≡ false → fixedPart dim t n ≡ 2
 unfolding fixedPart
@@ -215,6 +251,8 @@ raw-part dim t n h k =
       not-linked t 11 k refl,
       not-linked t 12 k refl,
       not-linked t 14 k refl,
+      not-linked t 15 k refl,
+      not-linked t 16 k refl,
       not-linked t 17 k refl,
       not-linked t 18 k refl,
       not-linked t 19 k refl,
@@ -224,6 +262,9 @@ raw-part dim t n h k =
 -- no word sizes a header's fixed part, and it has attributes unless it is of type 1
 pub header-unsized : (t : ℕ) → isHeader t ≡ true → isSized t ≡ false
 header-unsized t = each-named (λ (t : ℕ). isSized t ≡ false) (1 ∷ 2 ∷ 7 ∷ 12 ∷ 14 ∷ 18 ∷ 19 ∷ []) t (refl, (refl, (refl, (refl, (refl, (refl, (refl, tt)))))))
+
+pub sized-simple : (t : ℕ) → isSized t ≡ true → isHeader t ≡ false
+sized-simple t = each-named (λ (t : ℕ). isHeader t ≡ false) (4 ∷ 6 ∷ 11 ∷ 17 ∷ 21 ∷ []) t (refl, (refl, (refl, (refl, (refl, tt)))))
 
 pub header-linked : (t : ℕ) → isHeader t ≡ true → eqb t 1 ≡ false → isLinked t ≡ true
 header-linked t =

@@ -32,9 +32,13 @@ isSized = oneOf (4 ∷ 6 ∷ 11 ∷ 17 ∷ 21 ∷ [])
 abbrev pub sizingWord : ℕ → ℕ → ℕ
 sizingWord dim t = cond (eqb t 17) (countsWord dim) 18
 
+-- the ellipses and arcs, which have floats
+abbrev pub isCurve : ℕ → Bool
+isCurve = oneOf (15 ∷ 16 ∷ [])
+
 -- the types that may have attributes: every known type but 1
 abbrev pub isLinked : ℕ → Bool
-isLinked = oneOf (2 ∷ 3 ∷ 4 ∷ 6 ∷ 7 ∷ 11 ∷ 12 ∷ 14 ∷ 17 ∷ 18 ∷ 19 ∷ 21 ∷ [])
+isLinked = oneOf (2 ∷ 3 ∷ 4 ∷ 6 ∷ 7 ∷ 11 ∷ 12 ∷ 14 ∷ 15 ∷ 16 ∷ 17 ∷ 18 ∷ 19 ∷ 21 ∷ [])
 
 -- the types that are refused wherever they stand
 abbrev pub isUnread : ℕ → Bool
@@ -57,8 +61,10 @@ fixedPart dim t n =
     (cond (isPointed t) (cond (eqb dim 2) (19 + 4 * n) (19 + 6 * n))
     (cond (eqb t 7) (cond (eqb dim 2) 35 43)
     (cond (oneOf (12 ∷ 14 ∷ []) t) 20
+    (cond (eqb t 15) (cond (eqb dim 2) 36 46)
+    (cond (eqb t 16) (cond (eqb dim 2) 40 50)
     (cond (eqb t 17) (textPart dim n)
-    (cond (oneOf (18 ∷ 19 ∷ []) t) 21 2)))))))
+    (cond (oneOf (18 ∷ 19 ∷ []) t) 21 2)))))))))
 
 -- what may stand under a header of the type `under`, 0 at the top (no header has type 0): type 1 only at the top, only
 -- type 17 under 7, no header under 12, 14, 18 and 19

@@ -1,9 +1,9 @@
-// The types of elements: which are headers, which have a count, points or attributes, how long their fixed parts are,
+// The types of elements: which are headers, which have a count, points, floats or attributes, how long their fixed parts are,
 // and where they may stand. The definitions are in specs/: FirstWord (where the type stands), Kinds (the types).
 ghost use mathlib.Core.Path.{_≡_};
 ghost use mathlib.Core.Bool.{true, cond};
 ghost use Rattle.kinds.specs.FirstWord.{typeOf};
-ghost use Rattle.kinds.specs.Kinds.{isHeader, isCounted, isPointed, isLinked, isUnread, fixedPart, mayStand};
+ghost use Rattle.kinds.specs.Kinds.{isHeader, isCounted, isPointed, isCurve, isLinked, isUnread, fixedPart, mayStand};
 
 // The type in word 0.
 pub fn type_of(w: usize) -> usize
@@ -45,13 +45,24 @@ pub fn is_pointed(t: usize) -> bool
     }
 }
 
+// The ellipses and arcs.
+pub fn is_curve(t: usize) -> bool
+    ensures { λ r. ⌜ r ≡ isCurve t ⌝ }
+{
+    match t {
+        15 => true,
+        16 => true,
+        _ => false,
+    }
+}
+
 // The types that may have attributes.
 pub fn is_linked(t: usize) -> bool
     ensures { λ r. ⌜ r ≡ isLinked t ⌝ }
 {
     match t {
-        2 | 4 | 6 | 11 | 14 | 17 | 19 | 21 => true,
-        3 | 7 | 12 | 18 => true,
+        2 | 4 | 6 | 11 | 14 | 16 | 18 | 21 => true,
+        3 | 7 | 12 | 15 | 17 | 19 => true,
         _ => false,
     }
 }
@@ -85,6 +96,8 @@ pub fn fixed_part(dim: usize, t: usize, n: u16) -> usize
         4 | 6 | 11 | 21 => pick(dim == 2, 19 + 4 * n, 19 + 6 * n),
         7 => pick(dim == 2, 35, 43),
         12 | 14 => 20,
+        15 => pick(dim == 2, 36, 46),
+        16 => pick(dim == 2, 40, 50),
         17 => texts::text_part(dim, n),
         18 => 21,
         19 => 21,

@@ -15,7 +15,7 @@ use Rattle.files.specs.Judge.{judgeOf}
 use Rattle.files.specs.declared.Judged.{Judged}
 use Rattle.files.specs.declared.Judged.the-variants.{Accepted, Refused}
 use Rattle.answers.specs.Answers.{refuse, done, returned, sliceLeft, withRoom, Replied, SmallReply}
-use Rattle.answers.specs.Besides.{besides}
+use Rattle.answers.specs.Besides.{ifDone}
 use Rattle.answers.proofs.Refusals.{file-small}
 use Rattle.order.specs.Calls.{noneFits, replyBy}
 use Rattle.order.specs.Parts.{Within}
@@ -34,23 +34,23 @@ none-left zero onto e h = go (ltb onto e) refl
 none-left (suc n) onto e h = rw (ne-eqb (suc n) 0 (λ z. omega arith)) refl
 
 -- of an accepted file: one that is done had room for its answer, and an element fitted or none was left; and such a one is done
-pub record Done {B : Type 0} (needed put onto elements : ℕ) (given out o : List ℕ) (more t u : List B) : Type 0 where
+pub record Done {S : Type 0} (needed put onto elements : ℕ) (given out o : List ℕ) (made u : S) : Type 0 where
   pub room : needed ≤ length out
   pub fits : noneFits put onto elements ≡ false
   pub answer : o ≡ sets out 0 given
-  pub numbers : u ≡ sets t 0 more
+  pub numbers : u ≡ made
 
 module _ (v : Judged) {e d m : ℕ} (j : v ≡ Accepted e d m) (needed put onto : ℕ) (given out : List ℕ) {n : ℕ} {o : List ℕ} (a : Replied needed (replyBy v put onto given) out n o) where
   by : (b c : Bool) → leb needed (length out) ≡ b → noneFits put onto e ≡ c → withRoom needed (replyBy v put onto given) out ≡ cond b (cond c (refuse 15 0) (done given)) (refuse 1 0)
   by b c p q = rw (p, j, q) refl
 
-  pub when-done : {B : Type 0} (more t u : List B) → u ≡ besides (withRoom needed (replyBy v put onto given) out) more t → n ≡ 0 → Done needed put onto e given out o more t u
-  when-done more t u g z = go (leb needed (length out)) refl (noneFits put onto e) refl
+  pub when-done : {S : Type 0} (made was u : S) → u ≡ ifDone (withRoom needed (replyBy v put onto given) out) made was → n ≡ 0 → Done needed put onto e given out o made u
+  when-done made was u g z = go (leb needed (length out)) refl (noneFits put onto e) refl
     where
-      go : (b : Bool) → leb needed (length out) ≡ b → (c : Bool) → noneFits put onto e ≡ c → Done needed put onto e given out o more t u
+      go : (b : Bool) → leb needed (length out) ≡ b → (c : Bool) → noneFits put onto e ≡ c → Done needed put onto e given out o made u
       go true p false q =
           let w = by true false p q in
-          record { room = leb-true needed (length out) p; fits = q; answer = a .out ∙ ap (λ r. sliceLeft r out) w; numbers = g ∙ ap (λ r. besides r more t) w }
+          record { room = leb-true needed (length out) p; fits = q; answer = a .out ∙ ap (λ r. sliceLeft r out) w; numbers = g ∙ ap (λ r. ifDone r made was) w }
       go true p true q = let y = sym z ∙ a .is ∙ ap returned (by true true p q) in absurd (omega arith)
       go false p c q = let y = sym z ∙ a .is ∙ ap returned (by false c p q) in absurd (omega arith)
 

@@ -12,9 +12,9 @@ use Rattle.files.specs.Judge.{judgeOf}
 use Rattle.files.specs.declared.Judged.{Judged}
 use Rattle.files.specs.declared.Judged.the-variants as judged
 use Rattle.answers.specs.Answers.{Reply, done, refuse, returned, sliceLeft, withRoom, Replied}
-use Rattle.answers.specs.Besides.{besides}
+use Rattle.answers.specs.Besides.{ifDone}
 use Rattle.answers.proofs.Laws.{too-short, answered}
-use Rattle.answers.proofs.Besides.{besides-done, besides-short}
+use Rattle.answers.proofs.Besides.{done-beside, short-beside}
 use Rattle.order.specs.declared.Begun.{Begun}
 use Rattle.order.specs.declared.Begun.the-variants.{Elements, Refused}
 use Rattle.order.specs.Calls.{begunBy, begunOf, noneFits, replyBy}
@@ -37,26 +37,26 @@ goes-on dim s needed room e q = go (leb needed room) refl (judgeOf dim s) refl q
         let z : elements ≡ e = cc in
         record { room = leb-true needed room h; deepest = d; marker = m; accepted = j ∙ ap (λ i. judged.Accepted i d m) z }
 
--- a call that puts `given` into the slice for its answer and `more` at the front of another, t
-module _ {B : Type 0} (dim : ℕ) (s : List ℕ) (needed put next : ℕ) (given out : List ℕ) (more t : List B) where
+-- a call that puts `given` into the slice for its answer and makes of the other slices, `was`, what they are where it is done
+module _ {S : Type 0} (dim : ℕ) (s : List ℕ) (needed put next : ℕ) (given out : List ℕ) (made was : S) where
   abbrev reply : Reply ℕ
   reply = replyBy (judgeOf dim s) put next given
 
-  abbrev Given : ℕ → List ℕ → List B → Type 0
-  Given n o u = Replied needed reply out n o × (u ≡ besides (withRoom needed reply out) more t)
+  abbrev Given : ℕ → List ℕ → S → Type 0
+  Given n o u = Replied needed reply out n o × (u ≡ ifDone (withRoom needed reply out) made was)
 
-  known : (r : Reply ℕ) → reply ≡ r → needed ≤ length out → Given (returned r) (sliceLeft r out) (besides r more t)
-  known r e h = (answered needed reply r out e h, sym (besides-done needed reply r out more t e h))
+  known : (r : Reply ℕ) → reply ≡ r → needed ≤ length out → Given (returned r) (sliceLeft r out) (ifDone r made was)
+  known r e h = (answered needed reply r out e h, sym (done-beside needed reply r out made was e h))
 
-  pub call-refused : (a : ℕ) → begunOf dim s needed (length out) ≡ Refused a → Given a out t
+  pub call-refused : (a : ℕ) → begunOf dim s needed (length out) ≡ Refused a → Given a out was
   unfolding begunOf
   call-refused a e = go (leb needed (length out)) refl (judgeOf dim s) refl e
     where
-      go : (b : Bool) → leb needed (length out) ≡ b → (v : Judged) → judgeOf dim s ≡ v → cond b (begunBy v) (Refused 1) ≡ Refused a → Given a out t
+      go : (b : Bool) → leb needed (length out) ≡ b → (v : Judged) → judgeOf dim s ≡ v → cond b (begunBy v) (Refused 1) ≡ Refused a → Given a out was
       go false h v j e =
           let z : 1 ≡ a = cc in
           let l = leb-false needed (length out) h in
-          rw (sym z) (too-short needed reply out l, sym (besides-short needed reply out more t l))
+          rw (sym z) (too-short needed reply out l, sym (short-beside needed reply out made was l))
       go true h (judged.Accepted elements d m) j e = let z : _≡_ {A = ℕ} 0 1 = cc in absurd (omega arith)
       go true h (judged.Refused n p) j e =
           let z : returned {A = ℕ} (refuse n p) ≡ a = cc in
@@ -66,8 +66,8 @@ module _ {B : Type 0} (dim : ℕ) (s : List ℕ) (needed put next : ℕ) (given 
     by : (b : Bool) → b ≡ noneFits put next elements → reply ≡ cond b (refuse 15 0) (done given)
     by b f = rw (on .accepted, f) refl
 
-    pub call-full : true ≡ noneFits put next elements → Given 15 out t
+    pub call-full : true ≡ noneFits put next elements → Given 15 out was
     call-full f = known (refuse 15 0) (by true f) (on .room)
 
-    pub call-done : false ≡ noneFits put next elements → Given 0 (sets out 0 given) (sets t 0 more)
+    pub call-done : false ≡ noneFits put next elements → Given 0 (sets out 0 given) made
     call-done f = known (done given) (by false f) (on .room)

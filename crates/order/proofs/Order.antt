@@ -9,7 +9,7 @@ use native.Mathlib.Omega.{arith}
 use native.Mathlib.Numerals.{add-one}
 use lib.ListN.{length, take, drop}
 use lib.Seq.{drop-cons}
-use borrow.Author.Tests.{eq-eqb, ne-eqb}
+use borrow.Author.Tests.{eq-eqb, ne-eqb, le-leb, lt-leb}
 use Rattle.words.specs.Words.{words, Below}
 use Rattle.headers.specs.Header.{typeAt, sizeAt}
 use Rattle.headers.proofs.Laws.{size-small}
@@ -21,7 +21,7 @@ use Rattle.grammar.proofs.Stands.{Stands}
 use Rattle.grammar.proofs.Rules.{own-size}
 use Rattle.grammar.proofs.Whole.{FileTree, file-tree}
 use Rattle.grammar.proofs.Exact.{accepted-is}
-use Rattle.order.specs.Order.{placeOf, InOrder}
+use Rattle.order.specs.Order.{placeOf, startOf, InOrder}
 
 ---- the elements of a tree
 
@@ -90,6 +90,15 @@ pub place-next : (ws : List ℕ) (i at n : ℕ) → at ≡ placeOf ws i → n �
 place-next ws i at n e z = rw (add-one, z, e) refl
 
 -- places are small
+-- the place of an element by its number, and 0 of a number that no file has
+pub start-there : (ws : List ℕ) (k : ℕ) → k ≤ 1048576 → startOf ws k ≡ placeOf ws k
+unfolding startOf
+start-there ws k h = rw (le-leb k 1048576 h) refl
+
+pub start-none : (ws : List ℕ) (k : ℕ) → 1048576 < k → startOf ws k ≡ 0
+unfolding startOf
+start-none ws k h = rw (lt-leb k 1048576 h) refl
+
 pub place-small : (s : List ℕ) → Below 256 s → (k : ℕ) → placeOf (words s) k ≤ 65537 * k
 place-small s b zero = omega arith
 place-small s b (suc k) = let h = place-small s b k in let z = size-small s b (placeOf (words s) k) in omega arith

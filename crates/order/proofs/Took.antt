@@ -1,8 +1,8 @@
--- A call that takes elements and is done gives those that it took, whole; where no element has more numbers than a bound, calls one
--- after another give all.
+-- A call that takes elements and is done gives those that it took, whole; where no element has more items than a bound, calls one after
+-- another give all.
 use Prim.Native.Nat.{ℕ, zero, suc, _+_, _-_, _≤_, _<_}
 use mathlib.Core.Path.{_≡_, refl, sym, ap, _∙_}
-use mathlib.Core.Bool.{Bool, true, false, cond}
+use mathlib.Core.Bool.{Bool, true, false, cond, and-eq-true-iff}
 use mathlib.Core.List.{List, [], _∷_, _++_, append-assoc, map}
 use mathlib.Core.Option.{some}
 use native.Mathlib.Omega.{arith}
@@ -15,27 +15,27 @@ use Rattle.files.specs.Judge.{judgeOf}
 use Rattle.files.specs.Spots.{Spot, spotsOf, spotIn}
 use Rattle.files.specs.declared.Judged.the-variants.{Accepted}
 use Rattle.answers.specs.Answers.{withRoom, Replied}
-use Rattle.answers.specs.Besides.{besides}
+use Rattle.answers.specs.Besides.{ifDone}
 use Rattle.answers.proofs.Besides.{front-read, front-at}
 use Rattle.order.specs.Calls.{replyBy}
-use Rattle.order.specs.Fitting.{Fitting, behind, partOf, allOf}
-use Rattle.order.specs.Parts.{Lent, InParts, Called, GivesAll}
+use Rattle.order.specs.Fitting.{Fitting, behind, partOf, allOf, Slices, inNumbers}
+use Rattle.order.specs.Parts.{InParts, Called, GivesAll, Lent, numbersCall}
 use Rattle.order.proofs.Order.{FoundIn, found-drop, file-found, count-is}
-use Rattle.order.proofs.Parts.{Gave, Step, gives-all}
+use Rattle.order.proofs.Parts.{Gave, Joins, Step, gives-all}
 use Rattle.order.proofs.Answers.{some-put, none-left, Done, when-done, done-when}
 
-all-append : (g : Spot → List ℤ) (xs ys : List Spot) → allOf g (xs ++ ys) ≡ allOf g xs ++ allOf g ys
+pub all-append : {A : Type 0} (g : Spot → List A) (xs ys : List Spot) → allOf g (xs ++ ys) ≡ allOf g xs ++ allOf g ys
 all-append g [] ys = refl
 all-append g (x ∷ xs) ys = ap (λ l. g x ++ l) (all-append g xs ys) ∙ sym (append-assoc (g x) (allOf g xs) (allOf g ys))
 
 ---- the elements that are taken
 
-abbrev pub joined : List (List ℤ) → List ℤ
+abbrev pub joined : {A : Type 0} → List (List A) → List A
 joined [] = []
 joined (e ∷ es) = e ++ joined es
 
 -- so many of a list, which fit, and the next one does not
-pub record Took (room k : ℕ) (es : List (List ℤ)) (q : Fitting) : Type 0 where
+pub record Took {A : Type 0} (room k : ℕ) (es : List (List A)) (q : Fitting A) : Type 0 where
   pub many : ℕ
   pub next : q .next ≡ k + many
   pub by : many ≤ length es
@@ -43,7 +43,7 @@ pub record Took (room k : ℕ) (es : List (List ℤ)) (q : Fitting) : Type 0 whe
   pub fits : length (q .given) ≤ room
   pub stuck : many < length es → room < length (q .given) + length (getD es many [])
 
-pub took : (room k : ℕ) (es : List (List ℤ)) → Took room k es (partOf room k es)
+pub took : {A : Type 0} (room k : ℕ) (es : List (List A)) → Took room k es (partOf room k es)
 took room k [] = record { many = 0; next = omega arith; by = omega arith; given = refl; fits = omega arith; stuck = λ h. absurd (omega arith) }
 took room k (e ∷ es) = go (leb (length e) room) refl (took (room - length e) (suc k) es)
   where
@@ -68,15 +68,21 @@ took room k (e ∷ es) = go (leb (length e) room) refl (took (room - length e) (
 
 ---- calls
 
--- a call whose answer is the number of the element to go on with, and a number from which `size` makes how many numbers there are
-abbrev pub callBy : (ℕ → Lent → ℕ → Lent → Type 0) → (ℕ → ℕ) → InParts
-callBy A size = record { Answers = A; next = λ k out. getD out 0 0; written = λ out. size (getD out 1 0) }
+-- a call whose slices take items: which of what it is lent these slices are, and its answer, whose first number is that of the element to go on
+-- with and whose second `second` makes of how many items there are; with slices that are long enough any element and the answer fit
+pub record Takes {L G S A : Type 0} (p : InParts L G) (into : Slices S A) (slices : L → S) (out : L → List ℕ) (g : Spot → List A) (shown : List A → G) (bound : ℕ)
+    (second : ℕ → ℕ) : Type 0 where
+  pub next : (k : ℕ) (y : L) → p .next k y ≡ getD (out y) 0 0
+  pub reads : (y : L) (s : S) (xs : List Spot) → length (allOf g xs) ≤ into .room s → slices y ≡ into .put s 0 (allOf g xs) → getD (out y) 1 0 ≡ second (length (allOf g xs)) →
+      p .gives y ≡ shown (allOf g xs)
+  pub enough : (x : L) → p .enough x ≡ true → (bound ≤ into .room (slices x)) × (2 ≤ length (out x))
+  pub joins : Joins p (λ xs. shown (allOf g xs))
 
--- of an accepted file: each element x has the numbers f x, which are those that g says, and are few
-module _ (dim : ℕ) (s : List ℕ) (e d m : ℕ) (j : judgeOf dim s ≡ Accepted e d m) (f g : Spot → List ℤ) (bound : ℕ)
+-- of an accepted file: each element x has the items f x, which are those that g says, and are few
+module _ {L G S A : Type 0} (p : InParts L G) (into : Slices S A) (slices : L → S) (out : L → List ℕ) (dim : ℕ) (s : List ℕ) (e d m : ℕ) (j : judgeOf dim s ≡ Accepted e d m) (f g : Spot → List A)
+    (shown : List A → G) (bound : ℕ) (second : ℕ → ℕ) (takes : Takes p into slices out g shown bound second)
     (same : (x : Spot) → spotIn (spotsOf dim (words s)) (x .place) ≡ some x → f x ≡ g x)
-    (few : (x : Spot) → spotIn (spotsOf dim (words s)) (x .place) ≡ some x → length (f x) ≤ bound)
-    (second size : ℕ → ℕ) (whole : (xs : List Spot) → size (second (length (allOf g xs))) ≡ length (allOf g xs)) where
+    (few : (x : Spot) → spotIn (spotsOf dim (words s)) (x .place) ≡ some x → length (f x) ≤ bound) where
   abbrev all : List Spot
   all = spotsOf dim (words s)
 
@@ -90,15 +96,18 @@ module _ (dim : ℕ) (s : List ℕ) (e d m : ℕ) (j : judgeOf dim s ≡ Accepte
   each-are (suc n) [] h = refl
   each-are (suc n) (x ∷ xs) h = rw (same x (h .0), each-are n xs (h .1)) refl
 
-  module _ (k : ℕ) (x y : Lent) (h : k ≤ length (spotsOf dim (words s))) where
-    abbrev part : Fitting
-    part = partOf (length (x .numbers)) k (map f (drop k all))
+  module _ (k : ℕ) (x y : L) (h : k ≤ length (spotsOf dim (words s))) where
+    abbrev part : Fitting A
+    part = partOf (into .room (slices x)) k (map f (drop k all))
 
     abbrev answer : List ℕ
     answer = part .next ∷ second (length (part .given)) ∷ []
 
-    taken : Took (length (x .numbers)) k (map f (drop k all)) part
-    taken = took (length (x .numbers)) k (map f (drop k all))
+    abbrev made : S
+    made = into .put (slices x) 0 (part .given)
+
+    taken : Took (into .room (slices x)) k (map f (drop k all)) part
+    taken = took (into .room (slices x)) k (map f (drop k all))
 
     found : FoundIn all (drop k all)
     found = found-drop all all k (file-found dim s e d m j)
@@ -107,7 +116,7 @@ module _ (dim : ℕ) (s : List ℕ) (e d m : ℕ) (j : judgeOf dim s ≡ Accepte
     long = let c = count-is dim s e d m j in let l = length-drop k all in length-map (drop k all) f ∙ omega arith
 
     abbrev IsDone : Type 0
-    IsDone = Done 2 (length (part .given)) (part .next) e answer (x .out) (y .out) (part .given) (x .numbers) (y .numbers)
+    IsDone = Done 2 (length (part .given)) (part .next) e answer (out x) (out y) made (slices y)
 
     -- it took one, or none was left
     went-on : (i : ℕ) → taken .many ≡ i → IsDone → k < length all → 1 ≤ i
@@ -120,7 +129,7 @@ module _ (dim : ℕ) (s : List ℕ) (e d m : ℕ) (j : judgeOf dim s ≡ Accepte
     went-on (suc a) q w i = omega arith
 
     -- what one that is done gives
-    gave : IsDone → Gave all (allOf g) k (getD (y .out) 0 0) (take (size (getD (y .out) 1 0)) (y .numbers))
+    gave : IsDone → Gave all (λ xs. shown (allOf g xs)) k (p .next k y) (p .gives y)
     gave w =
         let t = taken in
         let c = count-is dim s e d m j in
@@ -128,21 +137,21 @@ module _ (dim : ℕ) (s : List ℕ) (e d m : ℕ) (j : judgeOf dim s ≡ Accepte
         let n = t .next in
         let b = t .by in
         let is : part .given ≡ allOf g (take (t .many) (drop k all)) = t .given ∙ each-are (t .many) (drop k all) found in
-        let onto : getD (y .out) 0 0 ≡ part .next = ap (λ o. getD o 0 0) (w .answer) ∙ front-at answer (x .out) 0 0 (omega arith) (w .room) in
-        let number : getD (y .out) 1 0 ≡ second (length (part .given)) = ap (λ o. getD o 1 0) (w .answer) ∙ front-at answer (x .out) 1 0 (omega arith) (w .room) in
-        let written : size (getD (y .out) 1 0) ≡ length (part .given) =
-        ap size number ∙ ap (λ l. size (second (length l))) is ∙ whole (take (t .many) (drop k all)) ∙ sym (ap length is) in
-        let back : t .many ≡ getD (y .out) 0 0 - k = omega arith in
+        let onto : p .next k y ≡ part .next = takes .next k y ∙ ap (λ o. getD o 0 0) (w .answer) ∙ front-at answer (out x) 0 0 (omega arith) (w .room) in
+        let number : getD (out y) 1 0 ≡ second (length (allOf g (take (t .many) (drop k all)))) =
+        ap (λ o. getD o 1 0) (w .answer) ∙ front-at answer (out x) 1 0 (omega arith) (w .room) ∙ ap (λ l. second (length l)) is in
+        let fits : length (allOf g (take (t .many) (drop k all))) ≤ into .room (slices x) = rw (← is) (t .fits) in
+        let back : t .many ≡ p .next k y - k = omega arith in
         record {
           on = omega arith;
           by = omega arith;
           some = λ i. omega (arith, went-on (t .many) refl w i);
-          is = ap (λ i. take i (y .numbers)) written ∙ ap (take (length (part .given))) (w .numbers) ∙ front-read (part .given) (x .numbers) (t .fits)
-              ∙ is ∙ ap (λ i. allOf g (take i (drop k all))) back;
+          is = takes .reads y (slices x) (take (t .many) (drop k all)) fits (w .numbers ∙ ap (into .put (slices x) 0) is) number
+              ∙ ap (λ i. shown (allOf g (take i (drop k all)))) back;
         }
 
     -- with slices that are long enough an element fits
-    fitting : bound ≤ length (x .numbers) → part .next < e → 1 ≤ length (part .given)
+    fitting : bound ≤ into .room (slices x) → part .next < e → 1 ≤ length (part .given)
     fitting r i =
         let t = taken in
         let n = t .next in
@@ -151,19 +160,38 @@ module _ (dim : ℕ) (s : List ℕ) (e d m : ℕ) (j : judgeOf dim s ≡ Accepte
         let u = each-few (drop k all) found (t .many) in
         omega arith
 
-  module _ (A : ℕ → Lent → ℕ → Lent → Type 0)
-      (replied : (k : ℕ) (x : Lent) (n : ℕ) (y : Lent) (h : k ≤ length (spotsOf dim (words s))) → A k x n y →
-      Replied 2 (replyBy (judgeOf dim s) (length (part k x y h .given)) (part k x y h .next) (answer k x y h)) (x .out) n (y .out))
-      (given : (k : ℕ) (x : Lent) (n : ℕ) (y : Lent) (h : k ≤ length (spotsOf dim (words s))) → A k x n y →
-      y .numbers ≡ besides (withRoom 2 (replyBy (judgeOf dim s) (length (part k x y h .given)) (part k x y h .next) (answer k x y h)) (x .out)) (part k x y h .given) (x .numbers)) where
-    step : (k : ℕ) (x : Lent) (n : ℕ) (y : Lent) → k ≤ length (spotsOf dim (words s)) → A k x n y → Step (callBy A size) all (allOf g) bound 2 k x n y
+  module _ (replied : (k : ℕ) (x : L) (n : ℕ) (y : L) (h : k ≤ length (spotsOf dim (words s))) → p .Answers k x n y →
+      Replied 2 (replyBy (judgeOf dim s) (length (part k x y h .given)) (part k x y h .next) (answer k x y h)) (out x) n (out y))
+      (given : (k : ℕ) (x : L) (n : ℕ) (y : L) (h : k ≤ length (spotsOf dim (words s))) → p .Answers k x n y →
+      slices y ≡ ifDone (withRoom 2 (replyBy (judgeOf dim s) (length (part k x y h .given)) (part k x y h .next) (answer k x y h)) (out x)) (made k x y h) (slices x)) where
+    step : (k : ℕ) (x : L) (n : ℕ) (y : L) → k ≤ length (spotsOf dim (words s)) → p .Answers k x n y → Step p all (λ xs. shown (allOf g xs)) k x n y
     step k x n y h a =
         let q = part k x y h in
         let r = replied k x n y h a in
         record {
-          gives = λ z. gave k x y h (when-done (judgeOf dim s) j 2 (length (q .given)) (q .next) (answer k x y h) (x .out) r (q .given) (x .numbers) (y .numbers) (given k x n y h a) z);
-          done = λ u v. done-when (judgeOf dim s) j 2 (length (q .given)) (q .next) (answer k x y h) (x .out) r v (none-left (length (q .given)) (q .next) e (fitting k x y h u));
+          gives = λ z. gave k x y h (when-done (judgeOf dim s) j 2 (length (q .given)) (q .next) (answer k x y h) (out x) r (made k x y h) (slices x) (slices y) (given k x n y h a) z);
+          done = λ u. let v = takes .enough x u in
+              done-when (judgeOf dim s) j 2 (length (q .given)) (q .next) (answer k x y h) (out x) r (v .1) (none-left (length (q .given)) (q .next) e (fitting k x y h (v .0)));
         }
 
-    pub all-taken : (calls : List Lent) (got : List ℤ) (last : ℕ) → Called (callBy A size) 0 calls got last → GivesAll all (allOf g) bound 2 calls got last
-    all-taken calls got last c = gives-all (callBy A size) all (allOf g) bound 2 (all-append g) refl step c
+    pub all-taken : (calls : List L) (got : G) (last : ℕ) → Called p 0 calls got last → GivesAll p all (λ xs. shown (allOf g xs)) calls got last
+    all-taken calls got last c = gives-all p all (λ xs. shown (allOf g xs)) (takes .joins) step c
+
+---- calls that give numbers
+
+-- the answer's second number is one from which `size` makes how many numbers there are
+module _ (answers : ℕ → Lent → ℕ → Lent → Type 0) (g : Spot → List ℤ) (bound : ℕ) (second size : ℕ → ℕ)
+    (whole : (xs : List Spot) → size (second (length (allOf g xs))) ≡ length (allOf g xs)) where
+  abbrev pub takingCall : InParts Lent (List ℤ)
+  takingCall = numbersCall answers (λ k out. getD out 0 0) (λ out. size (getD out 1 0)) bound 2
+
+  pub takes-numbers : Takes takingCall inNumbers (λ x. x .numbers) (λ x. x .out) g (λ l. l) bound second
+  takes-numbers = record {
+    next = λ k y. refl;
+    reads = λ y s xs fits put number.
+        ap (λ i. take (size i) (y .numbers)) number ∙ ap (λ i. take i (y .numbers)) (whole xs) ∙ ap (take (length (allOf g xs))) put ∙ front-read (allOf g xs) s fits;
+    enough = λ x h.
+        let both = and-eq-true-iff (leb bound (length (x .numbers))) (leb 2 (length (x .out))) .0 h in
+        (leb-true bound (length (x .numbers)) (both .0), leb-true 2 (length (x .out)) (both .1));
+    joins = record { append = all-append g; empty = refl; unit = λ l. refl };
+  }

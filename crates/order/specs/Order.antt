@@ -1,7 +1,9 @@
 -- Elements in file order: each begins where the own words of the one before it end.
 use Prim.Native.Nat.{ℕ, zero, suc, _+_}
 use mathlib.Core.Path.{_≡_}
+use mathlib.Core.Bool.{cond}
 use mathlib.Core.List.{List, [], _∷_}
+use lib.Dec.{leb}
 use Rattle.headers.specs.Header.{sizeAt}
 use Rattle.files.specs.Spots.{Spot}
 
@@ -9,6 +11,10 @@ use Rattle.files.specs.Spots.{Spot}
 abbrev pub placeOf : List ℕ → ℕ → ℕ
 placeOf ws zero = 0
 placeOf ws (suc k) = placeOf ws k + sizeAt ws (placeOf ws k)
+
+-- the same of a number that a file's element may have; 0 of a larger one
+unfoldable pub startOf : List ℕ → ℕ → ℕ
+startOf ws k = cond (leb k 1048576) (placeOf ws k) 0
 
 -- elements that follow one another from a place to an end
 abbrev pub InOrder : List ℕ → ℕ → List Spot → ℕ → Type 0

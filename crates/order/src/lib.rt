@@ -1,6 +1,8 @@
 // The elements of an accepted file in file order, by places, and what the calls that go over them from some number on have in
 // common: how such a call begins, when no element fits, and what is taken. Definitions: specs/Order, specs/Calls, specs/Fitting.
 ghost use mathlib.Core.Path.{_≡_};
+ghost use Rattle.words.specs.Words.{words};
+ghost use Rattle.order.specs.Order.{startOf};
 ghost use Rattle.order.specs.Calls.{begunOf, noneFits};
 
 // How many elements the file has, or the number that the call returns at once.
@@ -19,6 +21,22 @@ pub enum Taken {
 pub struct Part {
     pub next: usize,
     pub used: usize,
+}
+
+// The place of element number k: 0 where k is above any file's number of elements.
+pub fn start_of(file: &[u8], k: usize) -> usize
+    ensures { λ r. ⌜ r ≡ startOf (words (now (file .entry))) k ⌝ }
+{
+    if 1048576 < k {
+        return 0;
+    }
+    let mut at = 0;
+    let mut i = 0;
+    while i < k {
+        at += headers::size_at(file, at);
+        i += 1;
+    }
+    at
 }
 
 // The beginning of a call whose answer needs so many numbers of a slice with `room`: the file is judged.

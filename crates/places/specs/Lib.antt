@@ -1,3 +1,4 @@
 pub mod Places
 pub mod Descent
 pub mod Extents
+pub mod OfType

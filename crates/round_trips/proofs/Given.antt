@@ -38,7 +38,8 @@ use Rattle.points_linkages.specs.Points.{pointCount, pointOf}
 use Rattle.points_linkages.specs.Coordinates.{coordinates, pointsFrom}
 use Rattle.points_linkages.proofs.Numbered.{point-none}
 use Rattle.text_views.specs.declared.Odd.the-variants as odds
-use Rattle.text_views.specs.TextViews.{turnAt, originAt, oddAt, textAt, textIn, textOf, characterBytes, fieldOf}
+use Rattle.turns.specs.Turns.{turnAt}
+use Rattle.text_views.specs.TextViews.{originAt, oddAt, textAt, textIn, textOf, characterBytes, fieldOf}
 use Rattle.fields.specs.Words.{pointsIn}
 use Rattle.fields.specs.Faults.{isWritten}
 use Rattle.fields.specs.declared.Fields.{Fields}
@@ -119,9 +120,9 @@ numbersAt dim ws at =
       length = longAt ws (at + 19);
       height = longAt ws (at + 21);
       first = longAt ws (at + 23);
-      second = cond flat 0 (longAt ws (at + 25));
-      third = cond flat 0 (longAt ws (at + 27));
-      fourth = cond flat 0 (longAt ws (at + 29));
+      second = cond flat 0 (longAt ws (at + 23 + 2));
+      third = cond flat 0 (longAt ws (at + 23 + 4));
+      fourth = cond flat 0 (longAt ws (at + 23 + 6));
       x = cond flat (signed (longAt ws (at + 25))) (signed (longAt ws (at + 31)));
       y = cond flat (signed (longAt ws (at + 27))) (signed (longAt ws (at + 33)));
       z = cond flat (pos 0) (signed (longAt ws (at + 35)));
@@ -183,7 +184,7 @@ module _ (dim : ℕ) (s : List ℕ) (at : ℕ) {end depth : ℕ} {above : Above}
           justification = refl;
           length = refl;
           height = refl;
-          turn = by-dims (λ m. turnAt m (words s) at ≡ turnRead m (numbersAt m (words s) at)) dim d refl refl;
+          turn = by-dims (λ m. turnAt m (words s) (at + 23) ≡ turnRead m (numbersAt m (words s) at)) dim d refl refl;
           origin = by-dims (λ m. originAt m (words s) at ≡ originRead m (numbersAt m (words s) at)) dim d refl refl;
           characters = sym length-characters;
           fields = sym length-triples;

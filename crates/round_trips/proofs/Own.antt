@@ -14,11 +14,11 @@ use Rattle.words.proofs.Laws.{words-below}
 use Rattle.words.proofs.Signed.{unsigned-small}
 use Rattle.kinds.specs.FirstWord.{levelOf, reservedOf, cOf, typeOf, deletedOf, bit}
 use Rattle.headers.specs.Header.{typeAt}
-use Rattle.kinds.specs.Kinds.{isHeader, isPointed, mayStand}
+use Rattle.kinds.specs.Kinds.{isHeader, isCurve, isPointed, mayStand}
 use Rattle.headers.specs.Flags.{reservedOk, placeOk}
 use Rattle.elements.specs.Rules.{fixedOk, textFieldsOk, countOk}
 use Rattle.elements.specs.Attributes.{linkagesOk}
-use Rattle.elements.proofs.Laws.{name-simple}
+use Rattle.elements.proofs.Laws.{name-simple, floats-none}
 use Rattle.kinds.proofs.Types.{Each}
 use Rattle.grammar.proofs.Types.{plain-uncounted}
 use Rattle.grammar.proofs.Tests.{OwnTests}
@@ -111,6 +111,7 @@ pub record Owned (dim : ℕ) (f : Fields) (size : ℕ) (body tail : List ℕ) : 
   pub even : length tail % 2 ≡ 0
   pub more : 1 ≤ length body
   pub plain : isHeader (f .kind) ≡ false
+  pub unfloated : isCurve (f .kind) ≡ false
   pub fixed : fixedOk dim (elementOf f size body tail) 0 ≡ true
   pub fields : textFieldsOk dim (elementOf f size body tail) 0 ≡ true
   pub small : size ≤ 65535
@@ -151,6 +152,7 @@ module _ {dim : ℕ} {f : Fields} {size : ℕ} {body tail : List ℕ} (o : Owned
         small = rw long (o .small);
         extent = rw plain-at (refl, refl);
         linkages = o .linkages;
+        floats = floats-none dim (elementOf f size body tail) 0 (rw kind (o .unfloated));
         name = name-simple (elementOf f size body tail) 0 plain-at;
         count = count-ok;
       }

@@ -11,7 +11,7 @@ use lib.Dec.{eqb, leb}
 use borrow.Author.Tests.{le-leb}
 use Rattle.words.specs.Words.{Below, wordAt, unsigned}
 use Rattle.headers.specs.Header.{typeAt, sizeAt, pointsAt}
-use Rattle.kinds.specs.Kinds.{isHeader, isPointed, isSized, sizingWord, pointsWithin, fixedPart}
+use Rattle.kinds.specs.Kinds.{isHeader, isCurve, isPointed, isSized, sizingWord, pointsWithin, fixedPart}
 use Rattle.elements.specs.Rules.{fixedOk, textFieldsOk}
 use Rattle.elements.proofs.Laws.{fields-none}
 use Rattle.edits.proofs.Tests.{both-and, or-right}
@@ -86,6 +86,7 @@ module _ {dim : ℕ} {f : Fields} {ps : List ℤ} {tail : List ℕ} {room : ℕ}
         let b = length-body dim f ps tail (w .call) in
         omega arith;
     plain = plain-kind (f .kind) (w .call .kind);
+    unfloated = by-kinds (λ t. isCurve t ≡ false) (f .kind) (w .call .kind) refl refl refl refl;
     fixed = fixed-ok;
     fields = fields-ok;
     small = w .size;

@@ -222,6 +222,7 @@ module _ {dim : ℕ} {f : Fields} {t : Text} {characters triples tail : List ℕ
     even = w .call .even;
     more = omega arith;
     plain = rw (w .call .kind) refl;
+    unfloated = rw (w .call .kind) refl;
     fixed = fixed-ok text-call;
     fields = fields-ok text-call (written-below (text-formed text-call) (w .size) (text-below text-call l p q) b) p q (w .fields);
     small = w .size;

@@ -12,8 +12,9 @@ use Rattle.words.proofs.Signed.{signed-unsigned, unsigned-signed}
 use Rattle.limits.specs.Limits.{dimOk}
 use Rattle.limits.proofs.Dimensions.{by-dims}
 use Rattle.grammar.proofs.Stands.{Stands, stands-first, stands-right}
-use Rattle.text_views.specs.TextViews.{turnAt, originAt}
-use Rattle.text_views.specs.declared.Turn.the-variants as turns
+use Rattle.turns.specs.Turns.{turnAt}
+use Rattle.text_views.specs.TextViews.{originAt}
+use Rattle.turns.specs.declared.Turn.the-variants as turns
 use Rattle.text_views.specs.declared.Origin.the-variants as origins
 use Rattle.fields.specs.Words.{longs}
 use Rattle.text_fields.specs.Words.{turnLongs, originOf, numberWords}
@@ -74,11 +75,11 @@ module _ (dim : ℕ) (d : dimOk dim ≡ true) (ws : List ℕ) (at : ℕ) (t : Te
   signed-read z m n l e q = ap signed (place m n q ∙ sym e) ∙ signed-unsigned z (l .0)
 
   pub numbers-read : Longs (t .x ∷ t .y ∷ t .z ∷ []) → LongsAt ws (at + 19) (numberLongs dim t) →
-      (longAt ws (at + 19) ≡ t .length) × ((longAt ws (at + 21) ≡ t .height) × ((turnAt dim ws at ≡ turnRead dim t) × (originAt dim ws at ≡ originRead dim t)))
+      (longAt ws (at + 19) ≡ t .length) × ((longAt ws (at + 21) ≡ t .height) × ((turnAt dim ws (at + 23) ≡ turnRead dim t) × (originAt dim ws at ≡ originRead dim t)))
   unfolding turnAt originAt
   numbers-read l =
       by-dims (λ m. LongsAt ws (at + 19) (numberLongs m t) →
-      (longAt ws (at + 19) ≡ t .length) × ((longAt ws (at + 21) ≡ t .height) × ((turnAt m ws at ≡ turnRead m t) × (originAt m ws at ≡ originRead m t)))) dim d
+      (longAt ws (at + 19) ≡ t .length) × ((longAt ws (at + 21) ≡ t .height) × ((turnAt m ws (at + 23) ≡ turnRead m t) × (originAt m ws at ≡ originRead m t)))) dim d
       (λ n.
       let a = n .1 .1 in (
         sym (n .0),
@@ -98,8 +99,8 @@ module _ (dim : ℕ) (d : dimOk dim ≡ true) (ws : List ℕ) (at : ℕ) (t : Te
         (
           place (at + 21) (at + 19 + 2) (omega arith) ∙ sym (n .1 .0),
           (
-            solid-turn (place (at + 23) (at + 19 + 2 + 2) (omega arith) ∙ sym (a .0)) (place (at + 25) (at + 19 + 2 + 2 + 2) (omega arith) ∙ sym (a .1 .0))
-                (place (at + 27) (at + 19 + 2 + 2 + 2 + 2) (omega arith) ∙ sym (a .1 .1 .0)) (place (at + 29) (at + 19 + 2 + 2 + 2 + 2 + 2) (omega arith) ∙ sym (a .1 .1 .1 .0)),
+            solid-turn (place (at + 23) (at + 19 + 2 + 2) (omega arith) ∙ sym (a .0)) (place (at + 23 + 2) (at + 19 + 2 + 2 + 2) (omega arith) ∙ sym (a .1 .0))
+                (place (at + 23 + 4) (at + 19 + 2 + 2 + 2 + 2) (omega arith) ∙ sym (a .1 .1 .0)) (place (at + 23 + 6) (at + 19 + 2 + 2 + 2 + 2 + 2) (omega arith) ∙ sym (a .1 .1 .1 .0)),
             solid-origin (signed-read (t .x) (at + 31) (at + 19 + 2 + 2 + 2 + 2 + 2 + 2) (l .0, tt) (b .0) (omega arith))
                 (signed-read (t .y) (at + 33) (at + 19 + 2 + 2 + 2 + 2 + 2 + 2 + 2) (l .1 .0, tt) (b .1 .0) (omega arith))
                 (signed-read (t .z) (at + 35) (at + 19 + 2 + 2 + 2 + 2 + 2 + 2 + 2 + 2) (l .1 .1 .0, tt) (b .1 .1 .0) (omega arith)),
@@ -111,11 +112,11 @@ module _ (dim : ℕ) (d : dimOk dim ≡ true) (ws : List ℕ) (at : ℕ) (t : Te
   unsigned-read : Below 65536 ws → (z : ℤ) (m n : ℕ) → signed (longAt ws m) ≡ z → m ≡ n → unsigned z ≡ longAt ws n
   unsigned-read b z m n e q = ap unsigned (sym e) ∙ unsigned-signed (longAt ws m) (long-small ws b m) ∙ place m n q
 
-  pub read-numbers : Below 65536 ws → longAt ws (at + 19) ≡ t .length → longAt ws (at + 21) ≡ t .height → turnAt dim ws at ≡ turnRead dim t → originAt dim ws at ≡ originRead dim t →
+  pub read-numbers : Below 65536 ws → longAt ws (at + 19) ≡ t .length → longAt ws (at + 21) ≡ t .height → turnAt dim ws (at + 23) ≡ turnRead dim t → originAt dim ws at ≡ originRead dim t →
       LongsAt ws (at + 19) (numberLongs dim t)
   unfolding turnAt originAt
   read-numbers b l h =
-      by-dims (λ m. turnAt m ws at ≡ turnRead m t → originAt m ws at ≡ originRead m t → LongsAt ws (at + 19) (numberLongs m t)) dim d
+      by-dims (λ m. turnAt m ws (at + 23) ≡ turnRead m t → originAt m ws at ≡ originRead m t → LongsAt ws (at + 19) (numberLongs m t)) dim d
       (λ u v.
       let first : longAt ws (at + 23) ≡ t .first = cc in
       let x : signed (longAt ws (at + 25)) ≡ t .x = cc in
@@ -134,9 +135,9 @@ module _ (dim : ℕ) (d : dimOk dim ≡ true) (ws : List ℕ) (at : ℕ) (t : Te
       ))
       (λ u v.
       let first : longAt ws (at + 23) ≡ t .first = cc in
-      let second : longAt ws (at + 25) ≡ t .second = cc in
-      let third : longAt ws (at + 27) ≡ t .third = cc in
-      let fourth : longAt ws (at + 29) ≡ t .fourth = cc in
+      let second : longAt ws (at + 23 + 2) ≡ t .second = cc in
+      let third : longAt ws (at + 23 + 4) ≡ t .third = cc in
+      let fourth : longAt ws (at + 23 + 6) ≡ t .fourth = cc in
       let x : signed (longAt ws (at + 31)) ≡ t .x = cc in
       let y : signed (longAt ws (at + 33)) ≡ t .y = cc in
       let z : signed (longAt ws (at + 35)) ≡ t .z = cc in (
@@ -146,11 +147,11 @@ module _ (dim : ℕ) (d : dimOk dim ≡ true) (ws : List ℕ) (at : ℕ) (t : Te
           (
             sym first ∙ place (at + 23) (at + 19 + 2 + 2) (omega arith),
             (
-              sym second ∙ place (at + 25) (at + 19 + 2 + 2 + 2) (omega arith),
+              sym second ∙ place (at + 23 + 2) (at + 19 + 2 + 2 + 2) (omega arith),
               (
-                sym third ∙ place (at + 27) (at + 19 + 2 + 2 + 2 + 2) (omega arith),
+                sym third ∙ place (at + 23 + 4) (at + 19 + 2 + 2 + 2 + 2) (omega arith),
                 (
-                  sym fourth ∙ place (at + 29) (at + 19 + 2 + 2 + 2 + 2 + 2) (omega arith),
+                  sym fourth ∙ place (at + 23 + 6) (at + 19 + 2 + 2 + 2 + 2 + 2) (omega arith),
                   (
                     unsigned-read b (t .x) (at + 31) (at + 19 + 2 + 2 + 2 + 2 + 2 + 2) x (omega arith),
                     (

@@ -23,8 +23,8 @@ use Rattle.places.specs.Extents.{extentBytes}
 use Rattle.points_linkages.specs.Points.{pointOf}
 use Rattle.points_linkages.specs.Coordinates.{pointsFrom}
 use Rattle.text_views.specs.TextViews.{textOf, characterBytes, fieldOf}
-use Rattle.text_views.specs.declared.Turn.{Turn}
-use Rattle.text_views.specs.declared.Turn.the-variants as turns
+use Rattle.turns.specs.declared.Turn.{Turn}
+use Rattle.turns.specs.declared.Turn.the-variants as turns
 use Rattle.text_views.specs.declared.Origin.{Origin}
 use Rattle.text_views.specs.declared.Origin.the-variants as origins
 use Rattle.text_views.specs.declared.Odd.{Odd}

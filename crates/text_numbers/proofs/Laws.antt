@@ -7,19 +7,15 @@ use lib.IntN.{ℤ}
 use lib.ListN.{length, length-append}
 use lib.Seq.{sets}
 use borrow.Author.Tests.{le-leb, lt-leb}
-use Rattle.text_views.specs.declared.Turn.{Turn}
-use Rattle.text_views.specs.declared.Turn.the-variants as turns
+use Rattle.turns.specs.Turns.{turnNumbers}
+use Rattle.turns.proofs.Laws.{turn-four}
 use Rattle.text_views.specs.declared.Origin.{Origin}
 use Rattle.text_views.specs.declared.Origin.the-variants as origins
 use Rattle.text_views.specs.declared.Text.{Text}
 use Rattle.answers.proofs.Besides.{put-then}
-use Rattle.text_numbers.specs.Numbers.{turnNumbers, originNumbers, firstNumbers, lastNumbers, textNumbers, putText}
+use Rattle.text_numbers.specs.Numbers.{originNumbers, firstNumbers, lastNumbers, textNumbers, putText}
 
 -- how many numbers each part has, and all of them
-pub turn-four : (x : Turn) → length (turnNumbers x) ≡ 4
-turn-four (turns.Flat rotation) = refl
-turn-four (turns.Solid a b c d) = refl
-
 pub origin-three : (x : Origin) → length (originNumbers x) ≡ 3
 origin-three (origins.Flat x y) = refl
 origin-three (origins.Solid x y z) = refl

@@ -7,18 +7,12 @@ use lib.ListN.{length}
 use lib.Seq.{sets}
 use lib.Dec.{leb}
 use lib.IntN.{ℤ, pos, negsuc}
-use Rattle.text_views.specs.declared.Turn.{Turn}
-use Rattle.text_views.specs.declared.Turn.the-variants as turns
+use Rattle.turns.specs.Turns.{turnNumbers}
 use Rattle.text_views.specs.declared.Origin.{Origin}
 use Rattle.text_views.specs.declared.Origin.the-variants as origins
 use Rattle.text_views.specs.declared.Odd.{Odd}
 use Rattle.text_views.specs.declared.Odd.the-variants as odds
 use Rattle.text_views.specs.declared.Text.{Text}
-
--- in 2D the rotation and zeros
-abbrev pub turnNumbers : Turn → List ℤ
-turnNumbers (turns.Flat rotation) = pos rotation ∷ pos 0 ∷ pos 0 ∷ pos 0 ∷ []
-turnNumbers (turns.Solid a b c d) = pos a ∷ pos b ∷ pos c ∷ pos d ∷ []
 
 -- z is 0 in 2D
 abbrev pub originNumbers : Origin → List ℤ

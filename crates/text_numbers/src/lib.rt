@@ -3,26 +3,10 @@ ghost use mathlib.Core.Path.{_≡_};
 ghost use Prim.Native.Nat.{_+_, _≤_};
 ghost use lib.ListN.{length};
 ghost use lib.Seq.{sets};
-ghost use Rattle.text_numbers.specs.Numbers.{turnNumbers, originNumbers, oddNumber, firstNumbers, lastNumbers, putText};
+ghost use Rattle.text_numbers.specs.Numbers.{originNumbers, oddNumber, firstNumbers, lastNumbers, putText};
 use text_views::Odd;
 use text_views::Origin;
 use text_views::Text;
-use text_views::Turn;
-
-// How the text is turned.
-fn turn_numbers(turn: Turn) -> [i64; 4]
-    ensures { λ r. ⌜ r ≡ turnNumbers turn ⌝ }
-{
-    match turn {
-        Turn::Flat { rotation } => [rotation as i64, 0, 0, 0],
-        Turn::Solid {
-            first,
-            second,
-            third,
-            fourth,
-        } => [first as i64, second as i64, third as i64, fourth as i64],
-    }
-}
 
 // The origin.
 fn origin_numbers(origin: Origin) -> [i64; 3]
@@ -96,7 +80,7 @@ pub fn put_text(out: &mut [i64], at: usize, start: u32, text: Text)
     let turn = text.turn;
     let origin = text.origin;
     put_numbers(out, at, &first_numbers(text));
-    put_numbers(out, at + 4, &turn_numbers(turn));
+    put_numbers(out, at + 4, &turns::turn_numbers(turn));
     put_numbers(out, at + 8, &origin_numbers(origin));
     put_numbers(out, at + 11, &last_numbers(start, text));
 }

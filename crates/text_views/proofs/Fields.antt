@@ -13,9 +13,9 @@ use Rattle.texts.specs.Texts.{byteAt, charactersIn, fieldsIn, countsAt, fieldBy
 use Rattle.headers.specs.Header.{typeAt}
 use Rattle.elements.specs.Rules.{textFieldsOk}
 use Rattle.text_views.specs.declared.FieldView.the-variants as field
-use Rattle.text_views.specs.TextViews.{fieldJustification, fieldAt, fieldIn, fieldOf}
+use Rattle.text_views.specs.TextViews.{isText, fieldJustification, fieldAt, fieldIn, fieldOf}
 use Rattle.text_views.specs.Fields.{Within, FieldsWithin}
-use Rattle.text_views.proofs.Ways.{Way, nowhere, another, a-text, way}
+use Rattle.places.proofs.OfType.{Way, nowhere, another, of-type, way}
 use Rattle.text_views.proofs.Inside.{characters-held}
 
 -- of fields that pass their test, field k does
@@ -58,14 +58,14 @@ fields-within dim s at k start c first size justification q f =
     let counts = countsAt dim (words s) at in
     let ok = text-passes dim (typeAt (words s) at) (words s) at (held .text) (held .ruled .checked .fields) in
     go (ltb k (fieldsIn counts)) refl (held .counted) ok
-    (way field.Refused dim s at (cond (ltb k (fieldsIn counts)) (fieldAt dim (words s) at k) (field.Refused 13 0)) (field.Read first size justification) f)
+    (way isText field.Refused dim s at (cond (ltb k (fieldsIn counts)) (fieldAt dim (words s) at k) (field.Refused 13 0)) (field.Read first size justification) f)
   where
     go : (b : Bool) → ltb k (fieldsIn (countsAt dim (words s) at)) ≡ b → c ≡ charactersIn (countsAt dim (words s) at) → fieldsOk dim (words s) at ≡ true →
-        Way field.Refused dim s at (cond b (fieldAt dim (words s) at k) (field.Refused 13 0)) (field.Read first size justification) → Within c first size justification
+        Way isText field.Refused dim s at (cond b (fieldAt dim (words s) at k) (field.Refused 13 0)) (field.Read first size justification) → Within c first size justification
     go b t counted ok (nowhere n p e g) = let z : _≡_ {A = ℕ} 0 1 = cc in absurd (omega arith)
     go b t counted ok (another end depth above e h g) = let z : _≡_ {A = ℕ} 0 1 = cc in absurd (omega arith)
-    go false t counted ok (a-text end depth above e h g) = let z : _≡_ {A = ℕ} 0 1 = cc in absurd (omega arith)
-    go true t counted ok (a-text end depth above e h g) =
+    go false t counted ok (of-type end depth above e h g) = let z : _≡_ {A = ℕ} 0 1 = cc in absurd (omega arith)
+    go true t counted ok (of-type end depth above e h g) =
         let counts = countsAt dim (words s) at in
         let i = fieldByte dim counts k in
         let p = passed (charactersIn counts) (byteAt (words s) at i) (byteAt (words s) at (i + 1)) (byteAt (words s) at (i + 2))

@@ -1,49 +1,21 @@
 -- A text of an accepted file passes the tests of one element, so its own words, which lie in the file, hold its characters.
 use Prim.Native.Nat.{ℕ, _+_, _*_, _-_, _≤_}
-use mathlib.Core.Path.{_≡_, refl, sym, _∙_}
+use mathlib.Core.Path.{_≡_}
 use mathlib.Core.List.{List}
-use mathlib.Core.Option.{Option, none, some}
 use native.Mathlib.Omega.{arith}
 use lib.ListN.{length}
-use borrow.Author.Tests.{leb-true}
+use borrow.Author.Tests.{leb-true, eqb-true}
 use Rattle.words.specs.Words.{words, wordAt}
 use Rattle.words.proofs.Laws.{length-words}
 use Rattle.texts.specs.Texts.{countsAt, textPart, charactersIn, firstCharacter}
 use Rattle.kinds.specs.Kinds.{fixedPart, sizingWord}
 use Rattle.headers.specs.Header.{typeAt, sizeAt}
 use Rattle.elements.proofs.Laws.{fixed-least}
-use Rattle.files.specs.Judge.{judgeOf}
-use Rattle.files.specs.Spots.{Spot, spotsOf, spotIn}
-use Rattle.files.specs.declared.Judged.{Judged}
-use Rattle.files.specs.declared.Judged.the-variants.{Accepted, Refused}
 use Rattle.grammar.proofs.Ruled.{Ruled}
-use Rattle.places.specs.Places.{foundBy, spottedAt}
-use Rattle.places.specs.declared.Above.{Above}
-use Rattle.places.specs.declared.Spotted.the-variants as spotted
-use Rattle.places.proofs.Places.{spot-rules, spotted-refused, spotted-found}
+use Rattle.places.proofs.Places.{spot-rules}
 use Rattle.text_views.specs.declared.Characters.the-variants as part
-use Rattle.text_views.specs.TextViews.{charactersAt, charactersOf}
-use Rattle.text_views.proofs.Ways.{Way, nowhere, another, a-text, way}
-
--- an element that is found: the file is accepted, and it is one of its elements
-pub record Found (dim : ℕ) (s : List ℕ) (at : ℕ) : Type 0 where
-  pub elements : ℕ
-  pub deepest : ℕ
-  pub marker : ℕ
-  pub judged : judgeOf dim s ≡ Accepted elements deepest marker
-  pub spot : Spot
-  pub is : spotIn (spotsOf dim (words s)) at ≡ some spot
-
-found-there : (dim : ℕ) (s : List ℕ) (at end depth : ℕ) (above : Above) → spottedAt dim s at ≡ spotted.At end depth above → Found dim s at
-found-there dim s at end depth above q = go (judgeOf dim s) refl
-  where
-    found : (e d m : ℕ) → judgeOf dim s ≡ Accepted e d m → (o : Option Spot) → spotIn (spotsOf dim (words s)) at ≡ o → foundBy o ≡ spotted.At end depth above → Found dim s at
-    found e d m j none i f = let z : _≡_ {A = ℕ} 0 1 = cc in absurd (omega arith)
-    found e d m j (some x) i f = record { elements = e; deepest = d; marker = m; judged = j; spot = x; is = i }
-
-    go : (v : Judged) → judgeOf dim s ≡ v → Found dim s at
-    go (Refused n r) j = let z : _≡_ {A = ℕ} 0 1 = cc (spotted-refused dim s at n r j) in absurd (omega arith)
-    go (Accepted e d m) j = found e d m j (spotIn (spotsOf dim (words s)) at) refl (sym (spotted-found dim s at e d m j) ∙ q)
+use Rattle.text_views.specs.TextViews.{isText, charactersAt, charactersOf}
+use Rattle.places.proofs.OfType.{Found, found-there, Way, nowhere, another, of-type, way}
 
 -- the fixed part of a text
 text-part : (dim t : ℕ) (ws : List ℕ) (at n : ℕ) → t ≡ 17 → fixedPart dim t (wordAt ws (at + sizingWord dim t)) ≤ n → textPart dim (countsAt dim ws at) ≤ n
@@ -62,13 +34,14 @@ pub record Held (dim : ℕ) (s : List ℕ) (at start count : ℕ) : Type 0 where
 
 pub characters-held : (dim : ℕ) (s : List ℕ) (at start count : ℕ) → charactersOf dim s at ≡ part.At start count → Held dim s at start count
 unfolding charactersOf charactersAt textPart
-characters-held dim s at start count q = go (way part.Refused dim s at (part.At (2 * at + firstCharacter dim) (charactersIn (countsAt dim (words s) at))) (part.At start count) q)
+characters-held dim s at start count q = go (way isText part.Refused dim s at (part.At (2 * at + firstCharacter dim) (charactersIn (countsAt dim (words s) at))) (part.At start count) q)
   where
-    go : Way part.Refused dim s at (part.At (2 * at + firstCharacter dim) (charactersIn (countsAt dim (words s) at))) (part.At start count) → Held dim s at start count
+    go : Way isText part.Refused dim s at (part.At (2 * at + firstCharacter dim) (charactersIn (countsAt dim (words s) at))) (part.At start count) → Held dim s at start count
     go (nowhere n p e f) = let z : _≡_ {A = ℕ} 0 1 = cc in absurd (omega arith)
     go (another end depth above e h f) = let z : _≡_ {A = ℕ} 0 1 = cc in absurd (omega arith)
-    go (a-text end depth above e h f) =
+    go (of-type end depth above e g f) =
         let ws = words s in
+        let h = eqb-true (typeAt ws at) 17 g in
         let there = found-there dim s at end depth above e in
         let r = spot-rules dim s (there .elements) (there .deepest) (there .marker) (there .judged) at (there .spot) (there .is) in
         let a : start ≡ 2 * at + firstCharacter dim = cc in

@@ -1,18 +1,15 @@
 -- What is read of a text (RULES.md, "Text"): ws are the file's words, at is the text's place.
 use Prim.Native.Nat.{ℕ, _+_, _*_, _/_, _%_}
 use mathlib.Core.List.{List, []}
-use mathlib.Core.Bool.{cond}
+use mathlib.Core.Bool.{Bool, cond}
 use lib.ListN.{take, drop}
 use lib.Dec.{eqb, ltb}
 use lib.IntN.{ℤ, pos, negsuc}
 use Rattle.words.specs.Words.{words, wordAt, longAt, signed}
 use Rattle.texts.specs.Texts.{byteAt, charactersIn, fieldsIn, textBytes, countsAt, firstCharacter, fieldByte}
-use Rattle.headers.specs.Header.{typeAt}
+use Rattle.turns.specs.Turns.{turnAt}
 use Rattle.places.specs.Places.{spottedAt}
-use Rattle.places.specs.declared.Spotted.{Spotted}
-use Rattle.places.specs.declared.Spotted.the-variants as spotted
-use Rattle.text_views.specs.declared.Turn.{Turn}
-use Rattle.text_views.specs.declared.Turn.the-variants as turns
+use Rattle.places.specs.OfType.{ofType, ofPlace}
 use Rattle.text_views.specs.declared.Origin.{Origin}
 use Rattle.text_views.specs.declared.Origin.the-variants as origins
 use Rattle.text_views.specs.declared.Odd.{Odd}
@@ -27,13 +24,7 @@ use Rattle.text_views.specs.declared.FieldView.the-variants as field
 
 ---- the numbers of a text
 
--- from word 23 on: in 2D the rotation, in 3D four longs; unsigned
-unfoldable pub turnAt : ℕ → List ℕ → ℕ → Turn
-turnAt dim ws at =
-    cond (eqb dim 2) (turns.Flat (longAt ws (at + 23)))
-    (turns.Solid (longAt ws (at + 23)) (longAt ws (at + 25)) (longAt ws (at + 27)) (longAt ws (at + 29)))
-
--- behind it the origin, signed
+-- behind the turn, which stands from word 23 on, the origin, signed
 unfoldable pub originAt : ℕ → List ℕ → ℕ → Origin
 originAt dim ws at =
     cond (eqb dim 2) (origins.Flat (signed (longAt ws (at + 25))) (signed (longAt ws (at + 27))))
@@ -52,7 +43,7 @@ textAt dim ws at = record {
   justification = wordAt ws (at + 18) / 256;
   length = longAt ws (at + 19);
   height = longAt ws (at + 21);
-  turn = turnAt dim ws at;
+  turn = turnAt dim ws (at + 23);
   origin = originAt dim ws at;
   characters = charactersIn (countsAt dim ws at);
   fields = fieldsIn (countsAt dim ws at);
@@ -73,8 +64,11 @@ fieldAt dim ws at k =
 
 ---- of the element at a place of a judged file: 6 at it where it is no text
 
+abbrev pub isText : ℕ → Bool
+isText t = eqb t 17
+
 abbrev pub ofText : {A : Type 0} → (ℕ → ℕ → A) → List ℕ → ℕ → A → A
-ofText refused ws at read = cond (eqb (typeAt ws at) 17) read (refused 6 at)
+ofText = ofType isText
 
 unfoldable pub textIn : ℕ → List ℕ → ℕ → TextView
 textIn dim ws at = ofText view.Refused ws at (view.Read (textAt dim ws at))
@@ -89,10 +83,6 @@ fieldIn dim ws at k =
     ofText field.Refused ws at (cond (ltb k (fieldsIn (countsAt dim ws at))) (fieldAt dim ws at k) (field.Refused 13 0))
 
 ---- the calls: 1, the file's own refusals, 13 where no element starts there, then these
-
-abbrev pub ofPlace : {A : Type 0} → (ℕ → ℕ → A) → Spotted → A → A
-ofPlace refused (spotted.At end depth above) read = read
-ofPlace refused (spotted.Refused n p) read = refused n p
 
 unfoldable pub textOf : ℕ → List ℕ → ℕ → TextView
 textOf dim s at = ofPlace view.Refused (spottedAt dim s at) (textIn dim (words s) at)

@@ -5,22 +5,10 @@ ghost use Prim.Native.Nat.{_/_, _<_};
 ghost use lib.ListN.{length};
 ghost use Rattle.words.specs.Words.{words};
 ghost use Rattle.texts.specs.Texts.{countsAt};
-ghost use Rattle.text_views.specs.TextViews.{turnAt, originAt, oddAt, textAt, fieldJustification, textIn, charactersAt, fieldIn, textOf, charactersOf, characterBytes, fieldOf};
+ghost use Rattle.text_views.specs.TextViews.{originAt, oddAt, textAt, fieldJustification, textIn, charactersAt, fieldIn, textOf, charactersOf, characterBytes, fieldOf};
 use places::Spotted;
 use places::spotted_at;
-
-// How a text is turned: in 2D by its rotation, in 3D by four longs, in their stored order. All are unsigned.
-pub enum Turn {
-    Flat {
-        rotation: u32,
-    },
-    Solid {
-        first: u32,
-        second: u32,
-        third: u32,
-        fourth: u32,
-    },
-}
+use turns::Turn;
 
 pub enum Origin {
     Flat { x: i64, y: i64 },
@@ -71,23 +59,6 @@ pub enum FieldView {
     },
 }
 
-// How the text at a place is turned.
-fn turn_at(file: &[u8], dim: usize, at: usize) -> Turn
-    requires { ⌜ at < length (now file) / 2 ⌝ }
-    ensures { λ r. ⌜ r ≡ turnAt dim (words (now (file .entry))) at ⌝ }
-{
-    let first = words::long(file, at + 23) as u32;
-    if dim == 2 {
-        return Turn::Flat { rotation: first };
-    }
-    Turn::Solid {
-        first,
-        second: words::long(file, at + 25) as u32,
-        third: words::long(file, at + 27) as u32,
-        fourth: words::long(file, at + 29) as u32,
-    }
-}
-
 // The origin of the text at a place.
 fn origin_at(file: &[u8], dim: usize, at: usize) -> Origin
     requires { ⌜ at < length (now file) / 2 ⌝ }
@@ -133,7 +104,7 @@ fn text_from(file: &[u8], dim: usize, at: usize) -> Text
         justification: (style / 256) as u8,
         length: words::long(file, at + 19) as u32,
         height: words::long(file, at + 21) as u32,
-        turn: turn_at(file, dim, at),
+        turn: turns::turn_at(file, dim, at + 23),
         origin: origin_at(file, dim, at),
         characters: (counts % 256) as u8,
         fields: (counts / 256) as u8,

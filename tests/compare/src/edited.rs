@@ -8,11 +8,11 @@ pub struct Edited {
     /// Calls made, by which call it is: mark, rename, insert, remove, undo.
     made: [[u64; 5]; 2],
     /// Calls refused, by which call and by number, but for the file's own and a piece's own refusals.
-    refused: [[[u64; 21]; 5]; 2],
+    refused: [[[u64; 22]; 5]; 2],
     /// The file's own refusals by number.
-    own: [[u64; 21]; 2],
+    own: [[u64; 22]; 2],
     /// The piece's own by number.
-    piece: [[u64; 21]; 2],
+    piece: [[u64; 22]; 2],
     /// Undos made and refused with 19, by the last record's kind; 0 for all others.
     undone: [u64; 5],
     bad: [u64; 5],
@@ -39,7 +39,7 @@ const NUMBERS: [&[usize]; 5] =
 
 /// A number that judging can answer but 1.
 pub fn judging(number: usize) -> bool {
-    (2..=12).contains(&number) || number == 20
+    (2..=12).contains(&number) || number == 20 || number == 21
 }
 
 impl Edited {
@@ -90,7 +90,7 @@ impl Edited {
                     assert!(self.refused[d][c][n] > 0, "call {c} refused by {n}, {}D", d + 2);
                 }
             }
-            for n in (2..=20).filter(|&n| judging(n)) {
+            for n in (2..=21).filter(|&n| judging(n)) {
                 assert!(self.own[d][n] > 0, "file's own {n}, {}D", d + 2);
                 assert!(self.piece[d][n] > 0 || n == 2, "piece's own {n}, {}D", d + 2);
             }
@@ -114,7 +114,7 @@ impl Edited {
         };
         let [made, indexed, full] =
             [self.made, self.indexed, self.full].map(|numbers| numbers.iter().flatten().sum::<u64>());
-        let each: Vec<String> = (1..=20).map(|n| format!("{n}: {}", sum(n))).collect();
+        let each: Vec<String> = (1..=21).map(|n| format!("{n}: {}", sum(n))).collect();
         format!("made {made}, {indexed} with an index; refused by {}; with an index by 15: {full}", each.join(", "))
     }
 }

@@ -63,7 +63,7 @@ pub fn numbers(random: &mut Random, runs: &mut Runs, times: u64) {
     for dim in [2, 3] {
         for depth in 0..=9 {
             for _ in 0..times {
-                for number in (1..=12).chain([20]) {
+                for number in (1..=12).chain([20, 21]) {
                     let a = aimed(random, dim, number, depth);
                     refused(random, runs, &a);
                     let stands = match number {

@@ -26,6 +26,9 @@ pub const MOST_COORDINATES: usize = 70_000;
 /// The longest slice for views or points: all views of the most elements.
 pub const MOST_NUMBERS: usize = 32 * 262_144;
 
+/// The longest slice for floats: those of the most ellipses, and some more.
+pub const MOST_FLOATS: usize = 5 * 15_000;
+
 /// A guard for each argument of a call.
 struct Lending {
     file: Guard,
@@ -41,6 +44,7 @@ struct Lending {
     moved_from: Guard,
     moved_to: Guard,
     numbers: Guard,
+    floats: Guard,
     out: Guard,
     side: Cell<Side>,
     read_only: Cell<bool>,
@@ -62,6 +66,7 @@ thread_local! {
         moved_from: Guard::new(LONGEST_STORED),
         moved_to: Guard::new(LONGEST_STORED),
         numbers: Guard::new(8 * MOST_NUMBERS),
+        floats: Guard::new(8 * MOST_FLOATS),
         out: Guard::new(4096),
         side: const { Cell::new(Side::Behind) },
         read_only: const { Cell::new(false) },
@@ -122,6 +127,18 @@ impl Mark for i64 {
     const MARK: i64 = -0x5a5a_5a5a_5a5a;
 }
 
+/// The bits of a float that the library does not write by itself: not a number, and of those not the one that a machine makes.
+const FLOAT_MARK: u64 = 0xfff4_5a5a_5a5a_5a5a;
+
+/// Lends a slice of floats by their bits, so that a float that is not a number is held to its bits too.
+fn floats_lent<R>(
+    l: &Lending,
+    bits: &mut [u64],
+    call: impl FnOnce(&mut [f64]) -> Result<R, Refused>,
+) -> Result<R, Refused> {
+    lent_to_write(l, &l.floats, bits, |b| call(unsafe { from_raw_parts_mut(b.as_mut_ptr().cast(), b.len()) }))
+}
+
 impl Mark for u8 {
     const MARK: u8 = 0xa5;
 }
@@ -145,7 +162,7 @@ fn returned(r: usize) -> Result<(), Refused> {
         return Ok(());
     }
     let (number, detail) = (r % 256, r / 256);
-    assert!((1..=20).contains(&number) || number == 22, "{r} is no refusal");
+    assert!((1..=22).contains(&number), "{r} is no refusal");
     Err(Refused { number: number as u32, detail: detail as u64 })
 }
 
@@ -171,6 +188,18 @@ fn short<T: Mark, const M: usize>(l: &Lending, call: impl FnOnce(&mut [T]) -> us
     assert_eq!(number, 1, "{M} numbers are too few");
     assert_eq!(unsafe { from_raw_parts(black_box(at), M) }, [T::MARK; M]);
     returned(number)
+}
+
+/// The same for slices of numbers and of floats of which one is too short.
+fn short_both(l: &Lending, rooms: (usize, usize), call: impl FnOnce(&mut [i64], &mut [f64]) -> usize) -> Result<(), Refused> {
+    let (mut numbers, mut floats) = (vec![i64::MARK; rooms.0], vec![FLOAT_MARK; rooms.1]);
+    lent_to_write(l, &l.numbers, &mut numbers, |n| {
+        floats_lent(l, &mut floats, |g| {
+            let number = call(n, g);
+            assert_eq!(number, 1, "{rooms:?} are too few");
+            returned(number)
+        })
+    })
 }
 
 /// A call on a file alone, with an answer of N numbers.
@@ -314,6 +343,47 @@ pub fn texts(file: &[u8], dim: u64, k: u64, room: usize) -> Result<(u64, Vec<i64
         |l, n| lent(l, &l.file, file, |f| answer(l, |o| raw::texts(f, dim as usize, k as usize, n, o))),
     )?;
     Ok((out[0] as u64, numbers))
+}
+
+/// Lends slices of so many marked numbers and floats. Gives the answer, the numbers and the bits of the floats; those behind the
+/// `written` ones must stay.
+fn filled_both<A>(
+    rooms: (usize, usize),
+    written: impl Fn(&A) -> (usize, usize),
+    call: impl FnOnce(&Lending, &mut [i64], &mut [f64]) -> Result<A, Refused>,
+) -> Result<(A, Vec<i64>, Vec<u64>), Refusal> {
+    let (mut numbers, mut floats) = (vec![i64::MARK; rooms.0], vec![FLOAT_MARK; rooms.1]);
+    let out = LENDING.with(|l| {
+        lent_to_write(l, &l.numbers, &mut numbers, |n| floats_lent(l, &mut floats, |g| call(l, n, g)))
+    })?;
+    let (numbers_written, floats_written) = written(&out);
+    let behind = numbers.split_off(numbers_written);
+    assert!(behind.iter().all(|&number| number == i64::MARK), "what stands behind the numbers stays");
+    let behind = floats.split_off(floats_written);
+    assert!(behind.iter().all(|&float| float == FLOAT_MARK), "what stands behind the floats stays");
+    Ok((out, numbers, floats))
+}
+
+/// The 7 numbers and the bits of the 5 floats of an ellipse or an arc.
+pub fn curve(file: &[u8], dim: u64, place: u64) -> Result<([i64; 7], [u64; 5]), Refusal> {
+    let spare = LENDING.with(|l| l.spare.replace((l.spare.get() + 1) % 3));
+    let (_, numbers, floats) = filled_both(
+        (7 + spare, 5 + spare),
+        |_| (7, 5),
+        |l, n, g| lent(l, &l.file, file, |f| returned(raw::curve(f, dim as usize, place as usize, n, g))),
+    )?;
+    Ok((numbers.try_into().expect("7 numbers"), floats.try_into().expect("5 floats")))
+}
+
+/// The next element number, and the numbers and the bits of the floats of the ellipses and arcs from element number k on, in slices of
+/// so many numbers and floats.
+pub fn curves(file: &[u8], dim: u64, k: u64, rooms: (usize, usize)) -> Result<(u64, Vec<i64>, Vec<u64>), Refusal> {
+    let (out, numbers, floats) = filled_both::<[usize; 2]>(
+        rooms,
+        |out| (9 * out[1], 5 * out[1]),
+        |l, n, g| lent(l, &l.file, file, |f| answer(l, |o| raw::curves(f, dim as usize, k as usize, n, g, o))),
+    )?;
+    Ok((out[0] as u64, numbers, floats))
 }
 
 /// Kind, header's place, place, payload words, and the used length before the record.
@@ -592,6 +662,11 @@ pub fn short_answers(file: &[u8]) {
                 lent_to_write(l, &l.numbers, &mut [7; 64], |n| short::<_, 1>(l, |o| raw::texts(f, 2, 0, n, o))),
                 lent_to_write(l, &l.numbers, &mut [7; 64], |n| short::<_, 0>(l, |o| raw::texts(f, 2, 0, n, o))),
                 text.lend(l, &mut [7; 60], |l, ask| short::<_, 0>(l, ask)),
+                short_both(l, (6, 5), |n, g| raw::curve(f, 2, 0, n, g)),
+                short_both(l, (7, 4), |n, g| raw::curve(f, 2, 0, n, g)),
+                short_both(l, (0, 0), |n, g| raw::curve(f, 2, 0, n, g)),
+                short_both(l, (18, 10), |n, g| short::<_, 1>(l, |o| raw::curves(f, 2, 0, n, g, o)).map_or(1, |()| 0)),
+                short_both(l, (18, 10), |n, g| short::<_, 0>(l, |o| raw::curves(f, 2, 0, n, g, o)).map_or(1, |()| 0)),
             ];
             assert!(refused.iter().all(Result::is_err));
         });

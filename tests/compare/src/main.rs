@@ -2,6 +2,7 @@
 //! `compare` is the gate's run; `compare FILES SEED` a run of any length.
 
 mod bindings;
+mod curves;
 mod damage;
 mod edited;
 mod files;
@@ -32,6 +33,8 @@ const STEPS: &[Step] = &[
     ("real files with each word changed and cut at each word", |random, runs, _| real::changed(random, runs)),
     ("real files with texts, each text by its table", |_, runs, _| real::texts(runs)),
     ("the same, damaged and cut", |random, runs, _| real::damaged_texts(random, runs)),
+    ("real files with ellipses and arcs, each by its table", |_, runs, _| real::curves(runs)),
+    ("the same, changed and cut", |random, runs, _| real::damaged_curves(random, runs)),
     ("listings of celllist and textlist", |random, _, _| program::run(random, 100)),
     ("answer slices that are too short stay", |_, _, _| library::short_answers(&[255, 255])),
     ("a stack of 256 KiB is enough", |_, _, _| damage::small_stack()),
@@ -47,6 +50,7 @@ const STEPS: &[Step] = &[
     ("limits of the writer of texts", |random, runs, _| text_writes::limits(random, runs)),
     ("written texts", |random, runs, wanted| text_writes::calls(random, runs, wanted / 8)),
     ("each number at each depth, and two faults in one element", |random, runs, _| files::numbers(random, runs, 50)),
+    ("ellipses and arcs, by floats of every kind", |random, runs, wanted| curves::directed(random, runs, wanted / 6)),
     ("cuts, and every place", |random, runs, _| files::cuts(random, runs, 200)),
     ("every part of small files, views, points and texts", |random, runs, _| whole::small(random, runs, 100)),
     ("the largest files in parts, views, points and texts", |random, runs, _| whole::largest(random, runs)),

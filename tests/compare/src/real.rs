@@ -1,5 +1,5 @@
 //! The real files of tests/real, each with the answer of its table, by both; and the same files changed and cut. Those of
-//! tests/real/texts have a table of their texts too.
+//! tests/real/texts have a table of their texts too, those of tests/real/curves one of their ellipses and arcs.
 
 use crate::bindings;
 use crate::library;
@@ -8,6 +8,7 @@ use crate::runs::Runs;
 use crate::sessions;
 use crate::whole;
 use reader::generate::{changes, Random};
+use reader::LinkageKind;
 
 const FOLDER: &str = concat!(env!("CARGO_MANIFEST_DIR"), "/../real");
 
@@ -129,26 +130,121 @@ pub fn texts(runs: &mut Runs) {
     assert!(checked > 600, "{checked}");
 }
 
+/// Every word from the first named one on changed, to a value that is drawn, and every such cut; every call on each.
+fn changed_and_cut(random: &mut Random, runs: &mut Runs, file: &[u8], dim: u64, first: usize) {
+    let mut copy = file.to_vec();
+    for i in first..file.len() / 2 {
+        let old = [copy[2 * i], copy[2 * i + 1]];
+        let new = random.pick(&changes_of(u16::from_le_bytes(old)));
+        copy[2 * i..2 * i + 2].copy_from_slice(&new.to_le_bytes());
+        let _ = runs.all(random, &copy, dim);
+        copy[2 * i..2 * i + 2].copy_from_slice(&old);
+        let _ = runs.all(random, &file[..2 * i], dim);
+    }
+}
+
 /// The files with texts damaged: every word from the first text on changed, to a value that is drawn, every such cut, and
 /// counts and fields changed; every call on each.
 pub fn damaged_texts(random: &mut Random, runs: &mut Runs) {
     let lines = lines_of("texts/TEXTS.tsv");
     for (name, dim, _, file) in table("texts/") {
         let first = lines.iter().find(|line| line[0] == name).map(|line| number(&line[1])).expect("a text");
+        changed_and_cut(random, runs, &file, dim, first as usize);
         let mut copy = file.clone();
-        for i in first as usize..file.len() / 2 {
-            let old = [copy[2 * i], copy[2 * i + 1]];
-            let new = random.pick(&changes_of(u16::from_le_bytes(old)));
-            copy[2 * i..2 * i + 2].copy_from_slice(&new.to_le_bytes());
-            let _ = runs.all(random, &copy, dim);
-            copy[2 * i..2 * i + 2].copy_from_slice(&old);
-            let _ = runs.all(random, &file[..2 * i], dim);
-        }
         for _ in 0..200 {
             changes::change_text(random, &mut copy, dim);
             let _ = runs.all(random, &copy, dim);
             copy.copy_from_slice(&file);
         }
+    }
+}
+
+/// The ellipse or the arc at a place as one line of the table has it: 7 numbers and the bits of 5 floats.
+fn curve_of(file: &[u8], dim: u64, line: &[String]) -> ([i64; 7], [u64; 5]) {
+    let [_, place, kind, depth, deleted, words, start, sweep, turn, floats, linkages] = line else { panic!("{line:?}") };
+    let mut numbers = vec![number(kind), number(start), number(sweep)];
+    numbers.extend(turn.split(',').map(number));
+    numbers.resize(7, 0);
+    let mut bits: Vec<u64> = floats.split(',').map(|float| u64::from_str_radix(float, 16).expect(float)).collect();
+    bits.resize(5, 0);
+    let wanted = (numbers.try_into().expect("7 numbers"), bits.try_into().expect("5 floats"));
+    let place = number(place) as u64;
+    assert_eq!(library::curve(file, dim, place), Ok(wanted), "{line:?}");
+    let view = library::view(file, dim, place).expect("an ellipse or an arc");
+    assert_eq!([view[2], view[3], view[4], view[5]], [kind, deleted, words, depth].map(|field| number(field)), "{line:?}");
+    let each = linkages.split(';').filter(|linkage| *linkage != "-");
+    let given: Vec<String> = (0..)
+        .map_while(|k| library::linkage(file, dim, place, k).ok())
+        .map(|linkage| format!("{}:{}:{}:{}", kind_of(linkage.kind), linkage.place, linkage.size, linkage.id))
+        .collect();
+    assert!(each.eq(given.iter().map(String::as_str)), "{line:?}");
+    wanted
+}
+
+/// A kind of linkages as the table names it.
+fn kind_of(kind: LinkageKind) -> &'static str {
+    match kind {
+        LinkageKind::User => "user",
+        LinkageKind::Other => "other",
+    }
+}
+
+/// The files with ellipses and arcs, by the library: the answers of their table, every ellipse and arc as the table of them has it and
+/// no others, also in parts, and 13 or 6 beside it.
+pub fn curves(runs: &mut Runs) {
+    let lines = lines_of("curves/CURVES.tsv");
+    let mut checked = 0;
+    for (name, dim, answer, file) in table("curves/") {
+        let judged = runs.judge(&file, dim);
+        let ours = match &judged {
+            Ok(j) => format!("accepted {} {} {}", j.elements, j.deepest, j.marker),
+            Err(r) => format!("refused {} {}", r.number, r.place),
+        };
+        assert_eq!(ours, answer, "{name}");
+        let own: Vec<_> = lines.iter().filter(|line| line[0] == name).collect();
+        let elements = match judged {
+            Ok(judged) => judged.elements,
+            Err(refusal) => {
+                assert!(own.is_empty(), "{name}");
+                assert_eq!(library::curve(&file, dim, refusal.place), Err(refusal.clone()), "{name}");
+                assert_eq!(library::curves(&file, dim, 0, (900, 500)), Err(refusal), "{name}");
+                continue;
+            }
+        };
+        let (mut numbers, mut floats) = (Vec::new(), Vec::new());
+        for line in &own {
+            let (longs, bits) = curve_of(&file, dim, line);
+            runs.curve(&file, dim, number(&line[1]) as u64);
+            numbers.extend([number(&line[1]), number(&line[4])]);
+            numbers.extend(longs);
+            floats.extend(bits);
+            let inside = library::curve(&file, dim, number(&line[1]) as u64 + 1).expect_err("no element starts there");
+            assert_eq!((inside.number, inside.place), (13, 0), "{line:?}");
+        }
+        let first = library::curve(&file, dim, 0).expect_err("a header of a design file");
+        assert_eq!((first.number, first.place), (6, 0), "{name}");
+        for rooms in [(9, 5), (9, 500), (900, 5), (26, 14), (100, 30), (9 * own.len(), 5 * own.len())] {
+            let (mut k, mut got) = (0, (Vec::new(), Vec::new()));
+            while k < elements {
+                let (next, some, more) = library::curves(&file, dim, k, rooms).expect("room for one");
+                assert!(some.len() / 9 <= rooms.0.min(9 * rooms.1 / 5) / 9 && next > k);
+                got.0.extend(some);
+                got.1.extend(more);
+                k = next;
+                runs.calls += 1;
+            }
+            assert!(got.0 == numbers && got.1 == floats, "{name}, {rooms:?}");
+        }
+        runs.calls += 3 * own.len() as u64;
+        checked += own.len();
+    }
+    assert!(checked > 700, "{checked}");
+}
+
+/// The last 150 words of the files with ellipses and arcs changed and cut.
+pub fn damaged_curves(random: &mut Random, runs: &mut Runs) {
+    for (_, dim, _, file) in table("curves/") {
+        changed_and_cut(random, runs, &file, dim, file.len() / 2 - 150);
     }
 }
 

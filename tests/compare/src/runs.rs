@@ -206,6 +206,7 @@ impl Runs {
             "characters at {p}, {dim}D, {file:02x?}"
         );
         self.calls += 4;
+        self.curve(file, dim, p);
         self.numbered(file, dim, p, k);
     }
 

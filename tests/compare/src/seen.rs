@@ -15,7 +15,7 @@ pub struct Seen {
     other: u64,
     after_marker: u64,
     /// Aimed refusals by number and depth.
-    refused: [[u64; 10]; 21],
+    refused: [[u64; 10]; 22],
 }
 
 impl Default for Seen {
@@ -27,7 +27,7 @@ impl Default for Seen {
             user: 0,
             other: 0,
             after_marker: 0,
-            refused: [[0; 10]; 21],
+            refused: [[0; 10]; 22],
         }
     }
 }
@@ -73,9 +73,9 @@ impl Seen {
         assert!(self.user > 0 && self.other > 0 && self.after_marker > 0);
     }
 
-    /// Every number from 1 to 12 and 20 was met, and those of an element at every depth that it can have.
+    /// Every number from 1 to 12, 20 and 21 was met, and those of an element at every depth that it can have.
     pub fn check_refused(&self) {
-        for number in (1..=12).chain([20]) {
+        for number in (1..=12).chain([20, 21]) {
             for depth in 0..=9 {
                 let due = match number {
                     1 | 2 => depth == 0,

@@ -130,7 +130,7 @@ fn in_parts(fill: Fill, file: &[u8], dim: u64, elements: u64, room: usize) -> (V
 }
 
 impl Runs {
-    /// The views, the points and the texts from element number k on, each in a slice of so many numbers.
+    /// The views, the points, the texts, and the ellipses and arcs from element number k on, each in a slice of so many numbers.
     pub fn part(&mut self, file: &[u8], dim: u64, k: u64, room: usize) {
         let seen = Seen::new(file, dim);
         let refused = |r: &Refusal| r.clone();
@@ -141,6 +141,7 @@ impl Runs {
         let texts = seen.as_ref().map_err(refused).and_then(|s| s.texts(k, room));
         assert_eq!(library::texts(file, dim, k, room), texts, "texts from {k} in {room}, {dim}D, {file:02x?}");
         self.calls += 3;
+        self.curves(file, dim, k, (room, (5 * room / 9 + room % 7).saturating_sub(room % 5)));
     }
 
     /// All views, points and texts of an accepted file in parts of so many numbers, each from where the last one ended.

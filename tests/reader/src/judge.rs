@@ -3,6 +3,7 @@
 //! Elements side by side are taken by loops. Only nesting uses the stack, and
 //! an element below depth 8 is refused before its components are looked at.
 
+use crate::ellipse;
 use crate::layout;
 use crate::linkage;
 use crate::names;
@@ -157,6 +158,9 @@ impl<F: FnMut(&Seen)> Judging<'_, F> {
         };
         if linkage::part_is_wrong(self.bytes, self.dim, place, kind, size) {
             return at(refusal::LINKAGE, place);
+        }
+        if ellipse::a_float_is_wrong(self.bytes, self.dim, place, kind) {
+            return at(refusal::FLOAT, place);
         }
         if let Some(offset) = layout::name_word(kind) {
             for letter_word in [place + offset, place + offset + 1] {

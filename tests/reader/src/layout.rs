@@ -38,7 +38,7 @@ pub fn has_points_counted(kind: u64) -> bool {
 
 /// Types with a fixed part.
 pub fn is_known(kind: u64) -> bool {
-    is_header(kind) || has_points_counted(kind) || kind == 3 || kind == 17
+    is_header(kind) || has_points_counted(kind) || matches!(kind, 3 | 15 | 16 | 17)
 }
 
 /// Known types other than 1 have words 14 to 17, and may have linkages.
@@ -118,6 +118,20 @@ pub fn fixed_part(kind: u64, dim: u64, n: u64) -> u64 {
             }
         }
         12 | 14 => 20,
+        15 => {
+            if solid {
+                46
+            } else {
+                36
+            }
+        }
+        16 => {
+            if solid {
+                50
+            } else {
+                40
+            }
+        }
         17 => {
             // The bytes of characters and fields, rounded up once.
             let (characters, fields) = counts(n);

@@ -37,6 +37,7 @@ pub const NOTHING: u32 = 17;
 pub const NOT_A_CELL: u32 = 18;
 pub const BAD_JOURNAL: u32 = 19;
 pub const FIELD: u32 = 20;
+pub const FLOAT: u32 = 21;
 pub const BLOCK: u32 = 22;
 
 /// A refusal at a place.

@@ -315,7 +315,7 @@ fn rough_runs() {
             }
         }
     }
-    for number in (3..=20).chain([1]) {
+    for number in (3..=21).chain([1]) {
         assert!(seen[&number] > 50, "{seen:?}");
     }
 }

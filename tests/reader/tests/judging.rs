@@ -135,7 +135,7 @@ fn what_stands_where() {
 // "Fixed parts, in words (2D, 3D)": one word less is 7 for every type.
 #[test]
 fn fixed_parts() {
-    let table: [(u16, usize, usize); 12] = [
+    let table: [(u16, usize, usize); 14] = [
         (1, 35, 35),
         (2, 46, 62),
         (3, 26, 30),
@@ -146,6 +146,8 @@ fn fixed_parts() {
         (7, 35, 43),
         (12, 20, 20),
         (14, 20, 20),
+        (15, 36, 46),
+        (16, 40, 50),
         (17, 30, 38),
         (18, 0, 21),
     ];
@@ -158,7 +160,7 @@ fn fixed_parts() {
                 let mut words = element(kind, false, size);
                 if [4, 6, 11, 21].contains(&kind) {
                     words[18] = 2;
-                } else if size > 18 && kind != 17 {
+                } else if size > 18 && ![3, 15, 16, 17].contains(&kind) {
                     words[18] = (size - 19) as u16;
                 }
                 file(&[words])

@@ -194,3 +194,43 @@ fn written_again() {
     }
     assert!(written > 600, "{written}");
 }
+
+// Ellipses and arcs of real files, as GDAL's writer was given them.
+#[test]
+fn ellipses() {
+    let read = |folder: &str, name: &str, dim: u64| {
+        let found = ellipses_from(&bytes(folder, name), dim, 0).unwrap();
+        let floats = |axes: &Axes| {
+            let mut all = vec![axes.primary, axes.secondary];
+            all.extend(&axes.origin);
+            all.into_iter().map(f64::from_bits).collect::<Vec<f64>>()
+        };
+        found
+            .iter()
+            .map(|one| match &one.reading {
+                EllipseOrArc::Ellipse(axes) => (one.place, None, floats(axes)),
+                EllipseOrArc::Arc { start, sweep, axes } => {
+                    (one.place, Some((*start, *sweep)), floats(axes))
+                }
+            })
+            .collect::<Vec<_>>()
+    };
+    let centre = [-249_879_416.0, -669_487_710.0];
+    let ring = vec![600.0, 600.0, centre[0], centre[1]];
+    let found = read("", "a11_cells_2d.dgn", 2);
+    assert_eq!(found, [(1239, None, ring.clone())]);
+    let found = read("", "a14_linkages_2d.dgn", 2);
+    assert_eq!(found, [(1196, Some((0, 32_400_000)), ring)]);
+    let solid = vec![4000.0, 5000.0, 1000.0, 2000.0, 3000.0];
+    let found = read("", "d04_cells_3d.dgn", 3);
+    assert_eq!(found, [(1328, Some((0, 32_400_000)), solid)]);
+    let found = read("texts/", "e08_ellipses_links_cells_deleted_2d.dgn", 2);
+    assert_eq!(found.len(), 10);
+    let third = vec![1.0 / 3.0, 0.1, -1.0, -2.0];
+    assert_eq!(found[4], (1524, None, third));
+    let found = read("texts/", "e08_arcs_links_cells_deleted_3d.dgn", 3);
+    assert_eq!(found.len(), 12);
+    let third = vec![1.0 / 3.0, 0.1, -1.0, -2.0, -3.0];
+    // A sweep with its sign bit set, as stored.
+    assert_eq!(found[4], (1606, Some((5_400_000, 2_158_283_648)), third));
+}

@@ -13,6 +13,7 @@ fn read_all(random: &mut Random, file: &[u8], dim: u64) {
     let _ = celllist(file);
     let _ = textlist(file, dim);
     assert_eq!(texts_from(file, dim, 0).err(), judged.clone().err());
+    assert_eq!(ellipses_from(file, dim, 0).err(), judged.clone().err());
     let text = generate::texts::any_text(random);
     let found = find(file, dim, &text);
     let k = random.pick(&[0, 1, 2, 3, 1 << 32, u64::MAX]);
@@ -29,11 +30,13 @@ fn read_all(random: &mut Random, file: &[u8], dim: u64) {
             text_characters(file, dim, place).err(),
             text_field(file, dim, place, k).err(),
         ];
-        for answer in texts {
+        let ellipse = read_ellipse(file, dim, place).err();
+        let by_type = texts.map(|answer| (answer, &[17][..]));
+        for (answer, kinds) in by_type.into_iter().chain([(ellipse, &[15, 16][..])]) {
             match (&judged, answer) {
                 (Ok(_), Some(other)) if other.number == 6 => {
                     assert_eq!(other.place, place);
-                    assert_ne!(view(file, dim, place).unwrap().kind, 17);
+                    assert!(!kinds.contains(&view(file, dim, place).unwrap().kind));
                 }
                 (Ok(_), answer) => assert!(answer.is_none() || answer == Some(refusal(13, 0))),
                 (Err(own), answer) => assert_eq!(answer.as_ref(), Some(own)),
@@ -67,6 +70,7 @@ fn reading_any_bytes() {
         read_all(&mut random, &made, dim);
         for _ in 0..3 {
             changes::change_word(&mut random, &mut made);
+            changes::change_float(&mut random, &mut made, dim);
             read_all(&mut random, &made, dim);
         }
         if random.one_in(20) {
@@ -129,7 +133,7 @@ fn editing_any_state() {
             }
         }
     }
-    let all: Vec<u32> = (1..=20).collect();
+    let all: Vec<u32> = (1..=21).collect();
     assert_eq!(seen.into_iter().collect::<Vec<_>>(), all);
 }
 

@@ -10,9 +10,9 @@ use Rattle.words.specs.Words.{words}
 use Rattle.words.proofs.Laws.{lent-below}
 use Rattle.headers.proofs.Laws.{size-small}
 use Rattle.order.specs.Order.{placeOf}
-use Rattle.order.proofs.Order.{place-small, place-next}
-use Rattle.order.specs.Fitting.{partOf}
-use Rattle.order.proofs.Fitting.{Going, going-start, going-done, now-length, turn-full, turn-more}
+use Rattle.order.proofs.Order.{place-small, place-next, start-there}
+use Rattle.order.specs.Fitting.{partOf, inNumbers}
+use Rattle.order.proofs.Fitting.{lays-numbers, Going, going-start, going-done, now-room, turn-full, turn-more}
 use Rattle.dgn_points.specs.Points.{pointNumbers, pointsFrom}
 use Rattle.dgn_points.proofs.put_points.Statement.{statement}
 use Rattle.dgn_points.proofs.put_points.Tie as tie
@@ -22,21 +22,22 @@ abbrev numbersOf : ℕ → List ℕ → ℕ → List ℤ
 numbersOf dim file i = pointNumbers dim (words file) (placeOf (words file) i)
 
 abbrev Inv-loop : tie.InvT-loop
-Inv-loop file dim elements k numbers₀ at₀ i₀ used₀ numbers at i used = (i ≤ elements) × (at ≡ placeOf (words file) i) × Going (partOf (length numbers₀) k (pointsFrom (elements - k) dim (words file) k)) numbers₀ (numbersOf dim file) elements i used numbers
+Inv-loop file dim elements k numbers₀ at₀ i₀ used₀ numbers at i used = (i ≤ elements) × (at ≡ placeOf (words file) i) × Going inNumbers lays-numbers (partOf (length numbers₀) k (pointsFrom (elements - k) dim (words file) k)) numbers₀ (numbersOf dim file) elements i used numbers
 
 abbrev μ-loop : tie.MeasureT-loop
 μ-loop file dim elements k numbers₀ at₀ i₀ used₀ numbers at i used = elements - i
 
 returns : tie.Need-returns Inv-loop μ-loop
-returns c = going-done (going-start (c .before .before .args .numbers .now) (numbersOf (c .before .before .args .dim) (c .before .before .args .file .now)) (c .before .before .args .elements) (c .before .before .args .k)) (c .if1 .taken)
+returns c = going-done inNumbers lays-numbers (going-start inNumbers lays-numbers (c .before .before .args .numbers .now) (numbersOf (c .before .before .args .dim) (c .before .before .args .file .now)) (c .before .before .args .elements) (c .before .before .args .k)) (c .if1 .taken)
 
-place-of-requires : tie.Need-place-of-requires Inv-loop μ-loop
-place-of-requires c κs = omega (arith, (c .if1 .left), (c .before .before .pre))
+start-of-requires : tie.Need-start-of-requires Inv-loop μ-loop
+start-of-requires c κs = search needs
 
 loop-holds : tie.Need-loop-holds Inv-loop μ-loop
 loop-holds c =
     let start = c .before .before .before in
-    (omega (arith, (c .before .if1 .left)), (c .place-of .ensures), going-start (start .args .numbers .now) (numbersOf (start .args .dim) (start .args .file .now)) (start .args .elements) (start .args .k))
+    let there = start-there (words (start .args .file .now)) (start .args .k) (omega (arith, c .before .if1 .left, start .pre)) in
+    (omega (arith, (c .before .if1 .left)), c .start-of .ensures ∙ there, going-start inNumbers lays-numbers (start .args .numbers .now) (numbersOf (start .args .dim) (start .args .file .now)) (start .args .elements) (start .args .k))
 
 put-element-requires : tie.Need-put-element-requires Inv-loop μ-loop
 put-element-requires c κs =
@@ -44,7 +45,7 @@ put-element-requires c κs =
     let start = at-shared-slice-known .before in
     let s = (start .args .file .now) in
     let p = place-small s (lent-below s (at-shared-slice-known .shared-slice-known .given)) (c .before .before .loop .i) in
-    let l = now-length (c .before .before .loop .inv .2) in
+    let l = now-room inNumbers lays-numbers (c .before .before .loop .inv .2) in
     (start .pre .0, (omega (arith, c .before .before .loop .inv .1, c .before .loop-test .taken, start .pre), omega (arith, c .before .before .loop .inv .2 .room)))
 
 enum-told : tie.Need-enum-told Inv-loop μ-loop
@@ -54,7 +55,7 @@ same-length : tie.Need-same-length Inv-loop μ-loop
 same-length c =
     let at-put-element = c .before .before .before in
     let at-loop = at-put-element .before .before .before in
-    (at-put-element .put-element .kept .1 .1 .1 .0) ∙ now-length (at-loop .loop .inv .2)
+    (at-put-element .put-element .kept .1 .1 .1 .0) ∙ now-room inNumbers lays-numbers (at-loop .loop .inv .2)
 
 returns-2 : tie.Need-returns-2 Inv-loop μ-loop
 returns-2 c =
@@ -62,7 +63,7 @@ returns-2 c =
     let at-loop-test = at-put-element .before .before in
     let at-loop = at-loop-test .before in
     let start = at-loop .before .before .before .before in
-    turn-full (at-loop .loop .inv .2) _ (ap (pointNumbers (start .args .dim) (words (start .args .file .now))) (at-loop .loop .inv .1)) (at-loop-test .loop-test .taken) _ _
+    turn-full inNumbers lays-numbers (at-loop .loop .inv .2) _ (ap (pointNumbers (start .args .dim) (words (start .args .file .now))) (at-loop .loop .inv .1)) (at-loop-test .loop-test .taken) _ _
     (c .enum-told .given .1) (at-put-element .put-element .ensures)
 
 enum-known-more : tie.Need-enum-known-more Inv-loop μ-loop
@@ -102,13 +103,13 @@ loop-again c =
     let at-loop = at-loop-test .before in
     let start = at-loop .before .before .before .before in
     let p = place-next (words (start .args .file .now)) (at-loop .loop .i) _ _ (at-loop .loop .inv .1) (c .size-at .ensures) in
-    (omega arith, p, turn-more (at-loop .loop .inv .2) _ (ap (pointNumbers (start .args .dim) (words (start .args .file .now))) (at-loop .loop .inv .1)) (at-loop-test .loop-test .taken) _ _ _ (c .before .before .more .given .1) (at-put-element .put-element .ensures))
+    (omega arith, p, turn-more inNumbers lays-numbers (at-loop .loop .inv .2) _ (ap (pointNumbers (start .args .dim) (words (start .args .file .now))) (at-loop .loop .inv .1)) (at-loop-test .loop-test .taken) _ _ _ (c .before .before .more .given .1) (at-put-element .put-element .ensures))
 
 same-length-2 : tie.Need-same-length-2 Inv-loop μ-loop
-same-length-2 c = now-length (c .before .loop .inv .2)
+same-length-2 c = now-room inNumbers lays-numbers (c .before .loop .inv .2)
 
 returns-3 : tie.Need-returns-3 Inv-loop μ-loop
-returns-3 c = going-done (c .before .loop .inv .2) (c .loop-test .left)
+returns-3 c = going-done inNumbers lays-numbers (c .before .loop .inv .2) (c .loop-test .left)
 
 pub put-points-spec : {M : Type 1} → statement M
 put-points-spec =
@@ -117,7 +118,7 @@ put-points-spec =
     Inv-loop
     μ-loop
     returns
-    place-of-requires
+    start-of-requires
     loop-holds
     put-element-requires
     enum-told

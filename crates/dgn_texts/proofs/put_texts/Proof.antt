@@ -11,8 +11,8 @@ use Rattle.words.proofs.Laws.{lent-below, length-words}
 use Rattle.headers.specs.Header.{sizeAt}
 use Rattle.headers.proofs.Laws.{size-small, words-small}
 use Rattle.walking.proofs.Steps.{opens-shallow}
-use Rattle.order.specs.Fitting.{partOf}
-use Rattle.order.proofs.Fitting.{Going, going-start, going-done, now-length, turn-full, turn-more}
+use Rattle.order.specs.Fitting.{inNumbers, partOf}
+use Rattle.order.proofs.Fitting.{lays-numbers, Going, going-start, going-done, now-room, turn-full, turn-more}
 use Rattle.dgn_texts.specs.Texts.{walkOf, entryAt, textsFrom, fromNumber}
 use Rattle.dgn_texts.proofs.Walks.{Walking, walking-start, walk-in, walk-out, walk-on}
 use Rattle.dgn_texts.proofs.Places.{from-first}
@@ -26,7 +26,7 @@ numbersOf dim file k i = fromNumber k i (entryAt dim (words file) (walkOf (words
 abbrev Inv-loop : tie.InvT-loop
 Inv-loop file dim elements k numbers₀ place₀ depth₀ ends₀ end₀ i₀ used₀ numbers place depth ends end i used =
     (i ≤ elements) × Walking (words file) i place depth ends end
-    × Going (partOf (length numbers₀) k (textsFrom (elements - k) dim (words file) k)) numbers₀ (numbersOf dim file k) elements i used numbers
+    × Going inNumbers lays-numbers (partOf (length numbers₀) k (textsFrom (elements - k) dim (words file) k)) numbers₀ (numbersOf dim file k) elements i used numbers
 
 abbrev μ-loop : tie.MeasureT-loop
 μ-loop file dim elements k numbers₀ place₀ depth₀ ends₀ end₀ i₀ used₀ numbers place depth ends end i used = elements - i
@@ -64,17 +64,17 @@ went : (c : tie.After-size-at Inv-loop μ-loop) →
     let at-put-from = c .before .before .before .before .before in
     let at-loop = at-put-from .before .before .before in
     let a = at-loop .before .before .before .args in
-    Going (partOf (length (a .numbers .now)) (a .k) (textsFrom (a .elements - a .k) (a .dim) (words (a .file .now)) (a .k))) (a .numbers .now) (numbersOf (a .dim) (a .file .now) (a .k))
+    Going inNumbers lays-numbers (partOf (length (a .numbers .now)) (a .k) (textsFrom (a .elements - a .k) (a .dim) (words (a .file .now)) (a .k))) (a .numbers .now) (numbersOf (a .dim) (a .file .now) (a .k))
     (a .elements) (at-loop .loop .i + 1) (c .before .before .more .given .0 .0) (at-put-from .put-from .last .1 .1 .1 .1 .1 .1 .0)
 went c =
     let at-put-from = c .before .before .before .before .before in
     let at-loop-test = at-put-from .before .before in
-    turn-more (at-loop-test .before .loop .inv .2) _ (here at-loop-test) (at-loop-test .loop-test .taken) _ _ _ (c .before .before .more .given .1) (at-put-from .put-from .ensures)
+    turn-more inNumbers lays-numbers (at-loop-test .before .loop .inv .2) _ (here at-loop-test) (at-loop-test .loop-test .taken) _ _ _ (c .before .before .more .given .1) (at-put-from .put-from .ensures)
 
 returns : tie.Need-returns Inv-loop μ-loop
 returns c =
     let a = c .before .before .args in
-    going-done (going-start (a .numbers .now) (λ i. entryAt (a .dim) (words (a .file .now)) (walkOf (words (a .file .now)) i)) (a .elements) (a .k)) (c .if1 .taken)
+    going-done inNumbers lays-numbers (going-start inNumbers lays-numbers (a .numbers .now) (λ i. entryAt (a .dim) (words (a .file .now)) (walkOf (words (a .file .now)) i)) (a .elements) (a .k)) (c .if1 .taken)
 
 loop-holds : tie.Need-loop-holds Inv-loop μ-loop
 loop-holds c =
@@ -83,13 +83,13 @@ loop-holds c =
     let numbers = a .numbers .now in
     let from = numbersOf (a .dim) (a .file .now) (a .k) in
     let first = from-first (a .k) (length numbers) (λ i. entryAt (a .dim) ws (walkOf ws i)) (a .elements) (omega (arith, c .if1 .left)) in
-    (omega arith, walking-start ws, subst (λ p. Going p numbers from (a .elements) 0 0 numbers) first (going-start numbers from (a .elements) 0))
+    (omega arith, walking-start ws, subst (λ p. Going inNumbers lays-numbers p numbers from (a .elements) 0 0 numbers) first (going-start inNumbers lays-numbers numbers from (a .elements) 0))
 
 put-from-requires : tie.Need-put-from-requires Inv-loop μ-loop
 put-from-requires c κs =
     let in-file = inside (c .before) in
     let deep = c .before .before .loop .inv .1 .deep in
-    let l = now-length (c .before .before .loop .inv .2) in
+    let l = now-room inNumbers lays-numbers (c .before .before .loop .inv .2) in
     (omega arith, (omega arith, omega (arith, c .before .before .loop .inv .2 .room)))
 
 enum-told : tie.Need-enum-told Inv-loop μ-loop
@@ -98,13 +98,13 @@ enum-told c = search needs
 same-length : tie.Need-same-length Inv-loop μ-loop
 same-length c =
     let at-put-from = c .before .before .before in
-    at-put-from .put-from .kept .1 .1 .1 .1 .1 .1 .0 ∙ now-length (at-put-from .before .before .before .loop .inv .2)
+    at-put-from .put-from .kept .1 .1 .1 .1 .1 .1 .0 ∙ now-room inNumbers lays-numbers (at-put-from .before .before .before .loop .inv .2)
 
 returns-2 : tie.Need-returns-2 Inv-loop μ-loop
 returns-2 c =
     let at-put-from = c .before .before .before in
     let at-loop-test = at-put-from .before .before in
-    turn-full (at-loop-test .before .loop .inv .2) _ (here at-loop-test) (at-loop-test .loop-test .taken) _ _ (c .enum-told .given .1) (at-put-from .put-from .ensures)
+    turn-full inNumbers lays-numbers (at-loop-test .before .loop .inv .2) _ (here at-loop-test) (at-loop-test .loop-test .taken) _ _ (c .enum-told .given .1) (at-put-from .put-from .ensures)
 
 enum-known-more : tie.Need-enum-known-more Inv-loop μ-loop
 enum-known-more c = search needs
@@ -196,10 +196,10 @@ loop-again-3 c =
     (omega (arith, at-loop-test .loop-test .taken), walk-on (at-loop-test .before .loop .inv .1) (inside at-loop-test .0) _ (next-is at-size-at) (sym (c .before .before .opens-list .ensures) ∙ c .before .if2 .left) (c .if3 .left), went at-size-at)
 
 same-length-2 : tie.Need-same-length-2 Inv-loop μ-loop
-same-length-2 c = now-length (c .before .loop .inv .2)
+same-length-2 c = now-room inNumbers lays-numbers (c .before .loop .inv .2)
 
 returns-3 : tie.Need-returns-3 Inv-loop μ-loop
-returns-3 c = going-done (c .before .loop .inv .2) (c .loop-test .left)
+returns-3 c = going-done inNumbers lays-numbers (c .before .loop .inv .2) (c .loop-test .left)
 
 pub put-texts-spec : {M : Type 1} → statement M
 put-texts-spec =

@@ -12,7 +12,7 @@ use Rattle.headers.specs.Header.{typeAt, sizeAt}
 use Rattle.kinds.specs.Kinds.{isHeader, mayStand}
 use Rattle.elements.specs.Attributes.{linkagesOk}
 use Rattle.headers.specs.Flags.{reservedOk, placeOk}
-use Rattle.elements.specs.Rules.{fixedOk, textFieldsOk, contentChecks, checks, faultOf, HeadRead}
+use Rattle.elements.specs.Rules.{fixedOk, textFieldsOk, curveFloatsOk, contentChecks, checks, faultOf, HeadRead}
 use Rattle.headers.specs.Checks.{Check, check, firstFault}
 use Rattle.elements.specs.declared.Head.the-variants.{Bad}
 use Rattle.headers.proofs.Checks.{pass, stop, tail, first, fault-here, fault-later}
@@ -108,7 +108,7 @@ simple c =
     let a = from-type (c .before .before .before) in
     let ws = words (a .args .s .now) in
     rw (typed (c .before .before .before), sized (c .before .before .before)) at (c .simple-fault .ensures)
-    ∙ simple-same ws (a .args .at) (a .args .bound - a .args .at) (before-size a) (linkagesOk (a .args .dim) ws (a .args .at)) (sym (kind (c .before .before)) ∙ c .before .if5 .left)
+    ∙ simple-same ws (a .args .at) (a .args .bound - a .args .at) (before-size a) (linkagesOk (a .args .dim) ws (a .args .at)) (curveFloatsOk (a .args .dim) ws (a .args .at)) (sym (kind (c .before .before)) ∙ c .before .if5 .left)
 
 -- a header without a fault
 none : (c : tie.Else6) → number (from-type (c .before .before .before .before)) ≡ 0

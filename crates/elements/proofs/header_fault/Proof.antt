@@ -12,7 +12,7 @@ use Rattle.elements.specs.Rules.{fixedOk, extentOk, contentChecks}
 use Rattle.headers.specs.Checks.{Check, check}
 use Rattle.kinds.proofs.Types.{header-long}
 use Rattle.headers.proofs.Checks.{refused, accepted, First, pass, stop, tail, first}
-use Rattle.elements.proofs.Laws.{header-short, header-fixed, header-part, header-fields, extent-header}
+use Rattle.elements.proofs.Laws.{header-short, header-fixed, header-part, header-fields, header-floats, extent-header}
 use Rattle.elements.proofs.header_fault.Statement.{statement}
 use Rattle.elements.proofs.header_fault.Tie as tie
 
@@ -68,8 +68,11 @@ to-3 c p =
 to-4 : (c : tie.Else4) {n : ℕ} → First (drop 4 (of (from-4 c))) n → First (of (from-4 c)) n
 to-4 c p = to-3 (c .before .before) (pass (accepted (extended (c .before)) (c .if4 .left)) p)
 
-to-5 : (c : tie.Else5) {n : ℕ} → First (drop 5 (of (from-5 c))) n → First (of (from-5 c)) n
-to-5 c p = to-4 (c .before .before) (pass (accepted (linked (c .before)) (c .if5 .left)) p)
+to-6 : (c : tie.Else5) {n : ℕ} → First (drop 6 (of (from-5 c))) n → First (of (from-5 c)) n
+to-6 c p =
+    let a = from-5 c in
+    let floats = header-floats (a .args .dim) (words (a .args .s .now)) (a .args .at) (a .args .t) (a .args .size) (a .pre .0 .0) (a .pre .0 .1) (a .pre .1 .0) in
+    to-4 (c .before .before) (pass (accepted (linked (c .before)) (c .if5 .left)) (pass floats p))
 
 may-stand-requires : tie.Need-may-stand-requires
 may-stand-requires c κs = tt
@@ -112,10 +115,10 @@ stored-name-ok-requires c κs =
     (a .pre .0 .0, omega arith)
 
 returns-6 : tie.Need-returns-6
-returns-6 c = first (of (from-5 (c .before .before))) (to-5 (c .before .before) (stop (refused (c .before .stored-name-ok .ensures) (c .if6 .taken))))
+returns-6 c = first (of (from-5 (c .before .before))) (to-6 (c .before .before) (stop (refused (c .before .stored-name-ok .ensures) (c .if6 .taken))))
 
 returns-7 : tie.Need-returns-7
-returns-7 c = first (of (from-5 (c .before .before))) (to-5 (c .before .before) (pass (accepted (c .before .stored-name-ok .ensures) (c .if6 .left)) (tail [] refl)))
+returns-7 c = first (of (from-5 (c .before .before))) (to-6 (c .before .before) (pass (accepted (c .before .stored-name-ok .ensures) (c .if6 .left)) (tail [] refl)))
 
 pub header-fault-spec : {M : Type 1} → statement M
 header-fault-spec =

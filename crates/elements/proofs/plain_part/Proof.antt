@@ -46,7 +46,7 @@ wrong c p =
 pointed : (c : tie.Else1) → isPointed (c .before .before .args .t) ≡ true
 pointed c =
     let a = c .before .before in
-    plain-pointed (a .args .t) (a .pre .1 .0) (a .pre .1 .1 .0) (ne-eqb _ _ (c .if1 .left)) (a .pre .1 .1 .1 .0)
+    plain-pointed (a .args .t) (a .pre .1 .0) (a .pre .1 .1 .0) (ne-eqb _ _ (c .if1 .left)) (a .pre .1 .1 .1 .0) (a .pre .1 .1 .1 .1 .0)
 
 at-18 : (c : tie.Else1) → (isSized (c .before .before .args .t) ≡ true) × (sizingWord (c .before .before .args .dim) (c .before .before .args .t) ≡ 18)
 at-18 c = pointed-sized (c .before .before .args .dim) (c .before .before .args .t) (pointed c)

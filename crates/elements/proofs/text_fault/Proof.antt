@@ -10,22 +10,18 @@ use borrow.Author.Tests.{le-leb, lt-leb}
 use Rattle.words.specs.Words.{words}
 use Rattle.texts.specs.Texts.{countsAt, textPart, fieldsOk}
 use Rattle.texts.proofs.Laws.{text-past}
-use Rattle.headers.specs.Checks.{Check, check}
+use Rattle.headers.specs.Checks.{Check}
 use Rattle.headers.proofs.Checks.{refused, accepted, First, pass, stop, tail, first}
 use Rattle.elements.specs.Attributes.{linkagesOk}
-use Rattle.elements.specs.Rules.{fixedOk, textFieldsOk}
-use Rattle.elements.proofs.Laws.{linked-size, linkages-linked, text-part-is, text-fixed, text-fields}
+use Rattle.elements.specs.Rules.{fixedOk, textFieldsOk, curveFloatsOk}
+use Rattle.elements.specs.Simple.{simpleChecks}
+use Rattle.elements.proofs.Laws.{linked-size, linkages-linked, floats-none, text-part-is, text-fixed, text-fields}
 use Rattle.elements.proofs.text_fault.Statement.{statement}
 use Rattle.elements.proofs.text_fault.Tie as tie
 
 -- the checks of the call
 abbrev of : tie.Start → List Check
-of a =
-    check (fixedOk (a .args .dim) (words (a .args .s .now)) (a .args .at)) 7
-    ∷ check (textFieldsOk (a .args .dim) (words (a .args .s .now)) (a .args .at)) 20
-    ∷ check (leb (a .args .size) 65535) 8
-    ∷ check (linkagesOk (a .args .dim) (words (a .args .s .now)) (a .args .at)) 11
-    ∷ []
+of a = simpleChecks (a .args .dim) (words (a .args .s .now)) (a .args .at) (a .args .size)
 
 -- the entry of the call, from after each test
 abbrev from-1 : tie.Else1 → tie.Start
@@ -85,6 +81,10 @@ linked c =
     c .attributes-ok .ensures (a .args .dim) (sized at-text-part ∙ sym (text-part-is (a .args .dim) ws (a .args .at) (a .pre .0)))
     ∙ sym (linkages-linked (a .args .dim) ws (a .args .at) (rw (sym (a .pre .0)) refl))
 
+-- a text has no floats of its own
+unfloated : (a : tie.Start) → curveFloatsOk (a .args .dim) (words (a .args .s .now)) (a .args .at) ≡ true
+unfloated a = floats-none (a .args .dim) (words (a .args .s .now)) (a .args .at) (rw (sym (a .pre .0)) refl)
+
 counts-word-requires : tie.Need-counts-word-requires
 counts-word-requires c κs = tt
 
@@ -132,7 +132,7 @@ returns-5 : tie.Need-returns-5
 returns-5 c = first (of (from-4 (c .before .before))) (to-3 (c .before .before) (stop (refused (linked (c .before)) (c .if5 .taken))))
 
 returns-6 : tie.Need-returns-6
-returns-6 c = first (of (from-4 (c .before .before))) (to-3 (c .before .before) (pass (accepted (linked (c .before)) (c .if5 .left)) (tail [] refl)))
+returns-6 c = first (of (from-4 (c .before .before))) (to-3 (c .before .before) (pass (accepted (linked (c .before)) (c .if5 .left)) (pass (unfloated (from-4 (c .before .before))) (tail [] refl))))
 
 pub text-fault-spec : {M : Type 1} → statement M
 text-fault-spec =

@@ -32,6 +32,12 @@ pick-requires-3 c κs = tt
 pick-requires-4 : tie.Need-pick-requires-4
 pick-requires-4 c κs = tt
 
+pick-requires-5 : tie.Need-pick-requires-5
+pick-requires-5 c κs = tt
+
+pick-requires-6 : tie.Need-pick-requires-6
+pick-requires-6 c κs = tt
+
 text-part-requires : tie.Need-text-part-requires
 text-part-requires c κs = tt
 
@@ -64,29 +70,40 @@ returns-6 c = let a = c .before .args in in-arm (λ t. 20 ≡ fixedPart (a .dim)
 
 returns-7 : tie.Need-returns-7
 unfolding fixedPart
-returns-7 c = rw (c .before .match .keys7) (c .text-part .ensures)
+returns-7 c = rw (c .before .match .keys7) (c .pick5 .ensures)
 
 returns-8 : tie.Need-returns-8
 unfolding fixedPart
-returns-8 c = rw (c .match .keys8)
+returns-8 c = rw (c .before .match .keys8) (c .pick6 .ensures)
 
 returns-9 : tie.Need-returns-9
 unfolding fixedPart
-returns-9 c = rw (c .match .keys9)
+returns-9 c = rw (c .before .match .keys9) (c .text-part .ensures)
 
 returns-10 : tie.Need-returns-10
 unfolding fixedPart
-returns-10 c =
+returns-10 c = rw (c .match .keys10)
+
+returns-11 : tie.Need-returns-11
+unfolding fixedPart
+returns-11 c = rw (c .match .keys11)
+
+returns-12 : tie.Need-returns-12
+unfolding fixedPart
+returns-12 c =
     let t = c .before .args .t in
     let late = c .match .rest in
-    let early = late .0 .0 .0 .0 in
+    let middle = late .0 .0 .0 in
+    let early = middle .0 .0 .0 in
     simp (
       ne-eqb t 1 (early .0 .0 .0 .0 .1),
       ne-eqb t 2 (early .0 .0 .0 .1),
       ne-eqb t 3 (early .0 .0 .1),
       none-of (4 ∷ 6 ∷ 11 ∷ 21 ∷ []) t (early .0 .1),
       ne-eqb t 7 (early .1),
-      none-of (12 ∷ 14 ∷ []) t (late .0 .0 .0 .1),
+      none-of (12 ∷ 14 ∷ []) t (middle .0 .0 .1),
+      ne-eqb t 15 (middle .0 .1),
+      ne-eqb t 16 (middle .1),
       ne-eqb t 17 (late .0 .0 .1),
       ne-eqb t 18 (late .0 .1),
       ne-eqb t 19 (late .1),
@@ -104,6 +121,8 @@ fixed-part-spec =
     add-pick-2
     pick-requires-3
     pick-requires-4
+    pick-requires-5
+    pick-requires-6
     text-part-requires
     returns
     returns-2
@@ -114,4 +133,6 @@ fixed-part-spec =
     returns-7
     returns-8
     returns-9
-    returns-10)
+    returns-10
+    returns-11
+    returns-12)

@@ -48,17 +48,20 @@ long-requires-2 c κs = search needs
 cast-t15 : tie.Need-cast-t15
 cast-t15 c = search needs
 
+add-turn-at : tie.Need-add-turn-at
+add-turn-at c = search needs
+
 turn-at-requires : tie.Need-turn-at-requires
 turn-at-requires c κs = search needs
 
 origin-at-requires : tie.Need-origin-at-requires
 origin-at-requires c κs = search needs
 
-cast-t19 : tie.Need-cast-t19
-cast-t19 c = search needs
+cast-t20 : tie.Need-cast-t20
+cast-t20 c = search needs
 
-cast-t21 : tie.Need-cast-t21
-cast-t21 c = search needs
+cast-t22 : tie.Need-cast-t22
+cast-t22 c = search needs
 
 odd-at-requires : tie.Need-odd-at-requires
 odd-at-requires c κs =
@@ -96,9 +99,10 @@ text-from-spec =
     add-long-2
     long-requires-2
     cast-t15
+    add-turn-at
     turn-at-requires
     origin-at-requires
-    cast-t19
-    cast-t21
+    cast-t20
+    cast-t22
     odd-at-requires
     returns)

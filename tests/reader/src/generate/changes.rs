@@ -1,5 +1,6 @@
 //! Changes to a given file, and bytes that are hardly a file.
 
+use super::floats::{self, offsets};
 use super::places::scan;
 use super::random::Random;
 use super::text::counts_word;
@@ -81,6 +82,34 @@ pub fn change_text(random: &mut Random, file: &mut [u8], dim: u64) {
     }
 }
 
+/// Writes another float, or none, over one of a file's ellipses and arcs, or
+/// changes a word of it; nothing in a file without them.
+pub fn change_float(random: &mut Random, file: &mut [u8], dim: u64) {
+    let (mut starts, _) = scan(file);
+    starts.retain(|start| start.kind == 15 || start.kind == 16);
+    if starts.is_empty() {
+        return;
+    }
+    let element = random.pick(&starts);
+    let at = 2 * (element.place as usize + random.pick(&offsets(element.kind, dim)));
+    let Some(words) = file.get_mut(at..at + 8) else {
+        return;
+    };
+    match random.below(4) {
+        0 => words.copy_from_slice(&bytes_of(&floats::bad_float(random))),
+        1 => words.copy_from_slice(&bytes_of(&floats::float(random))),
+        // E becomes 0, the sign stays or goes.
+        2 => {
+            words[0] &= 0x7F;
+            words[1] &= random.pick(&[0, 0x80]);
+        }
+        _ => {
+            let at = random.index(4);
+            change_word_at(random, words, at);
+        }
+    }
+}
+
 /// Any bytes, even in number but for one time in twenty.
 pub fn random_bytes(random: &mut Random) -> Vec<u8> {
     let words = random.index(120);
@@ -94,7 +123,7 @@ pub fn soup(random: &mut Random) -> Vec<u8> {
     let words: Vec<u16> = (0..length)
         .map(|_| match random.below(8) {
             0 => {
-                let kind = random.pick(&[1u16, 2, 3, 4, 7, 9, 12, 14, 17, 18, 21, 24, 66]);
+                let kind = random.pick(&[1u16, 2, 3, 4, 7, 9, 12, 14, 15, 16, 17, 18, 21, 24, 66]);
                 kind << 8 | (random.below(2) as u16) << 7 | random.below(64) as u16
             }
             1 => random.pick(&TELLING),

@@ -1,5 +1,6 @@
 //! Valid elements of every type, alone and as trees.
 
+use super::floats;
 use super::random::Random;
 use super::text;
 use super::texts;
@@ -9,10 +10,10 @@ use super::tree::{is_header, Node};
 pub const POINTED: [u64; 4] = [4, 6, 11, 21];
 
 /// Types that may carry linkages.
-pub const LINKED: [u64; 12] = [2, 3, 4, 6, 7, 11, 12, 14, 17, 18, 19, 21];
+pub const LINKED: [u64; 14] = [2, 3, 4, 6, 7, 11, 12, 14, 15, 16, 17, 18, 19, 21];
 
 /// Raw types that come up more often than the others.
-const RAW: [u64; 12] = [0, 5, 8, 9, 9, 10, 15, 16, 20, 66, 88, 127];
+const RAW: [u64; 10] = [0, 5, 8, 9, 9, 10, 20, 66, 88, 127];
 
 /// The words of a fixed part. `n` is the word that sizes it: the number of
 /// points, or the characters of a text and 256 times its fields.
@@ -25,6 +26,8 @@ pub fn fixed(kind: u64, dim: u64, n: usize) -> usize {
         4 | 6 | 11 | 21 => 19 + n * [6, 4][usize::from(flat)],
         7 => [43, 35][usize::from(flat)],
         12 | 14 => 20,
+        15 => [46, 36][usize::from(flat)],
+        16 => [50, 40][usize::from(flat)],
         17 => [38, 30][usize::from(flat)] + (n % 256 + n / 256 * 3).div_ceil(2),
         18 | 19 => 21,
         _ => 2,
@@ -38,7 +41,7 @@ pub fn raw_kind(random: &mut Random) -> u64 {
     }
     loop {
         let kind = random.below(128);
-        if !matches!(kind, 1..=4 | 6 | 7 | 11 | 12 | 14 | 17..=19 | 21 | 24 | 27 | 87) {
+        if !matches!(kind, 1..=4 | 6 | 7 | 11 | 12 | 14..=19 | 21 | 24 | 27 | 87) {
             return kind;
         }
     }
@@ -46,9 +49,10 @@ pub fn raw_kind(random: &mut Random) -> u64 {
 
 /// A type that may stand at the top or under a header of type `above`.
 pub fn kind(random: &mut Random, dim: u64, above: Option<u64>) -> u64 {
-    let plain = |random: &mut Random| match random.below(8) {
+    let plain = |random: &mut Random| match random.below(9) {
         0 => 3,
         1 | 7 => 17,
+        8 => random.pick(&[15, 16]),
         2 => random.pick(&POINTED),
         3 => raw_kind(random),
         4 => 4,
@@ -151,6 +155,7 @@ pub fn single_with(random: &mut Random, dim: u64, kind: u64, c: bool, n: usize) 
     if kind == 17 {
         text::fill(random, &mut own, dim, n);
     }
+    floats::fill(random, &mut own, dim, kind);
     start(random, &mut own, kind, c);
     own
 }

@@ -3,8 +3,11 @@
 
 use super::elements::{self, fixed};
 use super::files;
+use super::floats;
 use super::random::Random;
-use super::targets::{short, spoil_field, target, wrong_field, wrong_linkage, wrong_linkage_with};
+use super::targets::{
+    short, spoil_field, target, wrong_field, wrong_float, wrong_linkage, wrong_linkage_with,
+};
 use super::text;
 use super::texts;
 use super::tree::{is_counted, is_header, lay, Laid, Node};
@@ -12,7 +15,7 @@ use crate::refusal::Refusal;
 use crate::words::bytes_of;
 
 /// The order of checks for one element, its components standing before 9.
-pub const ORDER: [u32; 11] = [3, 4, 5, 10, 6, 7, 20, 8, 11, 12, 9];
+pub const ORDER: [u32; 12] = [3, 4, 5, 10, 6, 7, 20, 8, 11, 21, 12, 9];
 
 /// A file and the refusal that it must meet.
 #[derive(Debug, Clone)]
@@ -145,7 +148,7 @@ pub fn first_in_order(faults: &[u32]) -> u32 {
 }
 
 /// Sets a fault in the words of a laid-out element. Faults that were made
-/// with the element (7, 11, 20) and 10 need nothing more.
+/// with the element (7, 11, 20, 21) and 10 need nothing more.
 fn damage(random: &mut Random, laid: &mut Laid, place: usize, kind: u64, number: u32) {
     let bound = laid.aim_bound();
     let words = &mut laid.words;
@@ -242,7 +245,7 @@ fn kind_fault(random: &mut Random, dim: u64, depth: u64) -> Aimed {
 /// Two faults in one element; the one checked first must be answered.
 pub fn two_faults(random: &mut Random, dim: u64, depth: u64) -> Aimed {
     let mut depth = depth.min(9);
-    let kind = random.pick(&[2, 2, 2, 7, 12, 14, 3, 4, 6, 11, 21, 17, 17]);
+    let kind = random.pick(&[2, 2, 2, 7, 12, 14, 3, 4, 6, 11, 21, 17, 17, 15, 16]);
     let mut numbers = vec![3, 4, 5, 6, 7, 11];
     if is_header(kind) {
         numbers.push(8);
@@ -250,6 +253,9 @@ pub fn two_faults(random: &mut Random, dim: u64, depth: u64) -> Aimed {
     }
     if kind == 17 {
         numbers.extend([20, 20, 20]);
+    }
+    if kind == 15 || kind == 16 {
+        numbers.extend([21, 21, 21]);
     }
     let mut faults = if depth == 9 { vec![10] } else { Vec::new() };
     while faults.len() < 2 {
@@ -276,6 +282,9 @@ pub fn two_faults(random: &mut Random, dim: u64, depth: u64) -> Aimed {
     if faults.contains(&20) {
         spoil_field(random, dim, &mut node.own);
     }
+    if faults.contains(&21) {
+        floats::spoil(random, &mut node.own, dim, kind);
+    }
     if short_first {
         // Short by one word, so that the words of the other fault stay.
         node.own.truncate(fixed(kind, dim, n) - 1);
@@ -287,15 +296,22 @@ pub fn two_faults(random: &mut Random, dim: u64, depth: u64) -> Aimed {
 /// A header whose count is wrong, with a fault in a component: the
 /// component's fault comes first.
 pub fn component_before_count(random: &mut Random, dim: u64) -> Aimed {
-    let number = random.pick(&[4, 5, 7, 11, 20]);
+    let number = random.pick(&[4, 5, 7, 11, 20, 21]);
     let kind = random.pick(&[12, 14]);
     let mut bad = match number {
         7 => {
-            let kind = random.pick(&[4, 17]);
+            let kind = random.pick(&[4, 15, 16, 17]);
             short(random, dim, kind, true)
         }
         20 => wrong_field(random, dim, true),
-        11 => wrong_linkage(random, dim, 17, true),
+        21 => {
+            let kind = random.pick(&[15, 16]);
+            wrong_float(random, dim, kind, true)
+        }
+        11 => {
+            let kind = random.pick(&[15, 16, 17]);
+            wrong_linkage(random, dim, kind, true)
+        }
         _ => Node::new(elements::single(random, dim, 3, true)),
     };
     bad.aim = true;

@@ -65,6 +65,18 @@ pub fn nodes(random: &mut Random, dim: u64) -> Vec<Node> {
         let at = random.index(nodes.len() + 1);
         nodes.insert(at, text);
     }
+    // An ellipse or an arc in every other file, alone or in a chain or shape.
+    if random.one_in(2) {
+        let inner = random.one_in(3);
+        let kind = random.pick(&[15, 16]);
+        let mut node = Node::new(elements::single(random, dim, kind, inner));
+        if inner {
+            let above = random.pick(&[2, 12, 14]);
+            node = elements::under(random, dim, above, 0, node);
+        }
+        let at = random.index(nodes.len() + 1);
+        nodes.insert(at, node);
+    }
     nodes
 }
 

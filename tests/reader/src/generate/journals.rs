@@ -123,9 +123,10 @@ fn made_up(random: &mut Random, state: &State) -> Vec<u16> {
                 header = named.map_or(u32::MAX, |named| named as u32);
                 place = at as u32;
             }
-            match random.below(5) {
+            match random.below(6) {
                 0 => changes::change_word(random, &mut piece),
                 1 => changes::change_text(random, &mut piece, state.dim),
+                2 => changes::change_float(random, &mut piece, state.dim),
                 _ => {}
             }
             words_of(&piece)

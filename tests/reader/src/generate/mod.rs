@@ -9,6 +9,7 @@ pub mod changes;
 pub mod elements;
 pub mod faults;
 pub mod files;
+pub mod floats;
 pub mod indexes;
 pub mod journals;
 pub mod large;
@@ -25,6 +26,7 @@ pub mod writes;
 
 pub use faults::{aimed, two_faults, Aimed, ORDER};
 pub use files::{valid, Valid};
+pub use floats::ellipses;
 pub use indexes::{any_index, indexed_session, rough_indexed_session, IndexedSession};
 pub use journals::undo_state;
 pub use places::{place, places};

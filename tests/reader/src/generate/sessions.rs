@@ -102,7 +102,7 @@ pub fn rough_state(random: &mut Random) -> State {
         }
         11 | 12 => {
             // A file with a fault of its own, and a marker behind it.
-            let number = random.pick(&[2, 3, 4, 5, 10, 6, 7, 20, 8, 11, 12, 9]);
+            let number = random.pick(&[2, 3, 4, 5, 10, 6, 7, 20, 8, 11, 21, 12, 9]);
             let depth = random.below(9);
             let mut file = faults::aimed(random, state.dim, number, depth).file;
             file.extend([255, 255]);
@@ -213,12 +213,13 @@ fn insert_call(random: &mut Random, file: &[u8], dim: u64, starts: &[Start], mar
     let (header, mut place) = gap(random, starts, marker);
     let mut piece = good_piece(random, dim, header);
     let mut named = header.map(|header| header.place);
-    match random.below(12) {
+    match random.below(13) {
         0 => place = places::place(random, file),
         1 => named = Some(places::place(random, file)),
         2 => named = None,
         3 => changes::change_word(random, &mut piece),
         10 => changes::change_text(random, &mut piece, dim),
+        11 => changes::change_float(random, &mut piece, dim),
         4 => {
             let cut = 2 * (1 + random.index(3));
             piece.truncate(piece.len().saturating_sub(cut));

@@ -1,6 +1,7 @@
 //! The elements that faults are aimed at: those whose fault is made with their words, and valid ones.
 
 use super::elements::{self, fixed, LINKED, POINTED};
+use super::floats;
 use super::random::Random;
 use super::text;
 use super::tree::Node;
@@ -23,6 +24,7 @@ pub fn target(random: &mut Random, dim: u64, number: u32, depth: u64) -> Node {
         9 => random.pick(&headers(dim)[1..]),
         12 => 2,
         20 => 17,
+        21 => random.pick(&[15, 16]),
         7 | 11 => loop {
             let kind = random.pick(&LINKED);
             if dim == 3 || kind < 18 || kind == 21 {
@@ -44,6 +46,7 @@ pub fn target(random: &mut Random, dim: u64, number: u32, depth: u64) -> Node {
         7 => short(random, dim, kind, c),
         11 => wrong_linkage(random, dim, kind, c),
         20 => wrong_field(random, dim, c),
+        21 => wrong_float(random, dim, kind, c),
         _ => {
             let mut budget = 3;
             let mut node = elements::tree_of(random, dim, kind, depth, c, &mut budget);
@@ -112,6 +115,13 @@ pub fn wrong_field(random: &mut Random, dim: u64, c: bool) -> Node {
     let counts = text::counts_with_fields(random);
     let mut own = elements::single_with(random, dim, 17, c, counts);
     spoil_field(random, dim, &mut own);
+    Node::new(own)
+}
+
+/// An ellipse or an arc with a float that is none.
+pub fn wrong_float(random: &mut Random, dim: u64, kind: u64, c: bool) -> Node {
+    let mut own = elements::single(random, dim, kind, c);
+    floats::spoil(random, &mut own, dim, kind);
     Node::new(own)
 }
 

@@ -112,6 +112,8 @@ pub fn faulty() -> Vec<(u32, u64, Vec<u8>)> {
     let mut linked = line(false);
     linked[16] = 1 << 11;
     let field = text_with(2, false, b"AB", &[[3, 0, 0]]);
+    let mut float = element(15, false, 36);
+    float[32] = 1 << 15;
     let mut named = cell(false, &[]);
     named[20] = 64000;
     let mut total = cell(false, &[]);
@@ -130,6 +132,7 @@ pub fn faulty() -> Vec<(u32, u64, Vec<u8>)> {
         (20, 26, file(&[before.clone(), field])),
         (8, 26, file(&[before.clone(), total])),
         (11, 0, file(&[linked])),
+        (21, 26, file(&[before.clone(), float])),
         (12, 26, file(&[before.clone(), named])),
         (9, 26, file(&[before, counted])),
     ]

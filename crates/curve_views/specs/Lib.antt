@@ -1,0 +1,2 @@
+pub mod CurveViews
+pub mod Promises
