@@ -172,7 +172,7 @@ pub fn escaped(bytes: &[u8]) -> String {
         for letter in chunk.valid().chars() {
             match letter {
                 '\\' => text += "\\\\",
-                '\'' | '"' => text.push(letter),
+                ' '..='~' => text.push(letter),
                 _ if letter.escape_debug().len() == 1 => text.push(letter),
                 _ => push_bytes(&mut text, letter.encode_utf8(&mut [0; 4]).as_bytes()),
             }
@@ -222,31 +222,19 @@ pub fn column(word: &(impl AsRef<OsStr> + ?Sized)) -> String {
 
 /// Puts a number behind a text.
 pub fn push_number(text: &mut String, number: usize) {
-    digits(number, |digit, _| text.push(digit));
+    if number > 9 {
+        push_number(text, number / 10);
+    }
+    text.push(char::from(b'0' + (number % 10) as u8));
 }
 
 /// The same with commas between groups of three digits.
 pub fn push_grouped(text: &mut String, number: usize) {
-    digits(number, |digit, behind| {
-        text.push(digit);
-        if behind > 0 && behind % 3 == 0 {
-            text.push(',');
-        }
-    });
-}
-
-/// Hands over the digits of a number, each with how many stand behind it.
-fn digits(mut number: usize, mut take: impl FnMut(char, usize)) {
-    let mut digits = [0; 20];
-    let mut count = 0;
-    while count == 0 || number > 0 {
-        digits[count] = b'0' + (number % 10) as u8;
-        number /= 10;
-        count += 1;
+    if number < 1000 {
+        return push_number(text, number);
     }
-    for behind in (0..count).rev() {
-        take(char::from(digits[behind]), behind);
-    }
+    push_grouped(text, number / 1000);
+    *text += &format!(",{:03}", number % 1000);
 }
 
 /// A number with commas between groups of three digits.

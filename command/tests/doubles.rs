@@ -60,8 +60,8 @@ fn as_by_counting() {
         let found = finder.find(cells.into_iter());
         assert_eq!(found.len(), all.len());
         for (double, (name, places)) in found.iter().zip(all) {
-            assert_eq!((&double.code, double.cells()), (&dgn::unpack(name).unwrap(), places.len()));
-            assert!(double.places().eq(places));
+            assert_eq!((double.code(), double.cells()), (dgn::unpack(name).unwrap(), places.len()));
+            assert_eq!(double.places(), &places[..places.len().min(8)]);
         }
     }
 }

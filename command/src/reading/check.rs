@@ -82,8 +82,10 @@ fn judge(
             totals.others += names.others;
             return Ok(());
         }
-        let found = all(&batch, workers);
-        for (named, checked) in batch.into_iter().zip(found) {
+        let mut found = together(&batch, workers).into_iter();
+        for named in batch {
+            // one worker alone judges a file when it is its turn
+            let checked = found.next().unwrap_or_else(|| workers[0].check(&named));
             match (checked.answer, named) {
                 (Answer::Folder, Named::File(path)) => {
                     judge(&mut Names::within(path, every), every, workers, totals, output)?;
@@ -98,10 +100,10 @@ fn judge(
     }
 }
 
-/// What was found of each file, in their order.
-fn all(batch: &[Named], workers: &mut [Worker]) -> Vec<Checked> {
-    if let [worker] = workers {
-        return batch.iter().map(|named| worker.check(named)).collect();
+/// What several workers found of each file, in their order; of one worker nothing.
+fn together(batch: &[Named], workers: &mut [Worker]) -> Vec<Checked> {
+    if workers.len() == 1 {
+        return Vec::new();
     }
     let next = AtomicUsize::new(0);
     let done: Mutex<Vec<Option<Checked>>> = Mutex::new(batch.iter().map(|_| None).collect());

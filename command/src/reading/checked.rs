@@ -99,7 +99,7 @@ impl Worker {
                 doubles: finder.find(Entries::of(&entries[..ENTRY_BYTES * cells])),
             },
             Err(refusal) => {
-                Found { fault: faults::of(bytes, taken.dimension, refusal), behind: 0, doubles: Vec::new() }
+                Found { fault: faults::of(bytes, taken.dimension, refusal), behind: 0, doubles: &[] }
             }
         };
         let mut lines = String::new();
@@ -109,7 +109,7 @@ impl Worker {
                 lines = found.refused(bytes.len(), &taken, refusal).line(name) + "\n";
                 0
             }
-            (false, Ok(_)) if quiet => 0,
+            (false, Ok(_)) if quiet || !found.warns(&taken) => 0,
             (false, Ok(_)) => {
                 let before = format!("{}: warning, {}: ", output::name(name), files::shown(taken.dimension));
                 found.warn(&taken, &before, "\n", &mut lines)
@@ -133,13 +133,18 @@ struct Found<'c> {
     /// Words behind the end marker.
     behind: usize,
     /// Codes that several cells have.
-    doubles: Vec<Double<'c>>,
+    doubles: &'c [Double],
 }
 
 impl Found<'_> {
     /// A file that is refused.
     fn refused<'r>(&'r self, length: usize, taken: &'r Taken, refusal: Refusal) -> Refused<'r> {
         Refused { length, taken, refusal, fault: &self.fault }
+    }
+
+    /// Whether there is a warning.
+    fn warns(&self, taken: &Taken) -> bool {
+        self.behind > 0 || taken.warning().is_some() || !self.doubles.is_empty()
     }
 
     /// Puts the warnings in words behind a text, each with something before it and behind it; gives how many there are.
@@ -175,7 +180,7 @@ impl Found<'_> {
         let good = |number: fn(Judged) -> usize| judged.map_or(String::new(), |judged| number(judged).to_string());
         let bad = |text: fn(Refusal) -> String| refusal.map_or(String::new(), text);
         let near = |text: fn(&Near) -> String| self.fault.near.as_ref().map_or(String::new(), text);
-        let codes: Vec<&str> = self.doubles.iter().map(|double| double.code.as_str()).collect();
+        let codes: Vec<String> = self.doubles.iter().map(Double::code).collect();
         let mut said = String::new();
         let warnings = match refusal {
             Some(refusal) => {
