@@ -1,6 +1,6 @@
-/* All views, points, texts, ellipses and arcs of a file in plain C, for the bench alone: judges once by plain_judge and then goes from
- * element to element and fills in the numbers of include/dgn.h, written from the rules. From an element number on, and as
- * many as there is room for. It promises nothing beyond what the bench compares. */
+/* All views, points, texts, ellipses and arcs, and ranges of a file in plain C, for the bench alone: judges once by plain_judge
+ * and then goes from element to element and fills in the numbers of include/dgn.h, written from the rules. From an element
+ * number on, and as many as there is room for. It promises nothing beyond what the bench compares. */
 #include <stdbool.h>
 #include <stddef.h>
 #include <stdint.h>
@@ -13,6 +13,7 @@ size_t plain_judge(const uint8_t *file, size_t len, size_t dim, size_t *out);
 static const unsigned headers = 1u << 1 | 1u << 2 | 1u << 7 | 1u << 12 | 1u << 14 | 1u << 18 | 1u << 19;
 static const unsigned counted = 1u << 7 | 1u << 12 | 1u << 14 | 1u << 18 | 1u << 19;
 static const unsigned pointed = 1u << 4 | 1u << 6 | 1u << 11 | 1u << 21;
+static const unsigned ranged = 1u << 3 | 1u << 4 | 1u << 6 | 1u << 11;
 static const unsigned known = 1u << 1 | 1u << 2 | 1u << 3 | 1u << 4 | 1u << 6 | 1u << 7 | 1u << 11 | 1u << 12 | 1u << 14 |
                               1u << 15 | 1u << 16 | 1u << 17 | 1u << 18 | 1u << 19 | 1u << 21;
 
@@ -73,7 +74,7 @@ static inline void fill(const uint8_t *p, const struct walk *w, unsigned type, s
     if (size >= 14) {
         v[8] = 1;
         for (size_t k = 0; k < 6; k++)
-            v[9 + k] = whole(p, 2 + 2 * k);
+            v[9 + k] = (int64_t)whole(p, 2 + 2 * k) - 2147483648;
     }
     if (among(known, type)) {
         if (type != 1) {
@@ -157,6 +158,49 @@ size_t plain_points(const uint8_t *file, size_t len, size_t dim, size_t k, int64
         for (size_t i = 0; i < n * dim; i++)
             numbers[used + 2 + i] = (int32_t)whole(p, from + 2 * i);
         used += 2 + n * dim;
+    }
+    out[0] = e > k ? e : k;
+    out[1] = used;
+    return 0;
+}
+
+/* Whether n points from p on lie in the range of the six longs at `range`. */
+static inline bool inside(const uint8_t *range, const uint8_t *p, size_t n, size_t dim)
+{
+    for (size_t i = 0; i < n; i++)
+        for (size_t axis = 0; axis < dim; axis++) {
+            int64_t z = (int32_t)whole(p, 2 * (dim * i + axis));
+            if (z < (int64_t)whole(range, 2 * axis) - 2147483648 || z > (int64_t)whole(range, 6 + 2 * axis) - 2147483648)
+                return false;
+        }
+    return true;
+}
+
+/* The places of the elements of types 3, 4, 6 and 11 from element number k on whose points do not all lie in their range, out
+ * the next element number and how many places; or the number of a refusal, and nothing is written. */
+size_t plain_ranges(const uint8_t *file, size_t len, size_t dim, size_t k, int64_t *places, size_t room, size_t *out)
+{
+    size_t judged[3];
+    size_t number = plain_judge(file, len, dim, judged);
+    if (number != 0)
+        return number;
+    size_t at = 0, used = 0, e = 0;
+    for (; e < judged[0]; e++) {
+        const uint8_t *p = file + 2 * at;
+        unsigned type = word(p, 0) >> 8 & 127;
+        at += word(p, 1) + 2;
+        if (e < k || !among(ranged, type))
+            continue;
+        size_t n = type == 3 ? 2 : word(p, 18);
+        size_t from = type == 3 ? 18 : 19;
+        if (inside(p + 4, p + 2 * from, n, dim))
+            continue;
+        if (used == room) {
+            if (used == 0)
+                return 15;
+            break;
+        }
+        places[used++] = (p - file) / 2;
     }
     out[0] = e > k ? e : k;
     out[1] = used;

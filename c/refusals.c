@@ -8,7 +8,7 @@ static const char *const texts[][2] = {
     {"CUT", "An element is cut off, or words are left over after a piece."},
     {"RESERVED", "A bit that has to be zero is set: the file is damaged, or is no version 7 file."},
     {"PLACE", "An element says that it is a component and stands at the top, or the other way round."},
-    {"KIND", "An element's type may not stand there or is not read, or the element is of another type than asked for."},
+    {"KIND", "An element's type may not stand there, is not read, or is none that the call is for."},
     {"SHORT", "An element is too short for its type, or its number of points is not 2 to 101."},
     {"TOTAL", "An element's length does not fit it or what is around it, or is above 65,535 words."},
     {"COUNT", "A header counts other components than it has."},

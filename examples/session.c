@@ -35,11 +35,14 @@ static void show(const char *what, size_t r, size_t due)
 /* a 2D line of 26 words from (x, 0) to (x, 100); component is 1 for one beneath a header */
 static void make_line(uint8_t *line, int32_t x, size_t component)
 {
-    size_t fields[DGN_WRITE_FIELDS] = {0}, out[1];
+    int64_t fields[DGN_WRITE_FIELDS] = {0};
+    size_t out[1];
     const int32_t points[4] = {x, 0, x, 100};
     fields[DGN_WRITE_TYPE] = DGN_LINE;
     fields[DGN_WRITE_LEVEL] = 1;
-    fields[DGN_WRITE_COMPONENT] = component;
+    fields[DGN_WRITE_COMPONENT] = (int64_t)component;
+    fields[DGN_WRITE_LOW_X] = fields[DGN_WRITE_HIGH_X] = x;
+    fields[DGN_WRITE_HIGH_Y] = 100;
     hold("write a line", dgn_write(fields, DGN_WRITE_FIELDS, points, 4, NULL, 0, 2, line, 52, out, 1), DGN_DONE, 2);
 }
 

@@ -31,16 +31,17 @@
  *                             counts from the piece's start
  *
  * Cost. Each call that is handed a file judges all of it: one pass, on the machine of docs/BENCH.md below a millisecond
- * for 1 MiB. To read all elements use dgn_views, dgn_points, dgn_texts and dgn_curves, which make one pass for many
- * elements; dgn_view, dgn_point, dgn_text and dgn_curve make one for each. With room for DGN_FILE_ELEMENTS views,
- * DGN_FILE_NUMBERS numbers of points, DGN_FILE_TEXTS texts and DGN_FILE_CURVES ellipses and arcs one call of each reads any
- * file. Nothing is allocated, and 256 KiB of stack are enough.
+ * for 1 MiB. To read all elements use dgn_views, dgn_points, dgn_texts, dgn_curves and dgn_ranges, which make one pass for
+ * many elements; dgn_view, dgn_point, dgn_text, dgn_curve and dgn_in_range make one for each. With room for
+ * DGN_FILE_ELEMENTS views, DGN_FILE_NUMBERS numbers of points, DGN_FILE_TEXTS texts, DGN_FILE_CURVES ellipses and arcs and
+ * DGN_FILE_RANGES places one call of each reads any file. Nothing is allocated, and 256 KiB of stack are enough.
  *
  * Threads. The library keeps no state: calls may be made from any threads at once, on separate buffers. A buffer that a
  * call writes to is no other thread's until it returns.
  *
- * Ranges and points. A range's six numbers are given as stored, unsigned; MicroStation stores coordinate + 2147483648
- * there, while points are signed. So a point's x lies in the range where low x <= x + 2147483648 <= high x.
+ * Ranges and points. Both are signed coordinates, from -2147483648 to 2147483647: a range stores coordinate + 2147483648,
+ * unsigned, and is given and taken less that. A file is not refused for its ranges; whether they hold their points dgn_in_range
+ * and dgn_ranges say.
  *
  * Floats. The axes and origins of ellipses and arcs are stored as VAX D-floats. Each is given as the nearest double, ties to
  * even, never a NaN and never an infinity. Angles are longs as stored, unsigned: 360000 is a degree; bit 31 of a sweep, which
@@ -56,8 +57,8 @@
 extern "C" {
 #endif
 
-#define DGN_VERSION 0x000300
-#define DGN_VERSION_TEXT "0.3.0"
+#define DGN_VERSION 0x000400
+#define DGN_VERSION_TEXT "0.4.0"
 
 /* A returned number taken apart. */
 #define DGN_NUMBER(r) ((r) & 255)
@@ -65,13 +66,15 @@ extern "C" {
 #define DGN_COUNT(r) (DGN_NUMBER(r) == 13 ? (r) >> 8 : 0)
 
 /* Limits: bytes of a file, piece or buffer of a session; elements of a file, each of two words or more; numbers that
- * dgn_points writes of a file, at most one for two of its words; texts of a file, each of 30 words or more; cells of a file,
- * each of 35 words or more; ellipses and arcs of a file, each of 36 words or more; words of an extent; depth; points of an
- * element; characters, and enter-data fields, of a text. */
+ * dgn_points writes of a file, at most one for two of its words; texts of a file, each of 30 words or more; elements of a
+ * file that dgn_ranges can give, each of 26 words or more; cells of a file, each of 35 words or more; ellipses and arcs of a
+ * file, each of 36 words or more; words of an extent; depth; points of an element; characters, and enter-data fields, of a
+ * text. */
 #define DGN_FILE_BYTES 1048576
 #define DGN_FILE_ELEMENTS 262143
 #define DGN_FILE_NUMBERS 262144
 #define DGN_FILE_TEXTS 17476
+#define DGN_FILE_RANGES 20164
 #define DGN_FILE_CELLS 14979
 #define DGN_FILE_CURVES 14563
 #define DGN_EXTENT_WORDS 65535
@@ -95,7 +98,7 @@ enum dgn_refusal {
     DGN_CUT = 3,          /* an element or piece is cut off, or words are left over after a piece */
     DGN_RESERVED = 4,     /* bit 6 of an element's first word is set */
     DGN_WRONG_PLACE = 5,  /* the component bit is set at the top or clear beneath a header */
-    DGN_KIND = 6,         /* the type may not stand there, or is not read; the element is of another type than asked for */
+    DGN_KIND = 6,         /* the type may not stand there, is not read, or is none that the call is for */
     DGN_SHORT = 7,        /* an element is below its fixed part, or its number of points is not 2 to 101 */
     DGN_TOTAL = 8,        /* a total does not fit its element or what is around it, or more than 65,535 words */
     DGN_WRONG_COUNT = 9,  /* a header's count differs from its components */
@@ -168,7 +171,7 @@ enum dgn_view_index {
     DGN_VIEW_DEPTH = 5,
     DGN_VIEW_HAS_HEADER = 6,      /* 1 if it stands beneath a header */
     DGN_VIEW_HEADER = 7,          /* the direct header's place */
-    DGN_VIEW_HAS_RANGE = 8,       /* 1 for 14 words or more */
+    DGN_VIEW_HAS_RANGE = 8,       /* 1 for 14 words or more: the next six, signed coordinates */
     DGN_VIEW_LOW_X = 9,
     DGN_VIEW_LOW_Y = 10,
     DGN_VIEW_LOW_Z = 11,
@@ -238,6 +241,13 @@ enum { DGN_CURVES_NEXT, DGN_CURVES_COUNT };
 #define DGN_CURVES_NUMBERS 9
 size_t dgn_curves(const uint8_t *file, size_t len, size_t dimension, size_t k, int64_t *numbers, size_t numbers_len, double *floats, size_t floats_len, size_t *out, size_t out_len);
 
+/* The places of those of the elements number k, k+1, .. of which dgn_in_range would answer 0, as many as `places` holds; what
+ * stands behind them stays. out needs 2: the number of the element to go on with, as for dgn_points, and how many places. 15
+ * where one is left and `places` is empty. */
+enum { DGN_RANGES_NEXT, DGN_RANGES_COUNT };
+#define DGN_RANGES_NUMBERS 2
+size_t dgn_ranges(const uint8_t *file, size_t len, size_t dimension, size_t k, int64_t *places, size_t places_len, size_t *out, size_t out_len);
+
 /* ---- one element: the one that starts at `place`. Refusals of each: 1, the file's own, 13 ---- */
 
 /* Its extent. out needs 2: its first word and the word after its last. */
@@ -252,6 +262,11 @@ size_t dgn_view(const uint8_t *file, size_t len, size_t dimension, size_t place,
 enum { DGN_POINT_X, DGN_POINT_Y, DGN_POINT_Z };
 #define DGN_POINT_NUMBERS 3
 size_t dgn_point(const uint8_t *file, size_t len, size_t dimension, size_t place, size_t k, int64_t *out, size_t out_len);
+
+/* Whether all points of an element of type 3, 4, 6 or 11 lie in its range, both ends included: by x and y, in a 3D file by z
+ * too. out needs 1: 1 or 0. Last of all 6 at its place where it is of another type. */
+#define DGN_IN_RANGE_NUMBERS 1
+size_t dgn_in_range(const uint8_t *file, size_t len, size_t dimension, size_t place, size_t *out, size_t out_len);
 
 /* Linkage k, from 0. out needs 4: 1 for a user linkage, place, size in words, id. 13 where there is none. */
 enum { DGN_LINKAGE_USER, DGN_LINKAGE_PLACE, DGN_LINKAGE_SIZE, DGN_LINKAGE_ID };
@@ -376,19 +391,19 @@ size_t dgn_look_up_with_deleted(const uint8_t *index, size_t index_len, size_t u
 
 /* ---- writing ---- */
 
-/* The fields of an element to write: all words and longs as stored, so the range unsigned. */
+/* The fields of an element to write: the range in signed coordinates, all others as stored. */
 enum dgn_write_index {
     DGN_WRITE_TYPE = 0,           /* 3, 4, 6 or 11; of dgn_write_text 17 */
     DGN_WRITE_LEVEL = 1,          /* to 63 */
     DGN_WRITE_COMPONENT = 2,      /* C: 1 for one that is to stand beneath a header, else 0 */
     DGN_WRITE_DELETED = 3,        /* 0 or 1 */
-    DGN_WRITE_LOW_X = 4,
+    DGN_WRITE_LOW_X = 4,          /* these six from -2147483648 to 2147483647 */
     DGN_WRITE_LOW_Y = 5,
     DGN_WRITE_LOW_Z = 6,
     DGN_WRITE_HIGH_X = 7,
     DGN_WRITE_HIGH_Y = 8,
     DGN_WRITE_HIGH_Z = 9,
-    DGN_WRITE_GROUP = 10,
+    DGN_WRITE_GROUP = 10,         /* these three to 65535 */
     DGN_WRITE_ATTRIBUTE_INDEX = 11, /* where linkages begin, counted from word 16 */
     DGN_WRITE_PROPERTIES = 12,    /* with DGN_HAS_ATTRIBUTES where the tail has linkages */
     DGN_WRITE_STYLE = 13,         /* to 7 */
@@ -403,9 +418,9 @@ enum dgn_write_index {
  *   points  all coordinates, one point after another
  *   tail    all words after the fixed part, as bytes; the fixed part of a line has 26 words (3D: 30), that of the
  *           others 19 and two for each coordinate
- * Refusals, in this order, each at place 0: 1 (also fields of another number than 16, another type, not two points for
- * type 3, not a whole number of points, an odd tail), 7 (points not 2 to 101), 8 (above 65,535 words), 11, 15. */
-size_t dgn_write(const size_t *fields, size_t fields_len, const int32_t *points, size_t points_len, const uint8_t *tail, size_t tail_len, size_t dimension, uint8_t *buffer, size_t buffer_len, size_t *out, size_t out_len);
+ * Refusals, in this order, each at place 0: 1 (also fields of another number than 16 or out of their ranges, another type, not
+ * two points for type 3, not a whole number of points, an odd tail), 7 (points not 2 to 101), 8 (above 65,535 words), 11, 15. */
+size_t dgn_write(const int64_t *fields, size_t fields_len, const int32_t *points, size_t points_len, const uint8_t *tail, size_t tail_len, size_t dimension, uint8_t *buffer, size_t buffer_len, size_t *out, size_t out_len);
 
 /* The numbers of a text to write. Multipliers and turn are unsigned longs, the origin signed ones. */
 enum dgn_write_text_index {
@@ -433,7 +448,7 @@ enum dgn_write_text_index {
  * Refusals, in this order, each at place 0: 1 (also lists of other lengths, a number out of its range, another type than 17,
  * in 2D a z or one of the last three longs of the turn other than 0, an odd byte where there is none, an odd tail), 20, 8
  * (above 65,535 words), 11, 15. */
-size_t dgn_write_text(const size_t *fields, size_t fields_len, const int64_t *text, size_t text_len, const uint8_t *characters, size_t characters_len, const uint8_t *triples, size_t triples_len, const uint8_t *tail, size_t tail_len, size_t dimension, uint8_t *buffer, size_t buffer_len, size_t *out, size_t out_len);
+size_t dgn_write_text(const int64_t *fields, size_t fields_len, const int64_t *text, size_t text_len, const uint8_t *characters, size_t characters_len, const uint8_t *triples, size_t triples_len, const uint8_t *tail, size_t tail_len, size_t dimension, uint8_t *buffer, size_t buffer_len, size_t *out, size_t out_len);
 
 /* ---- editing (dgn_session.h has the same calls, with an index or without, with the buffers and used lengths in a struct) ----
  *

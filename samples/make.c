@@ -1,7 +1,7 @@
 /* Makes the sample files in a folder:
  *   make FOLDER
  * Lines, line strings, shapes and curves are made by dgn_write, texts by dgn_write_text, the headers of cells and text nodes,
- * ellipses and arcs here, word by word as docs/RULES.md says; the ranges of headers and the words that it does not name are 0.
+ * ellipses and arcs here, word by word as docs/RULES.md says; the words of headers' ranges and those that it does not name are 0.
  * Each file is judged before it is written: where an answer is not the expected one, the program says so and ends with status 1.
  */
 #include <math.h>
@@ -28,28 +28,27 @@ static void put(size_t i, size_t word)
 }
 
 /* The fields of an element behind the last one, whose linkages would begin behind so many words. The range is that of the
- * points, unsigned numbers, each coordinate raised by 2147483648; z is 0. */
-static void fields_of(size_t *fields, size_t type, size_t deleted, const int32_t *points, size_t n, size_t fixed, size_t linked)
+ * points; z is 0. */
+static void fields_of(int64_t *fields, size_t type, size_t deleted, const int32_t *points, size_t n, size_t fixed, size_t linked)
 {
-    size_t range[6] = {4294967295, 4294967295, 2147483648, 0, 0, 2147483648};
+    int64_t range[6] = {INT32_MAX, INT32_MAX, 0, INT32_MIN, INT32_MIN, 0};
     for (size_t k = 0; k < n; k++) {
-        size_t v = (size_t)((int64_t)points[k] + 2147483648);
-        if (v < range[k % 2]) range[k % 2] = v;
-        if (v > range[3 + k % 2]) range[3 + k % 2] = v;
+        if (points[k] < range[k % 2]) range[k % 2] = points[k];
+        if (points[k] > range[3 + k % 2]) range[3 + k % 2] = points[k];
     }
-    const size_t these[DGN_WRITE_FIELDS] = {
-        [DGN_WRITE_TYPE] = type,
+    const int64_t these[DGN_WRITE_FIELDS] = {
+        [DGN_WRITE_TYPE] = (int64_t)type,
         [DGN_WRITE_LEVEL] = 1,
         [DGN_WRITE_COMPONENT] = depth > 0,
-        [DGN_WRITE_DELETED] = deleted,
+        [DGN_WRITE_DELETED] = (int64_t)deleted,
         [DGN_WRITE_LOW_X] = range[0],
         [DGN_WRITE_LOW_Y] = range[1],
         [DGN_WRITE_LOW_Z] = range[2],
         [DGN_WRITE_HIGH_X] = range[3],
         [DGN_WRITE_HIGH_Y] = range[4],
         [DGN_WRITE_HIGH_Z] = range[5],
-        [DGN_WRITE_ATTRIBUTE_INDEX] = fixed - 16,
-        [DGN_WRITE_PROPERTIES] = linked,
+        [DGN_WRITE_ATTRIBUTE_INDEX] = (int64_t)fixed - 16,
+        [DGN_WRITE_PROPERTIES] = (int64_t)linked,
         [DGN_WRITE_WEIGHT] = 1,
         [DGN_WRITE_COLOUR] = 3,
     };
@@ -59,7 +58,8 @@ static void fields_of(size_t *fields, size_t type, size_t deleted, const int32_t
 /* Writes an element behind the last one. A linkage is the tail; its bit A and its place go into the fields. */
 static void draw(size_t type, size_t deleted, const int32_t *points, size_t n, const uint8_t *tail, size_t tail_len)
 {
-    size_t fields[DGN_WRITE_FIELDS], out[1];
+    int64_t fields[DGN_WRITE_FIELDS];
+    size_t out[1];
     fields_of(fields, type, deleted, points, n, type == DGN_LINE ? 26 : 19 + 2 * n, tail_len > 0 ? DGN_HAS_ATTRIBUTES : 0);
     if (dgn_write(fields, DGN_WRITE_FIELDS, points, n, tail, tail_len, 2, file + 2 * used, sizeof file - 2 * used, out, 1) != 0)
         stop("an element is not written");
@@ -115,7 +115,8 @@ static void letter(size_t deleted, int32_t x, int32_t y, const char *characters,
         [DGN_WRITE_TEXT_X] = x,
         [DGN_WRITE_TEXT_Y] = y,
     };
-    size_t fields[DGN_WRITE_FIELDS], out[1];
+    int64_t fields[DGN_WRITE_FIELDS];
+    size_t out[1];
     fields_of(fields, DGN_TEXT, deleted, corners, 4, 30 + (n + triples_len + 1) / 2, 0);
     if (dgn_write_text(fields, DGN_WRITE_FIELDS, text, DGN_WRITE_TEXT_NUMBERS, (const uint8_t *)characters, n, triples, triples_len, NULL, 0, 2,
                        file + 2 * used, sizeof file - 2 * used, out, 1) != 0)
@@ -163,15 +164,17 @@ static void ring(size_t deleted, struct ring r)
 {
     const int32_t corners[4] = {whole(r.x - r.primary), whole(r.y - r.secondary), -whole(-r.x - r.primary), -whole(-r.y - r.secondary)};
     const size_t type = r.sweep == 0 ? DGN_ELLIPSE : DGN_ARC, size = type == DGN_ELLIPSE ? 36 : 40, at = used;
-    size_t fields[DGN_WRITE_FIELDS], axes = at + 18;
+    int64_t fields[DGN_WRITE_FIELDS];
+    size_t axes = at + 18;
     fields_of(fields, type, deleted, corners, 4, size, 0);
     memset(file + 2 * at, 0, 2 * size);
-    put(at, fields[DGN_WRITE_LEVEL] | fields[DGN_WRITE_COMPONENT] << 7 | type << 8 | deleted << 15);
+    put(at, (size_t)(fields[DGN_WRITE_LEVEL] | fields[DGN_WRITE_COMPONENT] << 7) | type << 8 | deleted << 15);
     put(at + 1, size - 2);
+    /* a range stores coordinate + 2147483648 */
     for (size_t k = 0; k < 6; k++)
-        put_long(at + 2 + 2 * k, fields[DGN_WRITE_LOW_X + k]);
-    put(at + 15, fields[DGN_WRITE_ATTRIBUTE_INDEX]);
-    put(at + 17, fields[DGN_WRITE_STYLE] | fields[DGN_WRITE_WEIGHT] << 3 | fields[DGN_WRITE_COLOUR] << 8);
+        put_long(at + 2 + 2 * k, (size_t)(fields[DGN_WRITE_LOW_X + k] + 2147483648));
+    put(at + 15, (size_t)fields[DGN_WRITE_ATTRIBUTE_INDEX]);
+    put(at + 17, (size_t)(fields[DGN_WRITE_STYLE] | fields[DGN_WRITE_WEIGHT] << 3 | fields[DGN_WRITE_COLOUR] << 8));
     if (type == DGN_ARC) {
         put_long(axes, (size_t)(360000 * r.start));
         put_long(axes + 2, (size_t)(360000 * r.sweep));

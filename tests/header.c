@@ -100,13 +100,16 @@ static void put(size_t i, unsigned word)
 }
 
 /* the numbers of the cell's view and of the line's */
-#define CELL 0, 0, 2, 0, 46, 0, 0, 0, 1, 0, 0, 0, 0, 0, 0, 1, 0, 0, 0, 0, 0, 0, 0, 0, 1, 49234, 51080, 1, 53, 0, 0, 0
-#define LINE 5, 1, 3, 1, 26, 1, 1, 0, 1, 10, 11, 12, 13, 14, 4294967295, 1, 15, 16, 17, 2, 3, 4, 0, 0, 0, 0, 0, 0, 0, 0, 0, 46
+#define LOWEST INT32_MIN, INT32_MIN, INT32_MIN
+#define CELL 0, 0, 2, 0, 46, 0, 0, 0, 1, LOWEST, LOWEST, 1, 0, 0, 0, 0, 0, 0, 0, 0, 1, 49234, 51080, 1, 53, 0, 0, 0
+#define LINE 5, 1, 3, 1, 26, 1, 1, 0, 1, 1, -2, INT32_MAX, 65538, 7, INT32_MIN, 1, 15, 16, 17, 2, 3, 4, 0, 0, 0, 0, 0, 0, 0, 0, 0, 46
 
-/* the file: the line is written where the cell's own words end: level 5, C and deleted set, from (1, -2) to (65538, 7) */
+/* the file: the line is written where the cell's own words end: level 5, C and deleted set, from (1, -2) to (65538, 7), which its
+ * range just holds; as z it has a low one above the high one */
 static void writing(void)
 {
-    const size_t fields[DGN_WRITE_FIELDS] = {3, 5, 1, 1, 10, 11, 12, 13, 14, 4294967295, 15, 16, 17, 2, 3, 4};
+    const int64_t fields[DGN_WRITE_FIELDS] = {3, 5, 1, 1, 1, -2, INT32_MAX, 65538, 7, INT32_MIN, 15, 16, 17, 2, 3, 4};
+    int64_t other[DGN_WRITE_FIELDS];
     const int32_t points[4] = {1, -2, 65538, 7};
     uint8_t line[54];
     put(0, DGN_CELL << 8);
@@ -120,11 +123,23 @@ static void writing(void)
     check(refused(dgn_write(fields, 16, points, 4, NULL, 0, 2, line, 51, fresh(), 1), DGN_ROOM, 0) && line[0] == 9, "no room");
     check(refused(dgn_write(fields, 15, points, 4, NULL, 0, 2, line, 54, fresh(), 1), DGN_CALL, 0) && line[0] == 9, "fields");
     check(refused(dgn_write(fields, 16, points, 4, NULL, 0, 2, line, 54, fresh(), 0), DGN_CALL, 0) && line[0] == 9, "no out");
+    memcpy(other, fields, sizeof other);
+    other[DGN_WRITE_HIGH_Z] = (int64_t)INT32_MIN - 1;
+    check(refused(dgn_write(other, 16, points, 4, NULL, 0, 2, line, 54, fresh(), 1), DGN_CALL, 0) && line[0] == 9, "below the lowest coordinate");
+    other[DGN_WRITE_HIGH_Z] = (int64_t)INT32_MAX + 1;
+    check(refused(dgn_write(other, 16, points, 4, NULL, 0, 2, line, 54, fresh(), 1), DGN_CALL, 0) && line[0] == 9, "above the highest");
+    other[DGN_WRITE_HIGH_Z] = INT64_MIN;
+    check(refused(dgn_write(other, 16, points, 4, NULL, 0, 2, line, 54, fresh(), 1), DGN_CALL, 0) && line[0] == 9, "far below it");
+    other[DGN_WRITE_HIGH_Z] = 0;
+    other[DGN_WRITE_COLOUR] = -1;
+    check(refused(dgn_write(other, 16, points, 4, NULL, 0, 2, line, 54, fresh(), 1), DGN_CALL, 0) && line[0] == 9, "a colour below 0");
     check(dgn_write(fields, 16, points, 4, NULL, 0, 2, line, 54, fresh(), 1) == 0 && ARE(26), "write");
     check(line[52] == 9 && line[53] == 9, "bytes behind the element");
     memcpy(file + 92, line, 52);
-    /* a long is two words, high word first: 65538 is 01 00 02 00, -2 is FF FF FE FF */
+    /* a long is two words, high word first: 65538 is 01 00 02 00, -2 is FF FF FE FF; in a range they are 01 80 02 00 and FF 7F FE FF */
     check(memcmp(file + 92 + 44, "\1\0\2\0", 4) == 0 && memcmp(file + 92 + 40, "\377\377\376\377", 4) == 0, "longs");
+    check(memcmp(file + 92 + 16, "\1\200\2\0", 4) == 0 && memcmp(file + 92 + 8, "\377\177\376\377", 4) == 0, "longs of a range");
+    check(memcmp(file + 92 + 12, "\377\377\377\377\1\200", 6) == 0 && memcmp(file + 92 + 24, "\0\0\0\0", 4) == 0, "the highest and the lowest");
 }
 
 static void reading(void)
@@ -166,10 +181,11 @@ static void reading(void)
 static uint8_t plate[72];
 #define PLATE 3, 7, 1000, 4294901761, 65538, 0, 0, 0, -2, 5, 0, 6, 1, 42, 60
 
-/* its words, as they are stored, and its last byte */
+/* its words, as they are stored, and its last byte; in a range a 0 is 00 80 00 00 */
+#define ZERO 32768, 0
 static int is_plate(const uint8_t *at)
 {
-    static const unsigned words[30] = {17 << 8, 33, 0, 0, 0, 0, 0, 0, 0, 0, 0, 0, 0, 0, 0, 0, 0, 0, 3 | 7 << 8, 0, 1000, 65535, 1, 1, 2, 65535, 65534, 0, 5, 6 | 1 << 8};
+    static const unsigned words[30] = {17 << 8, 33, ZERO, ZERO, ZERO, ZERO, ZERO, ZERO, 0, 0, 0, 0, 3 | 7 << 8, 0, 1000, 65535, 1, 1, 2, 65535, 65534, 0, 5, 6 | 1 << 8};
     for (size_t i = 0; i < 30; i++)
         if (at[2 * i] != (words[i] & 255) || at[2 * i + 1] != words[i] >> 8)
             return 0;
@@ -178,12 +194,13 @@ static int is_plate(const uint8_t *at)
 
 static void writing_text(void)
 {
-    static const size_t fields[DGN_WRITE_FIELDS] = {DGN_TEXT};
+    static const int64_t fields[DGN_WRITE_FIELDS] = {DGN_TEXT};
     static const int64_t of[DGN_WRITE_TEXT_NUMBERS] = {3, 7, 1000, 4294901761, 65538, 0, 0, 0, -2, 5, 0, 42};
-    static const size_t line[DGN_WRITE_FIELDS] = {DGN_LINE};
+    static const int64_t line[DGN_WRITE_FIELDS] = {DGN_LINE};
     static const uint8_t triple[3] = {5, 2, 255}, past[3] = {5, 3, 255};
     static uint8_t tail[131010];
-    static const size_t linked[DGN_WRITE_FIELDS] = {DGN_TEXT, 0, 0, 0, 0, 0, 0, 0, 0, 0, 0, 19, DGN_HAS_ATTRIBUTES};
+    static const int64_t high[DGN_WRITE_FIELDS] = {DGN_TEXT, [DGN_WRITE_HIGH_X] = 2147483648}, dead[DGN_WRITE_FIELDS] = {DGN_TEXT, [DGN_WRITE_DELETED] = -1};
+    static const int64_t linked[DGN_WRITE_FIELDS] = {DGN_TEXT, 0, 0, 0, 0, 0, 0, 0, 0, 0, 0, 19, DGN_HAS_ATTRIBUTES};
     int64_t other[DGN_WRITE_TEXT_NUMBERS];
 #define WRITE_TEXT(fields, of, triple, tail, tail_len, room, out_len) \
     dgn_write_text(fields, 16, of, 12, TEXT("SEAL 7"), triple, 3, tail, tail_len, 2, plate, room, fresh(), out_len)
@@ -191,6 +208,8 @@ static void writing_text(void)
     check(refused(WRITE_TEXT(fields, of, triple, NULL, 0, 69, 1), DGN_ROOM, 0), "no room for a text");
     check(refused(WRITE_TEXT(fields, of, triple, NULL, 0, 72, 0), DGN_CALL, 0), "no out for a text");
     check(refused(WRITE_TEXT(line, of, triple, NULL, 0, 72, 1), DGN_CALL, 0), "a text of type 3");
+    check(refused(WRITE_TEXT(high, of, triple, NULL, 0, 72, 1), DGN_CALL, 0), "a text's range above the highest coordinate");
+    check(refused(WRITE_TEXT(dead, of, triple, NULL, 0, 72, 1), DGN_CALL, 0), "a text deleted by -1");
     check(refused(WRITE_TEXT(fields, of, triple, tail, 1, 72, 1), DGN_CALL, 0), "an odd tail");
     check(refused(WRITE_TEXT(fields, of, past, tail, 131010, 72, 1), DGN_FIELD, 0), "a field past the characters, before 8");
     check(refused(WRITE_TEXT(fields, of, triple, tail, 131002, 72, 1), DGN_TOTAL, 0), "65,536 words, before 15");
@@ -223,6 +242,7 @@ static void text(void)
     check(dgn_characters(plate, size, 2, 0, fresh(), 2) == 0 && ARE(60, 6), "characters");
     check(refused(dgn_characters(plate, size, 2, 0, fresh(), 1), DGN_CALL, 0), "one number for characters");
     check(refused(dgn_characters(file, len, 2, 0, fresh(), 2), DGN_KIND, 0), "a cell is no text");
+    check(refused(dgn_in_range(plate, size, 2, 0, fresh(), 1), DGN_KIND, 0), "a text has no points");
     fresh();
     check(dgn_field(plate, size, 2, 0, 0, fresh_numbers(), 3) == 0 && NUMBERS_ARE(5, 2, -1), "field 0");
     check(refused(dgn_field(plate, size, 2, 0, 1, fresh_numbers(), 3), DGN_NO_SUCH, 0), "no field 1");
@@ -318,6 +338,45 @@ static void whole(void)
     check(refused(dgn_points(file, len, 4, 0, fresh_numbers(), 6, fresh(), 2), DGN_CALL, 0), "dimension 4");
 }
 
+/* whether the line's range holds its points, which are on its ends: word by word of its low and high x and y past one of them */
+static void ranges(void)
+{
+    fresh_numbers();
+    check(dgn_in_range(file, len, 2, 46, fresh(), 1) == 0 && ARE(1), "in range");
+    check(refused(dgn_in_range(file, len, 2, 46, fresh(), 0), DGN_CALL, 0), "no number for the answer");
+    check(refused(dgn_in_range(file, len, 2, 45, fresh(), 1), DGN_NO_SUCH, 0), "no element there");
+    check(refused(dgn_in_range(file, len, 2, 0, fresh(), 1), DGN_KIND, 0), "a cell has no points");
+    check(refused(dgn_in_range(file, len - 2, 2, 46, fresh(), 1), DGN_NO_END, 72), "the file's own refusal");
+    check(dgn_ranges(file, len, 2, 0, fresh_numbers(), 0, fresh(), 2) == 0 && ARE(2, 0) && numbers_are(0, NULL), "each range holds its points");
+    for (size_t i = 0; i < 4; i++) {
+        const size_t at = 46 + 2 + 6 * (i / 2) + 2 * (i % 2) + 1;
+        const unsigned word = file[2 * at] + 256u * file[2 * at + 1];
+        put(at, i < 2 ? word + 1 : word - 1);
+        fresh_numbers();
+        check(dgn_in_range(file, len, 2, 46, fresh(), 1) == 0 && ARE(0), "one past an end");
+        check(dgn_ranges(file, len, 2, 0, fresh_numbers(), 1, fresh(), 2) == 0 && ARE(2, 1) && NUMBERS_ARE(46), "its place");
+        check(dgn_ranges(file, len, 2, 1, fresh_numbers(), ROOM, fresh(), 2) == 0 && ARE(2, 1) && NUMBERS_ARE(46), "from 1 on");
+        check(dgn_ranges(file, len, 2, 2, fresh_numbers(), ROOM, fresh(), 2) == 0 && ARE(2, 0) && numbers_are(0, NULL), "none behind it");
+        check(dgn_ranges(file, len, 2, 9, fresh_numbers(), ROOM, fresh(), 2) == 0 && ARE(9, 0) && numbers_are(0, NULL), "none behind the end");
+        check(refused(dgn_ranges(file, len, 2, 0, fresh_numbers(), 0, fresh(), 2), DGN_ROOM, 0), "no room for a place");
+        check(refused(dgn_ranges(file, len, 2, 0, fresh_numbers(), 1, fresh(), 1), DGN_CALL, 0), "one number for two");
+        check(refused(dgn_ranges(file, len - 2, 2, 0, fresh_numbers(), 1, fresh(), 2), DGN_NO_END, 72), "the file's own refusal");
+        put(at, word);
+    }
+
+    /* a 3D shape of three points, whose last one is on the high ends, with z one past it */
+    static uint8_t solid[76];
+    int64_t fields[DGN_WRITE_FIELDS] = {DGN_SHAPE, [DGN_WRITE_HIGH_Y] = 8, [DGN_WRITE_HIGH_Z] = 9};
+    const int32_t points[9] = {0, 0, 0, 0, 4, 0, 0, 8, 9};
+    memset(solid, 255, sizeof solid);
+    check(dgn_write(fields, 16, points, 9, NULL, 0, 3, solid, 74, fresh(), 1) == 0 && ARE(37), "a shape in space");
+    check(dgn_in_range(solid, 76, 3, 0, fresh(), 1) == 0 && ARE(1), "in its range");
+    fields[DGN_WRITE_HIGH_Z] = 8;
+    check(dgn_write(fields, 16, points, 9, NULL, 0, 3, solid, 74, fresh(), 1) == 0 && ARE(37), "with a lower range");
+    check(dgn_in_range(solid, 76, 3, 0, fresh(), 1) == 0 && ARE(0), "z above it");
+    check(dgn_ranges(solid, 76, 3, 0, fresh_numbers(), 1, fresh(), 2) == 0 && ARE(1, 1) && NUMBERS_ARE(0), "its place");
+}
+
 /* four library cells that hold nothing, named 417, 00417, 417 and A, and the end marker; their entries in file order and in that of
  * an index, which is that of the words: A is 1600, 0 */
 static uint8_t parts[282];
@@ -337,13 +396,14 @@ static void put_parts(void)
     memset(parts + 280, 255, 2);
 }
 
-/* the files of the most elements, points, texts, cells and ellipses: one call reads all of them */
+/* the files of the most elements, points, texts, lines, cells and ellipses: one call reads all of them */
 static void largest(void)
 {
     static uint8_t large[DGN_FILE_BYTES];
     static int64_t all[DGN_FILE_ELEMENTS * DGN_VIEW_NUMBERS];
     static const int32_t points[3 * DGN_MOST_POINTS];
-    const size_t fields[DGN_WRITE_FIELDS] = {DGN_SHAPE}, shapes = (DGN_FILE_BYTES - 2) / 1250;
+    const int64_t fields[DGN_WRITE_FIELDS] = {DGN_SHAPE};
+    const size_t shapes = (DGN_FILE_BYTES - 2) / 1250;
     size_t at;
     for (at = 0; at + 6 <= sizeof large; at += 4)
         large[at + 1] = 5;
@@ -356,7 +416,7 @@ static void largest(void)
     large[at] = large[at + 1] = 255;
     check(dgn_points(large, sizeof large, 3, 0, all, DGN_FILE_NUMBERS, fresh(), 2) == 0 && ARE(shapes, 305 * shapes), "the most points");
 
-    const size_t of[DGN_WRITE_FIELDS] = {DGN_TEXT};
+    const int64_t of[DGN_WRITE_FIELDS] = {DGN_TEXT};
     const int64_t zeros[DGN_WRITE_TEXT_NUMBERS] = {0};
     check(dgn_write_text(of, 16, zeros, 12, NULL, 0, NULL, 0, NULL, 0, 2, large, 60, fresh(), 1) == 0 && ARE(30), "the shortest text");
     for (at = 60; at < 60 * DGN_FILE_TEXTS; at += 60)
@@ -364,6 +424,16 @@ static void largest(void)
     check(at + 60 + 2 > sizeof large, "no more of them in a file");
     large[at] = large[at + 1] = 255;
     check(dgn_texts(large, sizeof large, 2, 0, all, DGN_FILE_TEXTS * DGN_TEXTS_NUMBERS, fresh(), 2) == 0 && ARE(DGN_FILE_TEXTS, DGN_FILE_TEXTS), "the most texts");
+
+    const int64_t line[DGN_WRITE_FIELDS] = {DGN_LINE};
+    const int32_t ends[4] = {0, 0, 0, 1};
+    check(dgn_write(line, 16, ends, 4, NULL, 0, 2, large, 52, fresh(), 1) == 0 && ARE(26), "a line outside its range");
+    for (at = 52; at < 52 * DGN_FILE_RANGES; at += 52)
+        memcpy(large + at, large, 52);
+    check(at + 52 + 2 > sizeof large, "no more of them in a file");
+    large[at] = large[at + 1] = 255;
+    check(dgn_ranges(large, sizeof large, 2, 0, all, DGN_FILE_RANGES, fresh(), 2) == 0 && ARE(DGN_FILE_RANGES, DGN_FILE_RANGES), "the most ranges");
+    check(all[DGN_FILE_RANGES - 1] == 26 * (DGN_FILE_RANGES - 1), "the last of their places");
 
     static uint8_t index[DGN_INDEX_BYTES];
     put_parts();
@@ -676,7 +746,7 @@ static void refusals(void)
         check(dgn_refusal_name(n + 256 * 1100) == dgn_refusal_name(n), all[n]);
     }
     check(strcmp(dgn_refusal_name(none), "UNKNOWN") == 0 && strcmp(dgn_refusal_name(DGN_TOP), "UNKNOWN") == 0, "no refusal");
-    check(DGN_VERSION == 0x000300 && strcmp(DGN_VERSION_TEXT, "0.3.0") == 0, "the version");
+    check(DGN_VERSION == 0x000400 && strcmp(DGN_VERSION_TEXT, "0.4.0") == 0, "the version");
 }
 
 int main(void)
@@ -689,6 +759,7 @@ int main(void)
     text();
     curves();
     whole();
+    ranges();
     largest();
     names();
     indexing();

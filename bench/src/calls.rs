@@ -43,6 +43,15 @@ extern "C" {
         floats_room: usize,
         out: *mut usize,
     ) -> usize;
+    fn plain_ranges(
+        file: *const u8,
+        len: usize,
+        dim: usize,
+        k: usize,
+        places: *mut i64,
+        room: usize,
+        out: *mut usize,
+    ) -> usize;
     fn hop_sizes(file: *const u8) -> usize;
     fn hop_totals(file: *const u8) -> usize;
     fn hop_extent(file: *const u8, at: usize, end: usize) -> usize;
@@ -187,6 +196,20 @@ pub fn curves_in_c(file: &[u8], dim: u64, k: usize, slices: &mut Slices) -> Put 
         )
     };
     put(returned, out[0], [raw::CURVES_NUMBERS * out[1], raw::CURVE_FLOATS * out[1]])
+}
+
+/// The places of elements whose points do not all lie in their range.
+pub fn ranges(file: &[u8], dim: u64, k: usize, slices: &mut Slices) -> Put {
+    let mut out = [0; 2];
+    let returned = raw::ranges(file, dim as usize, k, &mut slices.numbers, &mut out);
+    put(returned, out[0], [out[1], 0])
+}
+
+pub fn ranges_in_c(file: &[u8], dim: u64, k: usize, slices: &mut Slices) -> Put {
+    let mut out = [0; 2];
+    let (p, room, o) = (slices.numbers.as_mut_ptr(), slices.numbers.len(), out.as_mut_ptr());
+    let returned = unsafe { plain_ranges(file.as_ptr(), file.len(), dim as usize, k, p, room, o) };
+    put(returned, out[0], [out[1], 0])
 }
 
 /// The elements at all depths and at the top of an accepted file.

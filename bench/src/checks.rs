@@ -6,17 +6,18 @@ use crate::inputs::{Input, ABSENT, LAST};
 use crate::whole::{self, Fill};
 use reader::generate::{aimed, changes, large, two_faults, valid, Random, ORDER};
 
-/// Views, points, texts, and ellipses and arcs, each by the library and by C, and the numbers and floats of a part.
-const FILLS: [(Fill, Fill, [usize; 2]); 4] = [
+/// Views, points, texts, ellipses and arcs, and ranges, each by the library and by C, and the numbers and floats of a part.
+const FILLS: [(Fill, Fill, [usize; 2]); 5] = [
     (calls::views, calls::views_in_c, whole::VIEWS),
     (calls::points, calls::points_in_c, whole::POINTS),
     (calls::texts, calls::texts_in_c, whole::TEXTS),
     (calls::curves, calls::curves_in_c, whole::CURVES),
+    (calls::ranges, calls::ranges_in_c, whole::RANGES),
 ];
 
 /// So many numbers and floats.
-const ROOMS: [[usize; 2]; 9] =
-    [[100, 100], [17, 0], [18, 0], [36, 0], [9, 5], [8, 5], [9, 4], [18, 9], [100, 14]];
+const ROOMS: [[usize; 2]; 11] =
+    [[100, 100], [0, 0], [1, 0], [17, 0], [18, 0], [36, 0], [9, 5], [8, 5], [9, 4], [18, 9], [100, 14]];
 
 /// Files judged alike, and how many of them are refused.
 #[derive(Default)]
@@ -46,7 +47,7 @@ impl Checked {
         }
     }
 
-    /// All views, points, texts, and ellipses and arcs of a measured input: those of the library in one part, in parts, and of C.
+    /// All views, points, texts, ellipses and arcs, and ranges of a measured input: those of the library in one part, in parts, and of C.
     fn whole(&self, input: &Input) {
         let dim = input.kind.dim();
         let elements = calls::judge(&input.file, dim).expect("an accepted file").elements as usize;

@@ -20,10 +20,16 @@ pub enum Kind {
     Mixed3D,
     Texts,
     Curves,
+    Strings,
+    Strings3D,
+    Drawn,
 }
 
 pub const KINDS: [Kind; 7] =
     [Kind::Lines, Kind::Cells, Kind::Raw, Kind::Mixed, Kind::Mixed3D, Kind::Texts, Kind::Curves];
+
+/// Those whose ranges are true; of the others they are any words.
+pub const RANGED: [Kind; 3] = [Kind::Strings, Kind::Strings3D, Kind::Drawn];
 
 impl Kind {
     pub fn name(self) -> &'static str {
@@ -35,14 +41,16 @@ impl Kind {
             Kind::Mixed3D => "mixed, 3D",
             Kind::Texts => "texts",
             Kind::Curves => "ellipses and arcs",
+            Kind::Strings => "line strings",
+            Kind::Strings3D => "line strings, 3D",
+            Kind::Drawn => "lines with true ranges",
         }
     }
 
     pub fn dim(self) -> u64 {
-        if self == Kind::Mixed3D {
-            3
-        } else {
-            2
+        match self {
+            Kind::Mixed3D | Kind::Strings3D => 3,
+            _ => 2,
         }
     }
 
@@ -58,8 +66,34 @@ impl Kind {
             }
             Kind::Texts => text(random),
             Kind::Curves => curve(random),
+            Kind::Strings | Kind::Strings3D => {
+                let n = 2 + random.index(100);
+                let mut own = plain(random, 4, elements::fixed(4, self.dim(), n), false);
+                own[18] = n as u16;
+                ranged(random, own, 19, self.dim() as usize)
+            }
+            Kind::Drawn => {
+                let own = plain(random, 3, elements::fixed(3, 2, 0), false);
+                ranged(random, own, 18, 2)
+            }
         }
     }
+}
+
+/// An element with the range of its points, which are its last words; one in sixteen with a high x that is one too low.
+fn ranged(random: &mut Random, mut own: Vec<u16>, points: usize, dim: usize) -> Node {
+    let longs: Vec<u32> = own[points..].chunks(2).map(|pair| u32::from(pair[0]) << 16 | u32::from(pair[1])).collect();
+    for axis in 0..dim {
+        // in the order of their numbers
+        let stored = || longs.iter().skip(axis).step_by(dim).map(|long| long ^ 1 << 31);
+        let (low, high) = (stored().min().expect("a point"), stored().max().expect("a point"));
+        let high = if axis == 0 && random.one_in(16) { high.wrapping_sub(1) } else { high };
+        for (at, long) in [(2 + 2 * axis, low), (8 + 2 * axis, high)] {
+            own[at] = (long >> 16) as u16;
+            own[at + 1] = long as u16;
+        }
+    }
+    Node::new(own)
 }
 
 pub struct Input {

@@ -15,7 +15,7 @@ mod tables;
 mod timing;
 mod whole;
 
-use inputs::{make, Input, KIB, KINDS};
+use inputs::{make, Input, KIB, KINDS, RANGED};
 
 const ROOT: &str = concat!(env!("CARGO_MANIFEST_DIR"), "/..");
 
@@ -31,7 +31,8 @@ fn main() {
     }
     let all: Vec<Input> = KINDS.iter().map(|&kind| make(kind, 1024 * KIB, 1)).collect();
     let mut checked = checks::Checked::default();
-    for input in &all {
+    let ranged: Vec<Input> = RANGED.iter().map(|&kind| make(kind, 1024 * KIB, 1)).collect();
+    for input in all.iter().chain(&ranged) {
         checked.input(input);
     }
     checked.generated(20);
@@ -46,6 +47,7 @@ fn main() {
     whole::points(&all, 1 + rounds / 6);
     whole::texts(&all, 1 + rounds / 6);
     whole::curves(&all, 1 + rounds / 6);
+    whole::ranges(&ranged, &all, 1 + rounds / 6);
     edits::table(rounds);
     indexes::tables(rounds);
     blocks::table(rounds);

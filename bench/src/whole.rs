@@ -1,5 +1,5 @@
-//! Whole files: all views, points, texts, and ellipses and arcs, in one part and in parts, against C that judges once and fills in
-//! the same numbers. Every part judges the file again, so parts stand against C in one part and its judging once more for each
+//! Whole files: all views, points, texts, ellipses and arcs, and ranges, in one part and in parts, against C that judges once and fills
+//! in the same numbers. Every part judges the file again, so parts stand against C in one part and its judging once more for each
 //! further one.
 
 use crate::calls::{self, Put, Slices};
@@ -9,11 +9,12 @@ use crate::timing::{measure, Measured};
 use dgn::raw;
 use std::hint::black_box;
 
-/// The numbers and floats of a part: so many views, numbers of points, texts, and ellipses and arcs.
+/// The numbers and floats of a part: so many views, numbers of points, texts, ellipses and arcs, and places.
 pub const VIEWS: [usize; 2] = [raw::VIEW_NUMBERS * 4096, 0];
 pub const POINTS: [usize; 2] = [65_536, 0];
 pub const TEXTS: [usize; 2] = [raw::TEXTS_NUMBERS * 4096, 0];
 pub const CURVES: [usize; 2] = [raw::CURVES_NUMBERS * 4096, raw::CURVE_FLOATS * 4096];
+pub const RANGES: [usize; 2] = [4096, 0];
 
 /// The same call of the library or of C: puts what stands from element number k on into slices.
 pub type Fill = fn(&[u8], u64, usize, &mut Slices) -> Put;
@@ -100,4 +101,12 @@ pub fn texts(all: &[Input], rounds: usize) {
 pub fn curves(all: &[Input], rounds: usize) {
     titles("all ellipses and arcs, 1 MiB, parts of 4,096");
     table(all, rounds, calls::curves, calls::curves_in_c, CURVES);
+}
+
+/// Those whose ranges are true, and the others.
+pub fn ranges(ranged: &[Input], all: &[Input], rounds: usize) {
+    titles("all ranges, 1 MiB, parts of 4,096 places");
+    for inputs in [ranged, all] {
+        table(inputs, rounds, calls::ranges, calls::ranges_in_c, RANGES);
+    }
 }

@@ -73,7 +73,7 @@ const COMMON: &[Choice] = &[
     plain(
         "quiet",
         Some('q'),
-        "No warnings, no progress, no totals. check then does not look for codes that stand twice.",
+        "No warnings, no progress, no totals. check then looks neither for codes that stand twice nor, with --ranges, at ranges.",
     ),
     plain("help", Some('h'), "Say what the subcommand does."),
 ];

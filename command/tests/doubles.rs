@@ -31,7 +31,7 @@ fn checked(file: &[u8], tsv: bool, quiet: bool) -> String {
     std::fs::write(&path, file).expect("a file");
     let mut output = Output::standard();
     (output.tsv, output.quiet) = (tsv, quiet);
-    let lines = Worker::new(Some(Dimension::Two), &output).check(&Named::File(path.clone())).lines;
+    let lines = Worker::new(Some(Dimension::Two), false, &output).check(&Named::File(path.clone())).lines;
     std::fs::remove_file(&path).expect("the file");
     lines.replace(path.to_str().expect("a name"), "FILE")
 }
@@ -149,7 +149,7 @@ fn in_three_dimensions() {
     solid.extend(library([name("417"), name("417")]));
     let path = std::env::temp_dir().join(format!("dgn-doubles-{}-solid.cel", std::process::id()));
     std::fs::write(&path, &solid).expect("a file");
-    let lines = Worker::new(None, &Output::standard()).check(&Named::File(path.clone())).lines;
+    let lines = Worker::new(None, false, &Output::standard()).check(&Named::File(path.clone())).lines;
     std::fs::remove_file(&path).expect("the file");
     assert!(lines.ends_with(": warning, 3D: 2 cells have the code 417: @51, @86\n"), "{lines}");
 }

@@ -76,21 +76,14 @@ types! {
     BsplinePole = 21,
 }
 
-/// The range of an element: x, y, z of its low and of its high corner as stored, unsigned. Nothing ties it to its points,
-/// which are signed: where it is right, low x <= a point's x + 2,147,483,648 <= high x.
+/// The range of an element: x, y, z of its low and of its high corner, in the coordinates of its points. No file is refused for its
+/// ranges: whether they hold their points [`in_range`](crate::in_range) and [`ranges`](crate::ranges) say.
 #[derive(Clone, Copy, PartialEq, Eq, Hash, Debug, Default)]
 pub struct Bounds {
     /// The low corner.
-    pub low: [i64; 3],
+    pub low: [i32; 3],
     /// The high corner.
-    pub high: [i64; 3],
-}
-
-impl Bounds {
-    /// Both corners in the coordinates of points, where the range is right.
-    pub fn corners(&self) -> [[i64; 3]; 2] {
-        [self.low, self.high].map(|corner| corner.map(|number| number - 0x8000_0000))
-    }
+    pub high: [i32; 3],
 }
 
 /// Words 14 to 17 of the known types other than 1.
@@ -147,7 +140,7 @@ impl View {
     /// The view that 32 numbers of [`raw::view`](crate::raw::view) or [`raw::views`](crate::raw::views) give.
     pub fn of(numbers: &[i64; VIEW_NUMBERS]) -> View {
         let [level, component, kind, deleted, size, depth, ..] = *numbers;
-        let three = |first: usize| [numbers[first], numbers[first + 1], numbers[first + 2]];
+        let corner = |first: usize| [0, 1, 2].map(|axis| numbers[first + axis] as i32);
         let has = |flag: usize| numbers[flag] == 1;
         let place = |flag: usize| has(flag).then(|| numbers[flag + 1] as usize);
         View {
@@ -159,7 +152,7 @@ impl View {
             size: size as usize,
             depth: depth as usize,
             header: place(6),
-            bounds: has(8).then(|| Bounds { low: three(9), high: three(12) }),
+            bounds: has(8).then(|| Bounds { low: corner(9), high: corner(12) }),
             display: has(15).then(|| DisplayHeader {
                 graphic_group: numbers[16] as u16,
                 attribute_index: numbers[17] as u16,

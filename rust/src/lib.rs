@@ -3,7 +3,7 @@
 //!
 //! A file is a slice of an even number of bytes, at most [`FILE_BYTES`]. A place is the index of a 16-bit word, from 0.
 //! Every file is allowed, and no caller has to check one first. Each call judges the whole file, one pass over its
-//! bytes, so a whole file is read by [`views`], [`points`], [`texts`] and [`curves`] and not by a call for each element. There
+//! bytes, so a whole file is read by [`views`], [`points`], [`texts`], [`curves`] and [`ranges`] and not by a call for each element. There
 //! is no state: any thread may call.
 //!
 //! A call that is refused answers a [`Refusal`] and changes no byte of what it was lent.
@@ -57,13 +57,13 @@ pub use elements::{Bounds, Dimension, DisplayHeader, Linkage, LinkageKind, Point
 pub use indexes::{all_cells, cells, index_room, Cells, Entries, Entry, Index, LookedUp, ENTRY_BYTES};
 pub use journals::{blocks_of_journal, journal_of_blocks, record, Edit, History, Record};
 pub use names::{pack, unpack, Name};
-pub use reading::{extent, find, find_with_deleted, judge, linkage, point, view, Found, Judged};
+pub use reading::{extent, find, find_with_deleted, in_range, judge, linkage, point, view, Found, Judged};
 pub use refusals::{Number, Refusal};
 pub use sessions::Session;
 pub use texts::{
     all_texts, characters, field, text, texts, write_text, Field, Text, TextAt, TextFields, Texts,
 };
-pub use whole::{all_points, all_views, points, views, Drawn, Pointed, Points, Views};
+pub use whole::{all_points, all_ranges, all_views, points, ranges, views, Drawn, Pointed, Points, Ranges, Views};
 pub use writing::{write, Fields};
 
 /// The most bytes of a file, of a session's buffer and of a piece to insert.

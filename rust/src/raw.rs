@@ -81,6 +81,9 @@ functions! {
     /// out: x, y, z.
     pub fn point(file: &[u8], dim: usize, place: usize, k: usize, out: &mut [i64]) = dgn_point;
 
+    /// out: 1 where all points lie in the range, else 0.
+    pub fn in_range(file: &[u8], dim: usize, place: usize, out: &mut [usize]) = dgn_in_range;
+
     /// out: 1 for a user linkage, place, size, id.
     pub fn linkage(file: &[u8], dim: usize, place: usize, k: usize, out: &mut [usize]) = dgn_linkage;
 
@@ -110,6 +113,9 @@ functions! {
         file: &[u8], dim: usize, k: usize, numbers: &mut [i64], floats: &mut [f64], out: &mut [usize]
     ) = dgn_curves;
 
+    /// out: the next element number, how many places were put into `places`.
+    pub fn ranges(file: &[u8], dim: usize, k: usize, places: &mut [i64], out: &mut [usize]) = dgn_ranges;
+
     /// out: two words.
     pub fn pack(text: &[u8], out: &mut [usize]) = dgn_pack;
 
@@ -134,13 +140,13 @@ functions! {
 
     /// out: the words written to the front of `buffer`.
     pub fn write(
-        fields: &[usize], points: &[i32], tail: &[u8],
+        fields: &[i64], points: &[i32], tail: &[u8],
         dim: usize, buffer: &mut [u8], out: &mut [usize]
     ) = dgn_write;
 
     /// out: the words written to the front of `buffer`.
     pub fn write_text(
-        fields: &[usize], text: &[i64], characters: &[u8], triples: &[u8], tail: &[u8],
+        fields: &[i64], text: &[i64], characters: &[u8], triples: &[u8], tail: &[u8],
         dim: usize, buffer: &mut [u8], out: &mut [usize]
     ) = dgn_write_text;
 

@@ -76,6 +76,14 @@ pub fn point(file: &[u8], dimension: Dimension, place: usize, k: usize) -> Resul
     Ok(Point::of(&out))
 }
 
+/// Whether all points of the element of type 3, 4, 6 or 11 that starts at `place` lie in its range, both ends included: by x and y,
+/// in a 3D file by z too. Refusals: 1, the file's own, 13, 6 for an element of another type.
+pub fn in_range(file: &[u8], dimension: Dimension, place: usize) -> Result<bool, Refusal> {
+    let mut out = [0];
+    done(raw::in_range(file, dimension as usize, place, &mut out))?;
+    Ok(out[0] == 1)
+}
+
 /// Linkage k, from 0, of the element that starts at `place`. Refusals: 1, the file's own, 13.
 pub fn linkage(file: &[u8], dimension: Dimension, place: usize, k: usize) -> Result<Linkage, Refusal> {
     let mut out = [0; 4];

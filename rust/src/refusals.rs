@@ -23,7 +23,7 @@ numbered! {
         Reserved = 4,
         /// The component bit is wrong.
         Place = 5,
-        /// The type may not stand there, or is not read; the element is of another type than asked for.
+        /// The type may not stand there, is not read, or is none that the call is for.
         Kind = 6,
         /// An element is below its fixed part, or its number of points is out of range.
         Short = 7,

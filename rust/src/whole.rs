@@ -1,10 +1,10 @@
-//! All views and all points of a file, at once or in parts: each part judges the file once.
+//! All views, all points and all ranges of a file, at once or in parts: each part judges the file once.
 
 use crate::elements::{Dimension, Point, View};
 use crate::raw::{self, VIEW_NUMBERS};
 use crate::refusals::{done, Refusal};
 use crate::FILE_BYTES;
-use std::slice::{Chunks, ChunksExact};
+use std::slice::{Chunks, ChunksExact, Iter};
 
 /// The views of a part, in file order.
 #[derive(Clone, Debug)]
@@ -79,6 +79,39 @@ pub fn points<'n>(file: &[u8], dimension: Dimension, k: usize, numbers: &'n mut 
     Ok(Points { numbers: &numbers[..out[1]], dimension, next_element: out[0] })
 }
 
+/// The places of a part, in file order.
+#[derive(Clone, Debug)]
+pub struct Ranges<'n> {
+    places: Iter<'n, i64>,
+    /// The element number from which the next part begins; where nothing is left, the count of all elements or, where
+    /// that is larger, the number from which this part began.
+    pub next_element: usize,
+}
+
+impl Iterator for Ranges<'_> {
+    type Item = usize;
+
+    fn next(&mut self) -> Option<usize> {
+        self.places.next().map(|&place| place as usize)
+    }
+
+    fn size_hint(&self) -> (usize, Option<usize>) {
+        self.places.size_hint()
+    }
+}
+
+impl ExactSizeIterator for Ranges<'_> {}
+
+/// The places of those of the elements number k, k + 1, .. whose points do not all lie in their range, as
+/// [`in_range`](crate::in_range) answers: as many as `places`, which takes them, holds. Refusals: 1, the file's own; 15 where one is
+/// left and `places` is empty.
+pub fn ranges<'n>(file: &[u8], dimension: Dimension, k: usize, places: &'n mut [i64]) -> Result<Ranges<'n>, Refusal> {
+    let mut out = [0; 2];
+    done(raw::ranges(file, dimension as usize, k, places, &mut out))?;
+    let [next_element, count] = out;
+    Ok(Ranges { places: places[..count].iter(), next_element })
+}
+
 /// All views of a file, in file order: one pass where its elements have 16 words or more on average, as all of known types
 /// have, else two. Refusals: 1, the file's own.
 pub fn all_views(file: &[u8], dimension: Dimension) -> Result<Vec<View>, Refusal> {
@@ -109,4 +142,12 @@ pub fn all_points(file: &[u8], dimension: Dimension) -> Result<Vec<Drawn>, Refus
     let mut numbers = vec![0; file.len().min(FILE_BYTES) / 4];
     let all = points(file, dimension, 0, &mut numbers)?;
     Ok(all.map(|p| Drawn { place: p.place, points: p.points().collect() }).collect())
+}
+
+/// The places of all elements of a file whose points do not all lie in their range, in file order: one pass. Refusals: 1, the file's
+/// own.
+pub fn all_ranges(file: &[u8], dimension: Dimension) -> Result<Vec<usize>, Refusal> {
+    // an element with points has 26 words or more
+    let mut places = vec![0; file.len().min(FILE_BYTES) / 52];
+    Ok(ranges(file, dimension, 0, &mut places)?.collect())
 }

@@ -15,7 +15,7 @@ pub struct Fields {
     pub component: bool,
     /// Marked deleted.
     pub deleted: bool,
-    /// Its range, each number from 0 to 4,294,967,295.
+    /// Its range.
     pub bounds: Bounds,
     /// Words 14 to 17.
     pub display: DisplayHeader,
@@ -28,10 +28,9 @@ impl Fields {
         Fields { kind, level: 0, component: false, deleted: false, bounds, display }
     }
 
-    pub(crate) fn numbers(&self) -> [usize; raw::WRITE_FIELDS] {
+    pub(crate) fn numbers(&self) -> [i64; raw::WRITE_FIELDS] {
         let Fields { kind, level, component, deleted, bounds, display } = *self;
-        // a number below 0 is as far out of range as one above
-        let [low, high] = [bounds.low, bounds.high].map(|corner| corner.map(|number| number as usize));
+        let [low, high] = [bounds.low, bounds.high].map(|corner| corner.map(i64::from));
         [
             kind.number().into(),
             level.into(),

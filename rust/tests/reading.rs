@@ -2,8 +2,8 @@
 
 mod common;
 
-use common::{cell, fields, sample, TWO};
-use dgn::{Dimension, Linkage, LinkageKind, Number, Point, Refusal, Type, View};
+use common::{cell, fields, line, sample, TWO};
+use dgn::{Bounds, Dimension, Fields, Linkage, LinkageKind, Number, Point, Refusal, Type, View};
 
 fn refused(number: Number, place: usize) -> Refusal {
     Refusal { number, place, count: 0 }
@@ -86,9 +86,9 @@ fn one_element() {
     assert_eq!(dgn::linkage(&file, TWO, 46, 0), Err(refused(Number::NoSuch, 0)));
     // its range is that of its two points
     let file = sample("nested.dgn");
-    let corners = dgn::view(&file, TWO, 284).unwrap().bounds.unwrap().corners();
+    let bounds = dgn::view(&file, TWO, 284).unwrap().bounds.unwrap();
     let [low, high] = [0, 1].map(|k| dgn::point(&file, TWO, 284, k).unwrap());
-    assert_eq!(corners, [low, high].map(|point| [point.x, point.y, point.z].map(i64::from)));
+    assert_eq!([bounds.low, bounds.high], [low, high].map(|point| [point.x, point.y, point.z]));
     // the line of samples/nested.dgn with a linkage of four words
     let Linkage { kind, place, size, .. } = dgn::linkage(&sample("nested.dgn"), TWO, 284, 0).unwrap();
     assert_eq!((kind, place, size), (LinkageKind::User, 310, 4));
@@ -156,6 +156,68 @@ fn points_in_parts() {
 }
 
 #[test]
+fn ranges() {
+    let file = cell();
+    assert_eq!(dgn::in_range(&file, TWO, 46), Ok(true));
+    assert_eq!(dgn::in_range(&file, TWO, 0), Err(refused(Number::Kind, 0)));
+    assert_eq!(dgn::in_range(&file, TWO, 45), Err(refused(Number::NoSuch, 0)));
+    assert_eq!(dgn::in_range(&file[..144], TWO, 46), Err(refused(Number::NoEnd, 72)));
+    assert_eq!(dgn::all_ranges(&file, TWO), Ok(vec![]));
+    // each end one further out, which holds the points, and one further in; z is not asked
+    for axis in 0..3 {
+        for (low, high) in [(-1, 0), (0, 1), (1, 0), (0, -1)] {
+            let mut moved = Fields { bounds: Bounds { low: [1, -2, 0], high: [65538, 7, 0] }, ..fields() };
+            moved.bounds.low[axis] += low;
+            moved.bounds.high[axis] += high;
+            let holds = axis == 2 || low <= 0 && high >= 0;
+            assert_eq!(of_line(&moved), (Ok(holds), Ok(if holds { vec![] } else { vec![46] })));
+        }
+    }
+    // low above high, and what zero words are
+    let mut turned = fields();
+    (turned.bounds.low, turned.bounds.high) = (turned.bounds.high, turned.bounds.low);
+    assert_eq!(of_line(&turned).0, Ok(false));
+    let lowest = Bounds { low: [i32::MIN; 3], high: [i32::MIN; 3] };
+    assert_eq!(of_line(&Fields { bounds: lowest, ..fields() }).0, Ok(false));
+    assert_eq!(dgn::view(&cell(), TWO, 0).unwrap().bounds, Some(lowest));
+}
+
+/// The answers of the line of the worked cell, with other fields.
+fn of_line(fields: &Fields) -> (Result<bool, Refusal>, Result<Vec<usize>, Refusal>) {
+    let mut file = cell();
+    file[92..144].copy_from_slice(&line(fields));
+    assert_eq!(dgn::view(&file, TWO, 46).unwrap().bounds, Some(fields.bounds));
+    (dgn::in_range(&file, TWO, 46), dgn::all_ranges(&file, TWO))
+}
+
+#[test]
+fn ranges_in_parts() {
+    // each line string, line, shape and curve with a range of zeros
+    let mut file = sample("nested.dgn");
+    let all: Vec<usize> = dgn::all_points(&file, TWO).unwrap().iter().map(|drawn| drawn.place).collect();
+    assert_eq!(dgn::all_ranges(&file, TWO), Ok(vec![]));
+    for place in &all {
+        assert_eq!(dgn::in_range(&file, TWO, *place), Ok(true));
+        file[2 * place + 4..2 * place + 28].fill(0);
+    }
+    assert_eq!(dgn::all_ranges(&file, TWO), Ok(all.clone()));
+    for room in 1..10 {
+        let (mut places, mut k, mut got) = (vec![7; room], 0, Vec::new());
+        while k < 9 {
+            let part = dgn::ranges(&file, TWO, k, &mut places).unwrap();
+            k = part.next_element;
+            assert_eq!(part.len(), room.min(all.len() - got.len()));
+            got.extend(part);
+        }
+        assert_eq!((k, got), (9, all.clone()));
+    }
+    let room = |k: usize, room: usize| dgn::ranges(&file, TWO, k, &mut vec![7; room]).map(|part| part.next_element);
+    assert_eq!(room(0, 0), Err(refused(Number::Room, 0)));
+    assert_eq!(room(9, 0), Ok(9));
+    assert_eq!(room(417, 0), Ok(417));
+}
+
+#[test]
 fn all_of_any_size() {
     // raw elements of so many words, on both sides of 16 on average, and what stands behind the end marker
     for (elements, words) in [(0, 2), (1, 2), (2, 2), (1000, 2), (1000, 15), (1000, 16), (1000, 17), (7, 1000)] {
@@ -169,11 +231,13 @@ fn all_of_any_size() {
             let places: Vec<usize> = dgn::all_views(&file, TWO).unwrap().iter().map(|view| view.place).collect();
             assert_eq!(places, (0..elements).map(|k| k * words).collect::<Vec<_>>());
             assert_eq!(dgn::all_points(&file, TWO), Ok(vec![]));
+            assert_eq!(dgn::all_ranges(&file, TWO), Ok(vec![]));
         }
     }
     for len in [1, dgn::FILE_BYTES + 2] {
         assert_eq!(dgn::all_views(&vec![255; len], TWO), Err(refused(Number::Call, 0)));
         assert_eq!(dgn::all_points(&vec![255; len], TWO), Err(refused(Number::Call, 0)));
+        assert_eq!(dgn::all_ranges(&vec![255; len], TWO), Err(refused(Number::Call, 0)));
     }
 }
 
@@ -184,9 +248,11 @@ fn refused_wherever_it_is_read() {
     let mut numbers = vec![7; 400];
     assert_eq!(dgn::views(&file, TWO, 0, &mut numbers).unwrap_err(), cut);
     assert_eq!(dgn::points(&file, TWO, 0, &mut numbers).unwrap_err(), cut);
+    assert_eq!(dgn::ranges(&file, TWO, 0, &mut numbers).unwrap_err(), cut);
     assert!(numbers.iter().all(|&number| number == 7), "a refusal writes nothing");
     assert_eq!(dgn::all_views(&file, TWO).unwrap_err(), cut);
     assert_eq!(dgn::all_points(&file, TWO).unwrap_err(), cut);
+    assert_eq!(dgn::all_ranges(&file, TWO).unwrap_err(), cut);
     assert_eq!(dgn::judge(&cell(), Dimension::Three), Err(refused(Number::Short, 0)));
 }
 

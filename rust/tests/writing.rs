@@ -18,8 +18,10 @@ fn written() {
     assert_eq!(dgn::write(&fields(), &points, &[], TWO, &mut buffer), Ok(26));
     assert_eq!(buffer[..52], line(&fields()));
     assert_eq!(buffer[52..], [9; 8]);
-    // a long is two words, high word first
+    // a long is two words, high word first; in a range with its top bit turned over
     assert_eq!(buffer[40..48], [255, 255, 254, 255, 1, 0, 2, 0]);
+    assert_eq!(buffer[8..20], [255, 127, 254, 255, 255, 255, 255, 255, 1, 128, 2, 0]);
+    assert_eq!(buffer[24..28], [0; 4]);
 }
 
 #[test]
@@ -36,9 +38,6 @@ fn refused() {
     assert_eq!(number(write(&line, &[0; 6], &[], 60)), Number::Call);
     assert_eq!(number(write(&Fields::new(Type::Text), &[0; 4], &[], 60)), Number::Call);
     assert_eq!(number(write(&Fields { level: 64, ..line }, &[0; 4], &[], 60)), Number::Call);
-    let mut below = line;
-    below.bounds.low[1] = -1;
-    assert_eq!(number(write(&below, &[0; 4], &[], 60)), Number::Call);
     assert_eq!(number(write(&shape, &[0; 2], &[], 60)), Number::Short);
     assert_eq!(number(write(&shape, &[0; 204], &[], 60)), Number::Short);
     assert_eq!(number(write(&line, &[0; 4], &[0; 131_020], 60)), Number::Total);

@@ -18,7 +18,8 @@ pub const SUBCOMMAND: Subcommand = Subcommand {
 Every file is judged as a whole. A line for each file that is refused: in which part, what is wrong, the refusal's number and \
 name, the word and the byte where the element at fault begins, and what to do. The part is the innermost good cell around the \
 fault (in), else the last one before it (after). A line for each warning: words behind the end marker, which are kept and not \
-read; a file that fits 2D and 3D and does not say which it is; a code that several cells have. The last line has the totals.
+read; a file that fits 2D and 3D and does not say which it is; a code that several cells have; with --ranges an element whose points \
+do not all lie in its range. The last line has the totals.
 
 Of a folder all files whose names end in .dgn or .cel are judged, in capital letters too, with those in the folders in it, in the \
 order of their names. Links to folders are not followed.
@@ -30,6 +31,12 @@ codes that several cells have, with commas between them; the same in words. What
     choices: &[
         Choice { long: "from", short: None, value: Some("FILE|-"), text: "Take the names from a file, or from standard input, a line for each." },
         Choice { long: "null", short: Some('0'), value: None, text: "The names of --from end with a zero byte." },
+        Choice {
+            long: "ranges",
+            short: None,
+            value: None,
+            text: "Warn of each line, line string, shape and curve with a point outside its range: by x and y, of 3D files by z too.",
+        },
         Choice { long: "all", short: Some('a'), value: None, text: "Judge every file of a folder, whatever its name." },
         Choice { long: "jobs", short: Some('j'), value: Some("N"), text: "Judge N files at a time; without it as many as there are cores." },
     ],
@@ -59,7 +66,8 @@ fn run(arguments: &Arguments, output: &mut Output) -> Result<(), Stop> {
         },
     };
     let mut totals = Totals::default();
-    let mut workers: Vec<Worker> = (0..jobs).map(|_| Worker::new(arguments.dimension(), output)).collect();
+    let mut workers: Vec<Worker> =
+        (0..jobs).map(|_| Worker::new(arguments.dimension(), arguments.has("ranges"), output)).collect();
     judge(&mut names, every, &mut workers, &mut totals, output)?;
     if let (Some(name), Some(why)) = (from, names.failed()) {
         output.message(names::unread(name, why));

@@ -1,10 +1,12 @@
 //! What is found of a file that is checked, and how it is printed.
 
 use super::doubles::{Double, Finder};
+use super::list;
 use super::names::Named;
 use crate::faults::{self, Fault, Near};
 use crate::files::{self, Buffer, Taken, Unread};
 use crate::output::{self, Output};
+use crate::parts;
 use crate::words::Refused;
 use dgn::{Dimension, Entries, Judged, Refusal, ENTRY_BYTES};
 use std::ffi::OsStr;
@@ -37,6 +39,8 @@ pub struct Checked {
 /// What a thread needs to judge one file after another.
 pub struct Worker {
     asked: Option<Dimension>,
+    /// Whether elements outside their ranges are looked for.
+    ranges: bool,
     tsv: bool,
     quiet: bool,
     buffer: Buffer,
@@ -47,9 +51,9 @@ pub struct Worker {
 
 impl Worker {
     /// One whose files have the dimension that was asked for.
-    pub fn new(asked: Option<Dimension>, output: &Output) -> Worker {
+    pub fn new(asked: Option<Dimension>, ranges: bool, output: &Output) -> Worker {
         let (tsv, quiet) = (output.tsv, output.quiet);
-        Worker { asked, tsv, quiet, buffer: Buffer::default(), entries: Vec::new(), finder: Finder::default() }
+        Worker { asked, ranges, tsv, quiet, buffer: Buffer::default(), entries: Vec::new(), finder: Finder::default() }
     }
 
     /// Judges a file.
@@ -75,8 +79,8 @@ impl Worker {
     }
 
     fn judge(&mut self, name: &OsStr) -> Checked {
-        let Worker { asked, tsv, quiet, buffer, entries, finder } = self;
-        let (tsv, quiet) = (*tsv, *quiet);
+        let Worker { asked, ranges, tsv, quiet, buffer, entries, finder } = self;
+        let (ranges, tsv, quiet) = (*ranges, *tsv, *quiet);
         let bytes = buffer.bytes();
         let mut cells = 0;
         let taken = match quiet {
@@ -94,13 +98,12 @@ impl Worker {
         };
         let found = match taken.judged {
             Ok(judged) => Found {
-                fault: Fault::default(),
                 behind: bytes.len() / 2 - judged.marker - 1,
                 doubles: finder.find(Entries::of(&entries[..ENTRY_BYTES * cells])),
+                outside: if ranges && !quiet { outside(bytes, taken.dimension) } else { Vec::new() },
+                ..Found::default()
             },
-            Err(refusal) => {
-                Found { fault: faults::of(bytes, taken.dimension, refusal), behind: 0, doubles: &[] }
-            }
+            Err(refusal) => Found { fault: faults::of(bytes, taken.dimension, refusal), ..Found::default() },
         };
         let mut lines = String::new();
         let warnings = match (tsv, taken.judged) {
@@ -127,6 +130,7 @@ const SHOWN: usize = 8;
 const COLUMNS: usize = 17;
 
 /// What is said of a file beside the answer.
+#[derive(Default)]
 struct Found<'c> {
     /// Where the fault is.
     fault: Fault,
@@ -134,6 +138,8 @@ struct Found<'c> {
     behind: usize,
     /// Codes that several cells have.
     doubles: &'c [Double],
+    /// Elements with points outside their range, each in words.
+    outside: Vec<String>,
 }
 
 impl Found<'_> {
@@ -144,7 +150,7 @@ impl Found<'_> {
 
     /// Whether there is a warning.
     fn warns(&self, taken: &Taken) -> bool {
-        self.behind > 0 || taken.warning().is_some() || !self.doubles.is_empty()
+        self.behind > 0 || taken.warning().is_some() || !self.doubles.is_empty() || !self.outside.is_empty()
     }
 
     /// Puts the warnings in words behind a text, each with something before it and behind it; gives how many there are.
@@ -170,6 +176,9 @@ impl Found<'_> {
         }
         if let Some(more) = self.doubles.len().checked_sub(SHOWN).filter(|&more| more > 0) {
             one(&|text| *text += &format!("{} that several cells have", output::count(more, "more code")));
+        }
+        for outside in &self.outside {
+            one(&|text| *text += outside);
         }
         count
     }
@@ -216,4 +225,27 @@ impl Found<'_> {
         lines.push('\n');
         warnings
     }
+}
+
+/// The elements of a file that is accepted with points outside their range, each in words with the innermost cell around it.
+fn outside(bytes: &[u8], dimension: Dimension) -> Vec<String> {
+    let places = dgn::all_ranges(bytes, dimension).expect("a file that was accepted");
+    let mut found = Vec::with_capacity(places.len());
+    let mut places = places.into_iter().peekable();
+    // the cells around, each with its depth
+    let mut open: Vec<(usize, String)> = Vec::new();
+    let mut views = parts::walk(bytes, dimension);
+    while let Some(place) = places.peek() {
+        let view = views.next().expect("an element that was given");
+        open.truncate(open.iter().take_while(|(depth, _)| *depth < view.depth).count());
+        if view.place == *place {
+            places.next();
+            let part = open.last().map_or("", |(_, part)| part);
+            found.push(format!("{part}the {} at @{} has points outside its range", list::kind(view.kind), view.place));
+        }
+        if let Some(code) = parts::code(&view) {
+            open.push((view.depth, format!("in part {} (@{}): ", parts::shown(&code), view.place)));
+        }
+    }
+    found
 }

@@ -6,7 +6,7 @@ use crate::files::{self, File};
 use crate::help::Subcommand;
 use crate::output::{self, Output, Stop};
 use crate::parts;
-use dgn::{Bounds, Curve, Dimension, LinkageKind, Point, Turn, Type, View};
+use dgn::{Bounds, Curve, Dimension, LinkageKind, Number, Point, Turn, Type, View};
 
 /// The subcommand.
 pub const SUBCOMMAND: Subcommand = Subcommand {
@@ -16,8 +16,9 @@ pub const SUBCOMMAND: Subcommand = Subcommand {
     text: "\
 All that the file says of one element: where it stands, its extent (its own words and those of all under it), its level, range, \
 display, name, points, characters, axes with origin and angles, and linkages, each where it has them. Points, ranges, axes and origins \
-are in units of resolution. A range is stored 2,147,483,648 above the points' coordinates and is shown without that. Of angles \
-360,000 is a degree, and bit 31 of a sweep is shown as a part of the number.
+are in units of resolution, ranges in the coordinates of points. Of a line, line string, shape or curve it is said whether all points lie \
+in the range. A range that was never made is stored as zeros, which is the lowest corner twice. Of angles 360,000 is a degree, and bit 31 \
+of a sweep is shown as a part of the number.
 
 With --tsv a line for each fact: file, 2D or 3D, place of the element, name of the fact, fact.",
     choices: &[],
@@ -71,6 +72,9 @@ fn facts(file: &File, place: usize) -> Result<Facts, dgn::Refusal> {
     if let Some(bounds) = view.bounds {
         add("range", range(bounds, dimension));
     }
+    if let Some(held) = held(file, place)? {
+        add("points in range", held.into());
+    }
     if let Some(display) = view.display {
         add("colour", display.colour.to_string());
         add("weight", display.weight.to_string());
@@ -100,12 +104,20 @@ fn under(file: &File, view: &View) -> usize {
 }
 
 fn range(bounds: Bounds, dimension: Dimension) -> String {
-    if bounds == Bounds::default() {
-        return "all zeros".into();
+    let axes = ["x", "y", "z"].into_iter().zip(bounds.low.into_iter().zip(bounds.high)).take(dimension as usize);
+    let shown = axes.map(|(axis, (low, high))| format!("{axis} {low} to {high}")).collect::<Vec<_>>().join(", ");
+    let zeros = bounds == Bounds { low: [i32::MIN; 3], high: [i32::MIN; 3] };
+    shown + if zeros { " (stored as zeros)" } else { "" }
+}
+
+/// Whether its points lie in its range; none where that is not asked of its type.
+fn held(file: &File, place: usize) -> Result<Option<&'static str>, dgn::Refusal> {
+    match dgn::in_range(&file.bytes, file.dimension, place) {
+        Ok(true) => Ok(Some("all")),
+        Ok(false) => Ok(Some("not all")),
+        Err(refusal) if refusal.number == Number::Kind => Ok(None),
+        Err(refusal) => Err(refusal),
     }
-    let [low, high] = bounds.corners();
-    let axes = ["x", "y", "z"].into_iter().zip(low.into_iter().zip(high)).take(dimension as usize);
-    axes.map(|(axis, (low, high))| format!("{axis} {low} to {high}")).collect::<Vec<_>>().join(", ")
 }
 
 fn coordinates(point: Point, dimension: Dimension) -> String {

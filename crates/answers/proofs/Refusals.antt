@@ -1,5 +1,5 @@
--- A refusal of a file, or of a call on it by one of its own numbers, is small.
-use Prim.Native.Nat.{ℕ}
+-- A refusal of a file, of a call on it by one of its own numbers, or of a call for elements of some types, is small.
+use Prim.Native.Nat.{ℕ, _<_}
 use mathlib.Core.Path.{_≡_, refl}
 use mathlib.Core.Logic.{inl, inr}
 use mathlib.Core.Bool.{Bool, true, false}
@@ -7,6 +7,7 @@ use mathlib.Core.List.{List, [], _∷_}
 use native.Mathlib.Omega.{arith}
 use lib.ListN.{length}
 use Rattle.words.specs.Words.{words}
+use Rattle.words.proofs.Laws.{length-words}
 use Rattle.limits.specs.Limits.{callOk}
 use Rattle.files.specs.Judge.{judgeOf}
 use Rattle.files.specs.Refused.{RefusedBy}
@@ -14,6 +15,11 @@ use Rattle.files.specs.declared.Judged.the-variants.{Refused}
 use Rattle.files.proofs.Laws.{judge-call}
 use Rattle.grammar.specs.FirstFault.{Refusal}
 use Rattle.grammar.proofs.FirstFault.{number-within, refusal-place}
+use Rattle.places.specs.Places.{spottedAt}
+use Rattle.places.specs.declared.Above.{Above}
+use Rattle.places.specs.declared.Spotted.the-variants as spotted
+use Rattle.places.specs.OfType.{TypeRefused}
+use Rattle.places.proofs.Places.{spotted-inside}
 use Rattle.answers.specs.Answers.{Small}
 use Rattle.answers.proofs.Elements.{call-words}
 
@@ -44,3 +50,22 @@ module _ (dim : ℕ) (s : List ℕ) (n p : ℕ) where
   pub place-small : RefusedBy dim s (13 ∷ []) n p → Small n p
   place-small (inl q) = file-small q
   place-small (inr (e, z)) = call-small (inr (inr e, z))
+
+---- at a place
+
+module _ (dim : ℕ) (s : List ℕ) (at : ℕ) where
+  -- an element that is found starts at a small place
+  pub found-small : (end depth : ℕ) (above : Above) → spottedAt dim s at ≡ spotted.At end depth above → at < 524288
+  found-small end depth above e =
+      let i = spotted-inside dim s at end depth above e in
+      let w = call-words dim s (i .call) in
+      let l = length-words s in
+      omega arith
+
+  pub type-small : (test : ℕ → Bool) (n p : ℕ) → TypeRefused test dim s at n p → Small n p
+  type-small test n p (inl r) = place-small dim s n p r
+  type-small test n p (inr r) =
+      let number = r .number in
+      let place = r .place in
+      let l = found-small (r .end) (r .depth) (r .above) (r .found) in
+      (omega arith, omega arith, omega arith)

@@ -1,7 +1,7 @@
 -- Numbers and floats put one behind another, and slices by whether they have room.
 use Prim.Native.Nat.{ℕ, suc, _+_, _≤_, _<_}
-use mathlib.Core.Path.{_≡_, refl, sym, ap}
-use mathlib.Core.Bool.{Bool, true, false, cond, and-false}
+use mathlib.Core.Path.{_≡_, refl}
+use mathlib.Core.Bool.{false, and-false}
 use mathlib.Core.List.{List, [], _∷_}
 use native.Mathlib.Omega.{arith}
 use lib.ListN.{length, set}

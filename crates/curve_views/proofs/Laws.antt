@@ -1,15 +1,14 @@
 -- Each way to read a curve, with what leads there.
-use Prim.Native.Nat.{ℕ, _+_, _/_, _≤_, _<_}
-use mathlib.Core.Path.{_≡_, refl, sym, ap}
+use Prim.Native.Nat.{ℕ, _+_, _≤_, _<_}
+use mathlib.Core.Path.{_≡_, sym}
 use mathlib.Core.Logic.{_≢_}
-use mathlib.Core.Bool.{Bool, true, false, cond, false≢true}
+use mathlib.Core.Bool.{Bool, true, false, cond}
 use mathlib.Core.List.{List}
 use native.Mathlib.Omega.{arith}
 use lib.ListN.{length}
-use lib.Dec.{eqb, ltb}
-use borrow.Author.Tests.{eq-eqb, ne-eqb, ltb-true, ltb-false, le-leb, lt-leb}
-use Rattle.words.specs.Words.{words, longAt}
-use Rattle.words.proofs.Laws.{word-out}
+use lib.Dec.{eqb}
+use borrow.Author.Tests.{ne-eqb, le-leb, lt-leb}
+use Rattle.words.specs.Words.{longAt}
 use Rattle.curves.specs.Curves.{axesWord, originWord, floatsOk}
 use Rattle.curves.proofs.Laws.{origin-early}
 use Rattle.turns.specs.Turns.{turnAt}
@@ -18,14 +17,6 @@ use Rattle.headers.specs.Header.{typeAt}
 use Rattle.elements.proofs.Laws.{curve-end}
 use Rattle.curve_views.specs.declared.Curve.the-variants as curves
 use Rattle.curve_views.specs.CurveViews.{floatAt, originAt, curveAt}
-
--- where no word stands it is 0, so an ellipse or an arc lies in the file
-pub curve-inside : (s : List ℕ) (at : ℕ) → isCurve (typeAt (words s) at) ≡ true → at < length s / 2
-curve-inside s at k = go (ltb at (length s / 2)) refl
-  where
-    go : (b : Bool) → ltb at (length s / 2) ≡ b → at < length s / 2
-    go true e = ltb-true at (length s / 2) e
-    go false e = absurd (false≢true (rw (word-out s at (ltb-false at (length s / 2) e)) at k))
 
 -- the words of a curve end with its origin: the axes and one word of the turn lie before it
 pub record Inside (dim at t n : ℕ) : Type 0 where

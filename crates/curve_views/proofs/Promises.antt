@@ -1,9 +1,9 @@
 -- An ellipse or an arc of an accepted file passes the tests of one element, so each of its floats is a number, and the call for it
 -- reads it; what it reads is, part by part, the float of four words.
 use Prim.Native.Nat.{ℕ, _+_, _-_, _≤_}
-use mathlib.Core.Path.{_≡_, refl, sym, ap, _∙_, subst}
+use mathlib.Core.Path.{_≡_, refl, ap, _∙_}
 use mathlib.Core.Logic.{inl, inr}
-use mathlib.Core.Bool.{Bool, true, false, cond, not, _||_, _&&_, and-eq-true-iff, false≢true}
+use mathlib.Core.Bool.{Bool, true, false, cond, not, and-eq-true-iff}
 use mathlib.Core.List.{List, [], _∷_}
 use mathlib.Core.Option.{some}
 use native.Mathlib.Omega.{arith}
@@ -32,12 +32,11 @@ use Rattle.places.specs.declared.Spotted.the-variants as spotted
 use Rattle.places.specs.OfType.{TypeRefused, ofPlace}
 use Rattle.places.proofs.Places.{spot-rules, spotted-found}
 use Rattle.places.proofs.Refusals.{spotted-refused}
-use Rattle.places.proofs.OfType.{Found, found-there, Way, nowhere, another, of-type, way}
+use Rattle.places.proofs.OfType.{found-there, Way, nowhere, another, of-type, way}
 use Rattle.curve_views.specs.declared.Origin.the-variants as origins
-use Rattle.curve_views.specs.declared.Curve.{Curve}
 use Rattle.curve_views.specs.declared.Curve.the-variants as curves
 use Rattle.curve_views.specs.CurveViews.{floatAt, originAt, ellipseAt, arcAt, curveAt, curveIn, curveOf}
-use Rattle.curve_views.specs.Promises.{CurveRefused, Gives, CurveGiven, FloatsNumbers, EachOf, EachFloat, CurveHeld}
+use Rattle.curve_views.specs.Promises.{CurveRefused, CurveGiven, FloatsNumbers, EachOf, EachFloat, CurveHeld}
 
 ---- the floats and the size of an element of an accepted file
 

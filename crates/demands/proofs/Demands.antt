@@ -1,5 +1,5 @@
 -- The promises, in the order of the demands, each with a one-line proof that cites where it is proved.
-use Prim.Native.Nat.{ℕ, _+_, _-_, _/_, _^_, _<_, _≤_}
+use Prim.Native.Nat.{ℕ, _+_, _-_, _/_, _<_, _≤_}
 use mathlib.Core.Path.{_≡_}
 use mathlib.Core.Logic.{_↔_, _≢_, _⊎_}
 use mathlib.Core.Bool.{true, false}
@@ -12,6 +12,8 @@ use lib.Ieee.{Float}
 use Rattle.words.specs.Words.{words, wordAt, longAt, signed, unsigned, putWord, putLong, Below}
 use Rattle.words.proofs.Laws as stores
 use Rattle.words.proofs.Signed as signs
+use Rattle.ranges.specs.Ranges.{coordinate, stored}
+use Rattle.ranges.proofs.Ranges as spans
 use Rattle.names.specs.Names.{packed, unpacked, textAnswer, textOf, nameOk}
 use Rattle.names.specs.declared.Packed.the-variants.{Words}
 use Rattle.names.specs.declared.Packed.the-variants as text
@@ -47,6 +49,9 @@ use Rattle.points_linkages.specs.declared.Point.the-variants as point
 use Rattle.points_linkages.specs.declared.Attribute.the-variants as attribute
 use Rattle.points_linkages.proofs.Refusals as points
 use Rattle.points_linkages.proofs.Listed as numbered
+use Rattle.range_checks.specs.InRange.{inRangeOf}
+use Rattle.range_checks.specs.Exactly.{RangeRefused, UnseenRefused, YesExactly, NoExactly, OtherExactly}
+use Rattle.range_checks.proofs.Exactly as lying
 use Rattle.finder.specs.Finder.{findOf}
 use Rattle.finder.specs.Base as base
 use Rattle.finder.specs.Meaning.{NoneNamed, Finds, Stored}
@@ -111,8 +116,9 @@ use Rattle.sessions.specs.Runs.{EveryCall}
 use Rattle.sessions.proofs.Runs as runs
 use Rattle.answers.specs.Answers.{Reply, withRoom, Replied, Small, SmallReply, ReadAs}
 use Rattle.answers.proofs.Laws as answers
-use Rattle.view_numbers.specs.Numbers.{viewNumbers}
-use Rattle.view_numbers.proofs.Below as shown
+use Rattle.view_numbers.specs.Numbers.{viewGiven}
+use Rattle.view_numbers.proofs.Within as shown
+use Rattle.order.specs.Parts.{Within}
 use Rattle.dgn.specs.JudgeFind.{judgeReply, findReply}
 use Rattle.dgn.proofs.Small as dgn
 use Rattle.indexing.specs.Indexing.{builtBy}
@@ -130,6 +136,11 @@ use Rattle.dgn_points.specs.Answers.{pointsReply}
 use Rattle.dgn_points.specs.Calls.{AllPoints, PointsWithin}
 use Rattle.dgn_points.proofs.Small as small-points
 use Rattle.dgn_points.proofs.All as every-point
+use Rattle.dgn_ranges.specs.Check.{inRangeReply}
+use Rattle.dgn_ranges.specs.Answers.{rangesReply}
+use Rattle.dgn_ranges.specs.Calls.{AllRanges, RangesWithin}
+use Rattle.dgn_ranges.proofs.Small as small-ranges
+use Rattle.dgn_ranges.proofs.All as every-range
 use Rattle.dgn_texts.specs.Calls.{AllTexts}
 use Rattle.dgn_texts.specs.Answers.{textsReply}
 use Rattle.dgn_texts.proofs.All as every-text
@@ -170,7 +181,7 @@ use Rattle.blocks.specs.Promises.{JournalMovedBack, BlocksMovedBack, WordChange
 use Rattle.blocks.specs.Promises.{AboveLimit, JoinedTooLong, CutBetween, FullBlocks, Swapped}
 use Rattle.blocks.specs.declared.Moved.the-variants as moved
 use Rattle.blocks.proofs.Refusals as blocks-refused
-use Rattle.blocks.proofs.Journal as stored
+use Rattle.blocks.proofs.Journal as kept-blocks
 use Rattle.blocks.proofs.Back as there
 use Rattle.blocks.proofs.Changed as changed
 use Rattle.blocks.proofs.Damage as damage
@@ -261,6 +272,14 @@ curve-refused = curve-calls.curve-refused
 pub linkage-refused : (dim : ℕ) (s : List ℕ) (at k n p : ℕ) → linkageOf dim s at k ≡ attribute.Refused n p → RefusedBy dim s (13 ∷ []) n p
 linkage-refused = points.linkage-refused
 
+-- the check of a range, with 13, and with 6 at an element of another type
+pub in-range-refused : RangeRefused
+in-range-refused = lying.in-range-refused
+
+-- and where no element is seen at the place, just as the view is refused
+pub unseen-refused : UnseenRefused
+unseen-refused = lying.unseen-refused
+
 -- the finder with 12 or 13, be deleted cells passed over or not
 pub find-refused : (w : Wanted) (dim : ℕ) (s t : List ℕ) (n p c : ℕ) → findOf w dim s t ≡ found.Refused n p c → RefusedBy dim s (12 ∷ 13 ∷ []) n p
 find-refused = finds.find-refused
@@ -329,6 +348,9 @@ point-small = dgn-places.point-small
 pub view-small : (dim : ℕ) (s : List ℕ) (at : ℕ) → SmallReply (viewReply at (viewOf dim s at))
 view-small = dgn-views.view-small
 
+pub in-range-small : (dim : ℕ) (s : List ℕ) (at : ℕ) → SmallReply (inRangeReply (inRangeOf dim s at))
+in-range-small = small-ranges.in-range-small
+
 pub linkage-small : (dim : ℕ) (s : List ℕ) (at k : ℕ) → SmallReply (linkageReply (linkageOf dim s at k))
 linkage-small = dgn-linkages.linkage-small
 
@@ -338,10 +360,10 @@ pack-small = dgn-names.pack-small
 pub unpack-small : (a b : ℕ) → SmallReply (unpackReply (unpacked a b))
 unpack-small = dgn-names.unpack-small
 
-pub write-small : (dim : ℕ) (f : List ℕ) (points : List ℤ) (tail : List ℕ) (room size : ℕ) → SmallReply (writeReply (writtenBy (givenFault dim f points tail room) size))
+pub write-small : (dim : ℕ) (f points : List ℤ) (tail : List ℕ) (room size : ℕ) → SmallReply (writeReply (writtenBy (givenFault dim f points tail room) size))
 write-small = dgn-writer.write-small
 
-pub write-text-small : (dim : ℕ) (f : List ℕ) (l : List ℤ) (characters triples tail : List ℕ) (room size : ℕ) →
+pub write-text-small : (dim : ℕ) (f l : List ℤ) (characters triples tail : List ℕ) (room size : ℕ) →
     SmallReply (writeReply (writtenBy (givenTextFault dim f l characters triples tail room) size))
 write-text-small = dgn-text-writer.write-text-small
 
@@ -369,6 +391,9 @@ curve-small = small-curve.curve-reply-small
 pub curves-small : (dim : ℕ) (s : List ℕ) (k room : ℕ) → SmallReply (curvesReply dim s k room)
 curves-small = small-curves.curves-small
 
+pub ranges-small : (dim : ℕ) (s : List ℕ) (k room : ℕ) → SmallReply (rangesReply dim s k room)
+ranges-small = small-ranges.ranges-small
+
 pub record-small : (journal : List ℕ) (used : ℕ) → SmallReply (recordReply journal used)
 record-small = small-record.record-small
 
@@ -382,12 +407,15 @@ from-blocks-small = small-blocks.from-small
 pub cells-small : (dim : ℕ) (s : List ℕ) (count : ℕ) → SmallReply (cellsReply (judgeOf dim s) count)
 cells-small = dgn-index.cells-small
 
--- the numbers that dgn_views, dgn_points and dgn_record put into their slices
+-- the numbers that dgn_views, dgn_points, dgn_ranges and dgn_record put into their slices
 pub views-within : ViewsWithin
 views-within = small-views.views-within
 
 pub points-within : PointsWithin
 points-within = small-points.points-within
+
+pub ranges-within : RangesWithin
+ranges-within = small-ranges.ranges-within
 
 pub record-within : RecordWithin
 record-within = small-record.record-within
@@ -412,9 +440,13 @@ all-texts = every-text.all-texts
 pub all-curves : AllCurves
 all-curves = every-curve.all-curves
 
--- every number of a view is below 4,294,967,296
-pub view-below : (dim : ℕ) (s : List ℕ) (at : ℕ) (e : Element) → Below 256 s → viewOf dim s at ≡ view.Seen e → Below 4294967296 (viewNumbers at e)
-view-below = shown.view-below
+-- and by dgn_ranges the place of each element of which the check answers no
+pub all-ranges : AllRanges
+all-ranges = every-range.all-ranges
+
+-- every number of a view is from -2,147,483,648 to 2,147,483,647
+pub view-within : (dim : ℕ) (s : List ℕ) (at : ℕ) (e : Element) → Below 256 s → viewOf dim s at ≡ view.Seen e → Within 2147483648 (viewGiven at e)
+view-within = shown.view-within
 
 ---- demand 2: accepted exactly when the structure holds, with one reading
 
@@ -651,6 +683,20 @@ curve-held = curve-calls.curve-held
 pub float-one : FloatOne
 float-one = floats.float-one
 
+---- demand 2: whether all points of an element of type 3, 4, 6 or 11 lie in its range
+
+-- yes exactly where each point that the call for a point gives lies in the range that the view shows, ends included; no exactly where
+-- some point does not
+pub yes-exactly : YesExactly
+yes-exactly = lying.yes-exactly
+
+pub no-exactly : NoExactly
+no-exactly = lying.no-exactly
+
+-- 6 at the element exactly where its type is another
+pub other-exactly : OtherExactly
+other-exactly = lying.other-exactly
+
 ---- demand 2: what is written reads back the same, and what was accepted rewrites to the same bytes
 
 -- what the writer leaves in its buffer, put into an accepted file as its C and its type allow, makes an accepted file, and
@@ -823,13 +869,13 @@ flags-back = marks.flags-back
 -- the blocks of every journal that may be stored are accepted and give the journal; all accepted bytes are the blocks of the journal that
 -- they give; so what is accepted is exactly what is the blocks of some journal
 pub journal-back : JournalBack
-journal-back = stored.journal-back
+journal-back = kept-blocks.journal-back
 
 pub blocks-back : BlocksBack
-blocks-back = stored.blocks-back
+blocks-back = kept-blocks.blocks-back
 
 pub stored-exactly : StoredExactly
-stored-exactly = stored.stored-exactly
+stored-exactly = kept-blocks.stored-exactly
 
 -- accepted are the bytes for which from blocks answers by the room alone
 pub blocks-accepted-exactly : AcceptedExactly
@@ -885,7 +931,7 @@ full-blocks = joined.full-blocks
 pub swapped : Swapped
 swapped = joined.swapped
 
----- words and signed longs: what is stored is read back, and every other word stays
+---- words, signed longs and coordinates of ranges: what is stored is read back, and every other word stays
 
 pub word-put : (s : List ℕ) (i w : ℕ) → w < 65536 → i < length s / 2 → wordAt (words (putWord s i w)) i ≡ w
 word-put = stores.word-put
@@ -895,3 +941,13 @@ word-put-other = stores.word-put-other
 
 pub signed-put : (s : List ℕ) (i : ℕ) (z : ℤ) → mag z < 2147483648 → i + 1 < length s / 2 → signed (longAt (words (putLong s i (unsigned z))) i) ≡ z
 signed-put = signs.signed-put
+
+pub coordinate-put : (s : List ℕ) (i : ℕ) (z : ℤ) → mag z < 2147483648 → i + 1 < length s / 2 → coordinate (longAt (words (putLong s i (stored z))) i) ≡ z
+coordinate-put = spans.coordinate-put
+
+-- each coordinate has its stored long, and each long its coordinate
+pub stored-back : (z : ℤ) → mag z < 2147483648 → coordinate (stored z) ≡ z
+stored-back = spans.coordinate-stored
+
+pub coordinate-back : (n : ℕ) → stored (coordinate n) ≡ n
+coordinate-back = spans.stored-coordinate

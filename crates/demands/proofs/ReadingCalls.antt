@@ -18,8 +18,7 @@ use Rattle.views.specs.Views.{elementView, viewOf}
 use Rattle.views.specs.declared.View.the-variants as view
 use Rattle.points_linkages.specs.Points.{pointOf}
 use Rattle.points_linkages.specs.Linkages.{linkageOf}
-use Rattle.points_linkages.specs.declared.Point.the-variants as point
-use Rattle.points_linkages.specs.declared.Attribute.the-variants as attribute
+use Rattle.range_checks.specs.InRange.{inRangeOf}
 use Rattle.text_views.specs.TextViews.{textOf, charactersOf, fieldOf}
 use Rattle.curve_views.specs.CurveViews.{curveOf}
 use Rattle.finder.specs.Finder.{findOf}
@@ -33,12 +32,13 @@ use Rattle.edits.specs.Book.{wasRefused}
 use Rattle.demands.specs.ReadingCalls.{FileRefused, Found}
 
 pub file-refused : (dim : ℕ) (s : List ℕ) (n p : ℕ) → judgeOf dim s ≡ Refused n p → FileRefused dim s n p
-unfolding spottedAt extentAnswer viewOf pointOf linkageOf textOf charactersOf fieldOf curveOf findOf liveLookUpOf
+unfolding spottedAt extentAnswer viewOf pointOf linkageOf textOf charactersOf fieldOf curveOf inRangeOf findOf liveLookUpOf
 file-refused dim s n p e = record {
   extents = λ at. rw e refl;
   views = λ at. rw e refl;
   points = λ at k. rw e refl;
   linkages = λ at k. rw e refl;
+  ranges = λ at. rw e refl;
   texts = λ at. rw e refl;
   characters = λ at. rw e refl;
   fields = λ at k. rw e refl;

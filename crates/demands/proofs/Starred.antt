@@ -21,9 +21,19 @@ use Rattle.files.specs.Judge.{elementFrom, listFrom, elementOf, topOf, judgeOf}
 use Rattle.files.specs.Spots.{spotsFrom, spotsOf}
 use Rattle.limits.specs.Limits.{callOk}
 use Rattle.places.specs.Places.{spottedAt}
+use Rattle.ranges.specs.Ranges.{coordinate, stored as storedLong}
+use Rattle.views.specs.Views.{rangeOf, displayOf, nameWords, elementView, viewOf}
 use Rattle.points_linkages.specs.Points.{pointOf}
 use Rattle.text_views.specs.TextViews.{originAt, oddAt, textAt, fieldAt, textIn as textRead, charactersAt, fieldIn, textOf, charactersOf, fieldOf}
 use Rattle.curve_views.specs.CurveViews.{floatAt, originAt as curveOrigin, curveAt, curveIn, curveOf}
+use Rattle.range_checks.specs.InRange.{inRange, inRangeIn, inRangeOf}
+use Rattle.fields.specs.Faults.{fieldsOk as handedOk, pointsFit, argumentsOk, pointNumberOk, writeFault}
+use Rattle.fields.specs.Words.{firstWord, symbology, headerWords, sizeOf, elementWords}
+use Rattle.text_fields.specs.Faults.{numbersOk, flatOk, listsOk, oddOk, textArgumentsOk, textFault}
+use Rattle.text_fields.specs.Words.{textSize, textWords}
+use Rattle.write_answers.specs.Writing.{fieldsGiven}
+use Rattle.dgn_writer.specs.Writing.{givenFault as elementFault}
+use Rattle.dgn_text_writer.specs.Writing.{textGiven, givenFault as textFaultGiven}
 use Rattle.edits.specs.Bits.{flagWords, wordFlags, flagsOk}
 use Rattle.edits.specs.Edits.{extentPlaces, corrected, splice, cut, apply}
 use Rattle.edits.specs.Allowed.{markFault, renameFault, gapOk, pieceFault, insertFault, removeFault, restoreFault, editFault}
@@ -48,4 +58,7 @@ unfolding over putWord codeOf letterOf wordFrom packed wordOk nameOk textIn text
     chunk rest sound fewest most good blocksIn firstBad flatOf
     entries image shown cellHere cellsOf indexOf indexBytes listed halved lookUp lookUpOf hasName isHit findOf liveCell lookOn liveLookUpOf
     odd trailingZeros toBits size isReserved digits eighth float dFloat floatsOk floatAt curveOrigin curveAt curveIn curveOf
+    coordinate storedLong rangeOf displayOf nameWords elementView viewOf inRange inRangeIn inRangeOf
+    handedOk pointsFit argumentsOk pointNumberOk writeFault firstWord symbology headerWords sizeOf elementWords
+    numbersOk flatOk listsOk oddOk textArgumentsOk textFault textSize textWords fieldsGiven elementFault textGiven textFaultGiven
 starred-hold = refl

@@ -7,6 +7,7 @@ pub mod IndexCases
 pub mod IndexPromises
 pub mod FindCases
 pub mod CurveCases
+pub mod RangeCases
 pub mod Starred
 pub mod Listing
 pub mod ReadingCalls

@@ -17,6 +17,8 @@ use Rattle.points_linkages.specs.Points.{pointOf}
 use Rattle.points_linkages.specs.Linkages.{linkageOf}
 use Rattle.points_linkages.specs.declared.Point.the-variants as points
 use Rattle.points_linkages.specs.declared.Attribute.the-variants as attributes
+use Rattle.range_checks.specs.InRange.{inRangeOf}
+use Rattle.range_checks.specs.declared.InRange.the-variants as answers
 use Rattle.text_views.specs.TextViews.{textOf, charactersOf, fieldOf}
 use Rattle.text_views.specs.declared.TextView.the-variants as texts
 use Rattle.text_views.specs.declared.Characters.the-variants as characters
@@ -43,6 +45,7 @@ pub record FileRefused (dim : ℕ) (s : List ℕ) (n p : ℕ) : Type 0 where
   pub views : (at : ℕ) → viewOf dim s at ≡ views.Refused n p
   pub points : (at k : ℕ) → pointOf dim s at k ≡ points.Refused n p
   pub linkages : (at k : ℕ) → linkageOf dim s at k ≡ attributes.Refused n p
+  pub ranges : (at : ℕ) → inRangeOf dim s at ≡ answers.Refused n p
   pub texts : (at : ℕ) → textOf dim s at ≡ texts.Refused n p
   pub characters : (at : ℕ) → charactersOf dim s at ≡ characters.Refused n p
   pub fields : (at k : ℕ) → fieldOf dim s at k ≡ fields.Refused n p

@@ -1,11 +1,22 @@
 -- What worked cases of several subjects show as numbers.
-use Prim.Native.Nat.{ℕ}
+use Prim.Native.Nat.{ℕ, suc}
 use mathlib.Core.List.{List, [], _∷_, _++_}
+use lib.IntN.{ℤ, pos, negsuc}
 use Rattle.words.specs.Words.{bytes}
 use Rattle.kinds.specs.Kinds.{fixedPart}
 use Rattle.files.specs.Judge.{judgeOf, judgedNumbers}
 use Rattle.turns.specs.declared.Turn.{Turn}
 use Rattle.turns.specs.declared.Turn.the-variants as turn
+
+-- a signed number as two: 0 and the number, or 1 and the number below zero
+abbrev pub signedNumbers : ℤ → List ℕ
+signedNumbers (pos n) = 0 ∷ n ∷ []
+signedNumbers (negsuc n) = 1 ∷ suc n ∷ []
+
+-- each of a list of them
+abbrev pub signedAll : List ℤ → List ℕ
+signedAll [] = []
+signedAll (z ∷ zs) = signedNumbers z ++ signedAll zs
 
 -- the bytes of a file of these words and the marker
 abbrev pub withMarker : List ℕ → List ℕ

@@ -1,10 +1,10 @@
 -- The worked cases that RULES.md marks with *, its table of fixed parts, its rules of what may stand where and of
 -- bits 6 and 7, cases of its depths, totals, counts, stored names, attribute parts and texts, of its orders of checks, of
--- sessions, of an index, of deleted cells, of floats and of ellipses and arcs, as one list. That all hold is one statement of the page of demands.
+-- sessions, of an index, of deleted cells, of floats, of ellipses and arcs and of ranges, as one list. That all hold is one statement of the
+-- page of demands.
 use Prim.Native.Nat.{ℕ, zero, suc, _+_, _*_}
 use mathlib.Core.List.{List, [], _∷_, _++_}
 use mathlib.Core.Bool.{Bool, true, _&&_}
-use lib.IntN.{ℤ, pos, negsuc}
 use lib.ListN.{replicate}
 use Rattle.words.specs.Words.{words, bytes, longAt, signed}
 use Rattle.names.specs.Names.{wordOf, packed, packedNumbers, unpacked, answerNumbers}
@@ -31,23 +31,19 @@ use Rattle.text_views.specs.declared.Characters.the-variants as characters
 use Rattle.text_views.specs.declared.FieldView.{FieldView}
 use Rattle.text_views.specs.declared.FieldView.the-variants as field
 use Rattle.demands.specs.Cases.{Case, case, holds}
-use Rattle.demands.specs.Shown.{withMarker, judged2D, judged3D, fixedParts, turnShown}
+use Rattle.demands.specs.Shown.{signedNumbers, signedAll, withMarker, judged2D, judged3D, fixedParts, turnShown}
 use Rattle.demands.specs.Elements.{firstWord, live, plain, attributed, raw, line, deadLine, text, texted, flatText, solidText, cell, namedCell, libraryCell, chain, counting, inCells, text00417, text417}
 use Rattle.demands.specs.SessionCases.{sessionCases}
 use Rattle.demands.specs.BlockCases.{blockCases}
 use Rattle.demands.specs.IndexCases.{indexCases}
 use Rattle.demands.specs.FindCases.{deletedCases}
 use Rattle.demands.specs.CurveCases.{curveCases}
+use Rattle.demands.specs.RangeCases.{rangeCases}
 
 -- whether each case of a list holds
 abbrev pub allHold : List Case → Bool
 allHold [] = true
 allHold (c ∷ rest) = holds c && allHold rest
-
--- a signed number as two: 0 and the number, or 1 and the number below zero
-abbrev pub signedNumbers : ℤ → List ℕ
-signedNumbers (pos n) = 0 ∷ n ∷ []
-signedNumbers (negsuc n) = 1 ∷ suc n ∷ []
 
 -- 01 00 02 00 is 65538, FF FF FE FF is -2 when signed
 abbrev pub longCases : List Case
@@ -387,10 +383,6 @@ orderCases =
     []
 
 -- point k of the element at the top of a file: the number of the answer, then each coordinate as two numbers
-abbrev pub signedAll : List ℤ → List ℕ
-signedAll [] = []
-signedAll (z ∷ zs) = signedNumbers z ++ signedAll zs
-
 abbrev pub pointShown : Point → List ℕ
 pointShown (point.Flat x y) = 0 ∷ signedAll (x ∷ y ∷ [])
 pointShown (point.Solid x y z) = 0 ∷ signedAll (x ∷ y ∷ z ∷ [])
@@ -477,4 +469,4 @@ abbrev pub starred : List Case
 starred =
     longCases ++ nameCases ++ fileCases ++ lineCases ++ pointCases ++ cellCases ++ tableCases ++ placeCases ++ ruleCases
     ++ lengthCases ++ givenCases ++ codeCases ++ depthCases ++ totalCases ++ countCases ++ attributeCases ++ textCases
-    ++ readCases ++ orderCases ++ sessionCases ++ blockCases ++ indexCases ++ deletedCases ++ curveCases
+    ++ readCases ++ orderCases ++ sessionCases ++ blockCases ++ indexCases ++ deletedCases ++ curveCases ++ rangeCases

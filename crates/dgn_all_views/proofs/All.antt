@@ -3,7 +3,7 @@ use Prim.Native.Nat.{ℕ, _+_, _-_, _*_, _≤_}
 use mathlib.Core.Path.{_≡_, refl, sym, ap, _∙_}
 use mathlib.Core.List.{List, [], _∷_, _++_, append-assoc}
 use native.Mathlib.Omega.{arith}
-use lib.ListN.{length, getD, take, drop, length-append, length-map, length-take, length-drop}
+use lib.ListN.{length, getD, take, drop, length-append, length-take, length-drop}
 use lib.IntN.{pos}
 use lib.Seq.{sets}
 use lib.Dec.{leb}
@@ -15,7 +15,6 @@ use Rattle.files.specs.Spots.{Spot, spotsOf}
 use Rattle.files.specs.declared.Judged.the-variants.{Accepted}
 use Rattle.places.specs.Places.{aboveOf}
 use Rattle.views.specs.Views.{viewOf, elementView}
-use Rattle.view_numbers.specs.Numbers.{viewNumbers}
 use Rattle.view_numbers.proofs.Laws.{thirty-two}
 use Rattle.answers.proofs.Besides.{front-read, front-at}
 use Rattle.order.specs.Parts.{Lent}
@@ -39,7 +38,7 @@ module _ (dim : ℕ) (s : List ℕ) (e d m : ℕ) (j : judgeOf dim s ≡ Accepte
   views-long [] f = refl
   views-long (x ∷ xs) f =
       let v = elementView (words s) (x .place) (x .depth) (aboveOf (x .header)) in
-      let own = ap (λ o. length (seenNumbers (x .place) o)) (seen dim s e d m j x (f .0)) ∙ length-map (viewNumbers (x .place) v) pos ∙ thirty-two (x .place) v in
+      let own = ap (λ o. length (seenNumbers (x .place) o)) (seen dim s e d m j x (f .0)) ∙ thirty-two pos (x .place) v in
       let l = length-append (seenNumbers (x .place) (viewOf dim s (x .place))) (viewsOf dim s xs) in
       let r = views-long xs (f .1) in
       omega arith

@@ -3,10 +3,10 @@ use Prim.Native.Nat.{ℕ, zero, suc, _+_, _-_, _*_, _/_, _≤_, _<_}
 use mathlib.Core.Path.{_≡_, refl, sym, ap, _∙_}
 use mathlib.Core.Logic.{_≢_, _⊎_, inl, inr}
 use mathlib.Core.Bool.{Bool, true, false, cond, not, _&&_, false≢true}
-use mathlib.Core.List.{List, _++_, append-assoc, append-nil, map}
+use mathlib.Core.List.{List, _++_, append-assoc, append-nil}
 use native.Mathlib.Omega.{arith}
 use lib.IntN.{ℤ}
-use lib.ListN.{length, getD, set, length-append, length-map, List·getD-eq-default}
+use lib.ListN.{length, getD, set, length-append, List·getD-eq-default}
 use lib.Seq.{sets, getD-set-same}
 use lib.Dec.{eqb, ltb}
 use borrow.Author.Tests.{le-leb, lt-ltb, le-ltb, ltb-true, ltb-false, eqb-false, not-true}
@@ -81,7 +81,7 @@ unfolding shownAt
 view-length ws t =
     let place = t .walk .place in
     let v = elementView ws place (t .walk .depth) (aboveOf (headerIn (t .headers) (t .walk .depth))) in
-    length-map (viewNumbers place v) asSigned ∙ thirty-two place v
+    thirty-two asSigned place v
 
 views-length : (n : ℕ) (ws : List ℕ) (top k : ℕ) → length (viewsFrom n ws top k) ≡ 32 * n
 views-length zero ws top k = refl
@@ -111,7 +111,7 @@ pub one-put : (s : List ℕ) (place depth : ℕ) (above : Above) (e : Element) (
 unfolding shownAt putView
 one-put s place depth above e k i views now f h a l q =
     let z = known-element s place depth above e h f in
-    rw (le-ltb i k a) (rw (le-leb (32 * (i - k) + 32) (length views) l) at q ∙ ap (λ v. sets views (32 * (i - k)) (map asSigned (viewNumbers place v))) (sym z))
+    rw (le-ltb i k a) (rw (le-leb (32 * (i - k) + 32) (length views) l) at q ∙ ap (λ v. sets views (32 * (i - k)) (viewNumbers asSigned place v)) (sym z))
 
 -- a turn of the loop that puts them
 module _ (ws : List ℕ) (top k : ℕ) where

@@ -9,11 +9,9 @@ use lib.ListN.{length, set}
 use lib.Seq.{sets}
 use Rattle.words.specs.Words.{words, Below}
 use Rattle.files.specs.Judge.{judgeOf}
-use Rattle.answers.proofs.Elements.{elements-few}
-use Rattle.order.proofs.Order.{count-is}
 use Rattle.order.specs.declared.Begun.the-variants.{Refused}
 use Rattle.order.specs.Calls.{begunOf, noneFits}
-use Rattle.order.proofs.Calls.{GoesOn, call-refused, call-full, call-done}
+use Rattle.order.proofs.Calls.{GoesOn, goes-few, call-refused, call-full, call-done}
 use Rattle.dgn_all_views.specs.Views.{viewsMany, viewsPart, Begins, PartPut}
 use Rattle.dgn_all_views.specs.Answers.{viewsCount, viewsReply, ViewsGiven}
 use Rattle.dgn_all_views.proofs.Tours.{views-are, tour-inside}
@@ -35,8 +33,7 @@ module _ (dim : ℕ) (s : List ℕ) (k : ℕ) (views : List ℤ) (out : List ℕ
     -- so many fit, and the walk from any element at the top comes to words of the file
     pub views-fit : (32 * n ≤ length views) × (0 < n → (k + n ≤ 1048576) × Begins (words s) k n)
     views-fit =
-        let f = elements-few dim s e (on .deepest) (on .marker) (on .accepted) in
-        let c = count-is dim s e (on .deepest) (on .marker) (on .accepted) in
+        let f = goes-few dim s 1 (length out) e on in
         let few : 0 < n → k + n ≤ e = λ z. omega arith in
         (omega arith, λ z. (omega (arith, few z), λ r b i h. tour-inside dim s e (on .deepest) (on .marker) (on .accepted) k r b (omega (arith, few z)) n i (few z) h))
 

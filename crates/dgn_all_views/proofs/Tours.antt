@@ -23,7 +23,7 @@ use Rattle.places.proofs.Places.{spotted-found}
 use Rattle.views.specs.Views.{viewBy, viewOf, elementView}
 use Rattle.views.specs.declared.View.the-variants as view
 use Rattle.view_numbers.specs.Numbers.{viewNumbers, asSigned}
-use Rattle.view_numbers.proofs.Small.{as-is, view-numbers-small}
+use Rattle.view_numbers.proofs.Small.{given-as-is, view-numbers-small}
 use Rattle.order.specs.Order.{placeOf, InOrder}
 use Rattle.order.proofs.Order.{FoundIn, order-few, order-from, found-drop, file-order, file-found, count-is, marker-inside}
 use Rattle.dgn_all_views.specs.declared.Numbered.{Numbered}
@@ -92,12 +92,12 @@ at-top ws top from k p d =
     }
 
 tour-view : (ws : List ℕ) (t : Tour) (x : Spot) → t .walk .place ≡ x .place → t .walk .depth ≡ x .depth → headerIn (t .headers) (t .walk .depth) ≡ x .header →
-    tourView ws t ≡ map asSigned (viewNumbers (x .place) (elementView ws (x .place) (x .depth) (aboveOf (x .header))))
+    tourView ws t ≡ viewNumbers asSigned (x .place) (elementView ws (x .place) (x .depth) (aboveOf (x .header)))
 unfolding shownAt
 tour-view ws t x p d h =
-    ap (λ o. map asSigned (viewNumbers (t .walk .place) (elementView ws (t .walk .place) (t .walk .depth) (aboveOf o)))) h
-    ∙ ap (λ i. map asSigned (viewNumbers i (elementView ws i (t .walk .depth) (aboveOf (x .header))))) p
-    ∙ ap (λ i. map asSigned (viewNumbers (x .place) (elementView ws (x .place) i (aboveOf (x .header))))) d
+    ap (λ o. viewNumbers asSigned (t .walk .place) (elementView ws (t .walk .place) (t .walk .depth) (aboveOf o))) h
+    ∙ ap (λ i. viewNumbers asSigned i (elementView ws i (t .walk .depth) (aboveOf (x .header)))) p
+    ∙ ap (λ i. viewNumbers asSigned (x .place) (elementView ws (x .place) i (aboveOf (x .header)))) d
 
 ---- an accepted file
 
@@ -180,7 +180,7 @@ module _ (dim : ℕ) (s : List ℕ) (e d m : ℕ) (accepted : judgeOf dim s ≡ 
   views-toured b top (suc n) k [] h f t = absurd (omega arith)
   views-toured b top (suc n) k (x ∷ xs) h f t =
       let v = elementView (words s) (x .place) (x .depth) (aboveOf (x .header)) in
-      let i = as-is (viewNumbers (x .place) v) (view-numbers-small dim s (x .place) v b (seen x (f .0))) in
+      let i = given-as-is (x .place) v (view-numbers-small dim s (x .place) v b (seen x (f .0))) in
       ap (λ l. l ++ viewsFrom n (words s) top (suc k)) (tour-view (words s) (tourOf (words s) top k) x (t .0) (t .1) (t .2) ∙ i ∙ sym (ap (seenNumbers (x .place)) (seen x (f .0))))
       ∙ ap (λ l. seenNumbers (x .place) (viewOf dim s (x .place)) ++ l) (views-toured b top n (suc k) xs (omega arith) (f .1) (t .3))
 

@@ -23,8 +23,8 @@ AllViews =
     (dim : ℕ) (s : List ℕ) (e d m : ℕ) → judgeOf dim s ≡ Accepted e d m → (calls : List Lent) (got : List ℤ) (last : ℕ) →
     Called (viewsCall dim s) 0 calls got last → GivesAll (viewsCall dim s) (spotsOf dim (words s)) (viewsOf dim s) calls got last
 
--- a call that is done gives at most 524,288 views, whose numbers are below 4,294,967,296
+-- a call that is done gives at most 524,288 views, whose numbers are from -2,147,483,648 to 2,147,483,647
 abbrev pub ViewsWithin : Type 0
 ViewsWithin =
     (dim : ℕ) (s : List ℕ) (k : ℕ) (views views' : List ℤ) (out out' : List ℕ) → Below 256 s → ViewsGiven dim s k views out 0 views' out' →
-    (getD out' 0 0 ≤ 524288) × Within 4294967296 (take (32 * getD out' 0 0) views')
+    (getD out' 0 0 ≤ 524288) × Within 2147483648 (take (32 * getD out' 0 0) views')

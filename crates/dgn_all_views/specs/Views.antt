@@ -1,7 +1,7 @@
 -- The views of the elements number k, k + 1, .. in file order, as many as a slice of numbers holds whole.
 use Prim.Native.Nat.{ℕ, zero, suc, _+_, _-_, _/_, _<_, min}
 use mathlib.Core.Path.{_≡_}
-use mathlib.Core.List.{List, [], _∷_, _++_, map}
+use mathlib.Core.List.{List, [], _∷_, _++_}
 use lib.IntN.{ℤ}
 use lib.ListN.{length, take, drop}
 use lib.Seq.{sets}
@@ -36,7 +36,7 @@ viewsPart dim s k n = viewsOf dim s (take n (drop k (spotsOf dim (words s))))
 
 -- the same by the walk that keeps the headers
 unfoldable pub shownAt : List ℕ → ℕ → ℕ → Above → List ℤ
-shownAt ws place depth above = map asSigned (viewNumbers place (elementView ws place depth above))
+shownAt ws place depth above = viewNumbers asSigned place (elementView ws place depth above)
 
 abbrev pub tourView : List ℕ → Tour → List ℤ
 tourView ws t = shownAt ws (t .walk .place) (t .walk .depth) (aboveOf (headerIn (t .headers) (t .walk .depth)))

@@ -1,8 +1,8 @@
 -- An element has one curve or none, which is what the call for it gives; so calls one after another give all.
-use Prim.Native.Nat.{ℕ, _*_, _/_, _≤_}
-use mathlib.Core.Path.{_≡_, refl, sym, ap, ap₂, _∙_}
-use mathlib.Core.Bool.{Bool, and-eq-true-iff, _&&_}
-use mathlib.Core.List.{List, [], _∷_, _++_}
+use Prim.Native.Nat.{ℕ, _*_, _≤_}
+use mathlib.Core.Path.{_≡_, refl, ap, ap₂, _∙_}
+use mathlib.Core.Bool.{and-eq-true-iff, _&&_}
+use mathlib.Core.List.{List}
 use mathlib.Core.Option.{some}
 use native.Mathlib.Omega.{arith}
 use lib.ListN.{length, getD, take}
@@ -13,7 +13,7 @@ use Rattle.kinds.specs.FirstWord.{deletedOf}
 use Rattle.files.specs.Judge.{judgeOf}
 use Rattle.files.specs.Spots.{Spot, spotsOf, spotIn}
 use Rattle.files.specs.declared.Judged.the-variants.{Accepted}
-use Rattle.places.specs.Places.{foundBy, spottedAt}
+use Rattle.places.specs.Places.{foundBy}
 use Rattle.places.proofs.Places.{spotted-found}
 use Rattle.curve_views.specs.declared.Curve.{Curve}
 use Rattle.curve_views.specs.declared.Curve.the-variants as curves
@@ -21,9 +21,9 @@ use Rattle.curve_views.specs.CurveViews.{curveIn, curveOf}
 use Rattle.answers.proofs.Besides.{front-read}
 use Rattle.order.specs.Fitting.{allOf}
 use Rattle.order.proofs.Took.{all-append, Takes, all-taken}
-use Rattle.dgn_curves.specs.Curves.{Entry, entryBy, allNumbers, allFloats, Both, both, inBoth, curveItems, curvesPart}
+use Rattle.dgn_curves.specs.Curves.{entryBy, allNumbers, allFloats, Both, both, inBoth, curveItems, curvesPart}
 use Rattle.dgn_curves.specs.Answers.{curvesReply}
-use Rattle.dgn_curves.specs.Calls.{Lent, shown, elementCurve, curvesCall, AllCurves}
+use Rattle.dgn_curves.specs.Calls.{shown, elementCurve, curvesCall, AllCurves}
 use Rattle.dgn_curves.proofs.Slices.{numbers-long, floats-long, numbers-append, floats-append}
 
 entry-few : (c : Curve) (place deleted : ℕ) → length (entryBy c place deleted) ≤ 1

@@ -1,5 +1,5 @@
 -- One curve behind those that are used: none of an element that is none, no room, or its numbers and floats in their slices.
-use Prim.Native.Nat.{ℕ, suc, _+_, _-_, _*_, _/_, _≤_, _<_, min}
+use Prim.Native.Nat.{ℕ, suc, _+_, _-_, _*_, _≤_, _<_}
 use mathlib.Core.Path.{_≡_, refl, sym, ap, ap₂, _∙_}
 use mathlib.Core.Logic.{_⊎_, inl, inr}
 use mathlib.Core.List.{List, [], _∷_, _++_, append-nil}
@@ -17,7 +17,9 @@ use Rattle.curve_views.proofs.Curve.{the-type}
 use Rattle.curve_numbers.specs.Numbers.{curveNumbers, curveFloats, putNumbers, putFloats}
 use Rattle.order.specs.declared.Taken.the-variants.{Full, Used}
 use Rattle.order.specs.Fitting.{ElementPut}
+use Rattle.order.proofs.Fitting.{nothing-put}
 use Rattle.dgn_curves.specs.Curves.{Entry, entryBy, entryNumbers, entryFloats, both, inBoth}
+use Rattle.dgn_curves.proofs.Slices.{lays-both}
 
 -- an answer that is no refusal gives one
 record One (c : Curve) (place deleted : ℕ) : Type 0 where
@@ -37,9 +39,7 @@ one (curves.Refused number fault) place deleted o = go o
 
 module _ (c : Curve) (place deleted : ℕ) (numbers : List ℤ) (floats : List Float) (used : ℕ) where
   pub put-none : (n p : ℕ) → c ≡ curves.Refused n p → ElementPut inBoth (entryBy c place deleted) (both numbers floats) used (Used used) (both numbers floats)
-  put-none n p q =
-      let yes = le-leb 0 (inBoth .room (both numbers floats) - used) (omega arith) in
-      rw q (record { is = rw yes (ap Used (omega arith)); given = rw yes refl })
+  put-none n p q = rw q (nothing-put inBoth lays-both (both numbers floats) used)
 
   module _ (o : OneOf (0 ∷ 1 ∷ []) (tagOf the-type c)) where
     pub put-full : inBoth .room (both numbers floats) - used < 1 → ElementPut inBoth (entryBy c place deleted) (both numbers floats) used Full (both numbers floats)

@@ -1,17 +1,14 @@
 -- Each case of the answer: refused at once, no room for the first curve, done.
-use Prim.Native.Nat.{ℕ, _-_, _≤_}
+use Prim.Native.Nat.{ℕ, _-_}
 use mathlib.Core.Path.{_≡_, subst}
 use mathlib.Core.Bool.{true, false}
 use mathlib.Core.List.{List}
-use native.Mathlib.Omega.{arith}
 use lib.ListN.{length, set}
 use Rattle.words.specs.Words.{words}
-use Rattle.answers.proofs.Elements.{elements-few}
 use Rattle.order.specs.declared.Begun.the-variants.{Refused}
 use Rattle.order.specs.declared.Part.{Part}
 use Rattle.order.specs.Calls.{begunOf, noneFits}
 use Rattle.order.specs.Fitting.{Fitting, partOf, PartPut}
-use Rattle.order.proofs.Order.{count-is}
 use Rattle.order.proofs.Calls.{GoesOn}
 use Rattle.order.proofs.Replies.{taken-refused, taken-full, taken-done}
 use Rattle.dgn_curves.specs.Curves.{Entry, Both, inBoth, curvesPart, curvesFrom}
@@ -38,10 +35,3 @@ module _ (dim : ℕ) (s : List ℕ) (k : ℕ) (was : Both) (out : List ℕ) wher
     pub curves-done : false ≡ noneFits (r .used) (r .next) e → CurvesGiven dim s k was out 0 t (set (set out 0 (r .next)) 1 (r .used))
     unfolding curvesReply
     curves-done f = let g = taken-done inBoth lays-both dim s part (length (part .given)) was out e on t r put-part f (r .used) (put-part .used) in record { replied = g .0; given = g .1 }
-
--- an accepted file has few elements
-pub accepted-few : (dim : ℕ) (s : List ℕ) (room e : ℕ) → GoesOn dim s 2 room e → e ≤ 1048576
-accepted-few dim s room e on =
-    let f = elements-few dim s e (on .deepest) (on .marker) (on .accepted) in
-    let c = count-is dim s e (on .deepest) (on .marker) (on .accepted) in
-    omega arith

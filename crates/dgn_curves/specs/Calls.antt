@@ -2,7 +2,7 @@
 -- file, each as the call for the one at its place gives it.
 use Prim.Native.Nat.{ℕ, _*_}
 use mathlib.Core.Path.{_≡_}
-use mathlib.Core.Bool.{Bool, _&&_}
+use mathlib.Core.Bool.{_&&_}
 use mathlib.Core.List.{List, [], _++_}
 use lib.ListN.{length, getD, take}
 use lib.Dec.{leb}

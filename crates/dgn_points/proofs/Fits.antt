@@ -15,6 +15,7 @@ use Rattle.points_linkages.proofs.Coordinates.{length-longs}
 use Rattle.points_linkages.proofs.Numbered.{count-small}
 use Rattle.order.specs.declared.Taken.the-variants.{Full, Used}
 use Rattle.order.specs.Fitting.{inNumbers, ElementPut}
+use Rattle.order.proofs.Fitting.{lays-numbers, nothing-put}
 use Rattle.dgn_points.specs.Points.{pointNumbers}
 
 ---- signed longs
@@ -55,8 +56,7 @@ numbers-few s b dim at n h e =
 module _ (dim : ℕ) (ws : List ℕ) (at n : ℕ) (numbers : List ℤ) (used : ℕ) (count : n ≡ pointCount ws at) where
   pub element-none : n ≡ 0 → ElementPut inNumbers (pointNumbers dim ws at) numbers used (Used used) numbers
   unfolding pointNumbers
-  element-none z = rw (← count, z)
-      (record { is = rw (le-leb 0 (length numbers - used) (omega arith)) (ap Used (omega arith)); given = rw (le-leb 0 (length numbers - used) (omega arith)) refl })
+  element-none z = rw (← count, z) (nothing-put inNumbers lays-numbers numbers used)
 
   long : length (longs (n * dim) ws (at + beforePoints ws at)) ≡ n * dim
   long = length-longs (n * dim) ws (at + beforePoints ws at)

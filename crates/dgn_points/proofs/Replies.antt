@@ -9,11 +9,9 @@ use lib.ListN.{length, set}
 use Rattle.words.specs.Words.{words}
 use Rattle.grammar.proofs.Exact.{accepted-is}
 use Rattle.points_linkages.proofs.Numbered.{stride}
-use Rattle.answers.proofs.Elements.{elements-few}
 use Rattle.order.specs.declared.Begun.the-variants.{Refused}
 use Rattle.order.specs.Calls.{begunOf, noneFits}
-use Rattle.order.proofs.Order.{count-is}
-use Rattle.order.proofs.Calls.{GoesOn}
+use Rattle.order.proofs.Calls.{GoesOn, goes-few}
 use Rattle.order.proofs.Fitting.{lays-numbers}
 use Rattle.order.proofs.Replies.{taken-refused, taken-full, taken-done}
 use Rattle.order.specs.declared.Part.{Part}
@@ -45,6 +43,4 @@ module _ (dim : ℕ) (s : List ℕ) (k : ℕ) (numbers : List ℤ) (out : List �
 -- what is handed on is small
 pub accepted-small : (dim : ℕ) (s : List ℕ) (room e : ℕ) → GoesOn dim s 2 room e → (dim ≤ 3) × (e ≤ 1048576)
 accepted-small dim s room e on =
-    let f = elements-few dim s e (on .deepest) (on .marker) (on .accepted) in
-    let c = count-is dim s e (on .deepest) (on .marker) (on .accepted) in
-    (omega (arith, stride dim s (accepted-is dim s e (on .deepest) (on .marker) (on .accepted) .call) 0 .0), omega arith)
+    (omega (arith, stride dim s (accepted-is dim s e (on .deepest) (on .marker) (on .accepted) .call) 0 .0), goes-few dim s 2 room e on)

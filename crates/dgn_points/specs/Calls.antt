@@ -1,11 +1,11 @@
 -- Calls of dgn_points one after another, from element 0 on, each from where the last one stopped: they give all points of the file,
 -- each point as the call for one point gives it, in small numbers.
-use Prim.Native.Nat.{ℕ, _≤_, max}
+use Prim.Native.Nat.{ℕ}
 use mathlib.Core.Path.{_≡_}
 use mathlib.Core.Bool.{cond}
 use mathlib.Core.List.{List, [], _∷_}
 use lib.IntN.{ℤ, pos}
-use lib.ListN.{length, getD, take}
+use lib.ListN.{getD}
 use lib.Dec.{eqb}
 use Rattle.words.specs.Words.{words, Below}
 use Rattle.files.specs.Judge.{judgeOf}
@@ -14,7 +14,7 @@ use Rattle.files.specs.declared.Judged.the-variants.{Accepted}
 use Rattle.points_linkages.specs.Points.{pointCount}
 use Rattle.points_linkages.specs.Coordinates.{pointsFrom}
 use Rattle.order.specs.Fitting.{allOf}
-use Rattle.order.specs.Parts.{Lent, InParts, numbersCall, Called, GivesAll, Within}
+use Rattle.order.specs.Parts.{Lent, InParts, numbersCall, Called, GivesAll, NumbersSmall}
 use Rattle.dgn_points.specs.Answers.{PointsGiven}
 
 -- of the element at a place: none where it has no points; else its place, how many points it has, and their coordinates by the calls
@@ -38,14 +38,8 @@ AllPoints =
     (dim : ℕ) (s : List ℕ) (e d m : ℕ) → judgeOf dim s ≡ Accepted e d m → (calls : List Lent) (got : List ℤ) (last : ℕ) →
     Called (pointsCall dim s) 0 calls got last → GivesAll (pointsCall dim s) (spotsOf dim (words s)) (pointsOf dim s) calls got last
 
--- a call that is done goes on at most at the element after the last, or where it was asked to begin; it gives no more numbers than its
--- slice holds, each from -2,147,483,648 to 2,147,483,647
-pub record PointsSmall (k : ℕ) (numbers numbers' : List ℤ) (out' : List ℕ) : Type 0 where
-  pub next : getD out' 0 0 ≤ max k 524288
-  pub written : getD out' 1 0 ≤ length numbers
-  pub each : Within 2147483648 (take (getD out' 1 0) numbers')
-
+-- a call that is done gives numbers from -2,147,483,648 to 2,147,483,647
 abbrev pub PointsWithin : Type 0
 PointsWithin =
     (dim : ℕ) (s : List ℕ) (k : ℕ) (numbers numbers' : List ℤ) (out out' : List ℕ) → Below 256 s → PointsGiven dim s k numbers out 0 numbers' out' →
-    PointsSmall k numbers numbers' out'
+    NumbersSmall 2147483648 k numbers numbers' out'

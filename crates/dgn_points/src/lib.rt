@@ -6,7 +6,6 @@ ghost use lib.ListN.{length};
 ghost use lib.Seq.{sets};
 ghost use Rattle.words.specs.Words.{words};
 ghost use Rattle.points_linkages.specs.Coordinates.{longs};
-ghost use Rattle.order.specs.Order.{placeOf};
 ghost use Rattle.order.specs.Fitting.{partOf, inNumbers, ElementPut, PartPut};
 ghost use Rattle.dgn_points.specs.Points.{pointNumbers, pointsFrom};
 ghost use Rattle.dgn_points.specs.Answers.{PointsGiven};

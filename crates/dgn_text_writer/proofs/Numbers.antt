@@ -1,48 +1,21 @@
 -- What the tests of a signed number of 64 bits say of it: the machine's reading of its bits is the number itself (`toZ-ofZ`).
-use Prim.Native.Nat.{ℕ, suc, _-_, _≤_, _<_}
-use mathlib.Core.Path.{_≡_, refl, sym, ap, _∙_, subst}
-use mathlib.Core.Bool.{Bool, true, false, cond, _&&_, false≢true}
+use Prim.Native.Nat.{ℕ, _-_, _<_}
+use mathlib.Core.Path.{_≡_, refl, ap}
+use mathlib.Core.Bool.{Bool, true, false, cond, _&&_}
 use native.Mathlib.Omega.{arith}
 use mathlib.Core.List.{List}
 use lib.ListN.{length}
-use lib.Dec.{T, eqb, ltb}
-use lib.IntN.{ℤ, pos, negsuc, natAbs}
-use lib.Signed.{mag, nonNeg, ltZ}
-use borrow.Author.Tests.{lt-ltb, le-ltb, ltb-true, ltb-false, ne-eqb, eqb-true}
-use mir.Syntax.{w32, w64}
-use mir.Val.{Fits, SFits, toZ, ofZ}
-use mir.ValLaws.{toZ-ofZ}
+use lib.Dec.{eqb}
+use lib.IntN.{ℤ, pos, negsuc}
+use lib.Signed.{mag}
+use borrow.Author.Tests.{ltb-true, ne-eqb, eqb-true}
+use mir.Syntax.{w64}
+use mir.Val.{SFits, ofZ}
 use Rattle.fields.proofs.Bounds.{both}
 use Rattle.text_fields.specs.declared.Text.{Text}
-use Rattle.dgn_text_writer.specs.Writing.{numberAt, isCoordinate, textGiven, natural, oddBy}
-
----- a coordinate
-
-below-low : (z : ℤ) → ltZ z (negsuc 2147483647) ≡ true → isCoordinate z ≡ false
-below-low (pos n) e = absurd (false≢true e)
-below-low (negsuc n) e = let h = ltb-true 2147483647 n e in le-ltb n 2147483648 (omega arith)
-
-from-low : (z : ℤ) → ltZ z (negsuc 2147483647) ≡ false → ltZ z (pos 2147483648) ≡ isCoordinate z
-from-low (pos n) e = refl
-from-low (negsuc n) e = let h = ltb-false 2147483647 n e in sym (lt-ltb n 2147483648 (omega arith))
-
--- it can be cast to 32 bits
-coordinate-fits : (z : ℤ) → isCoordinate z ≡ true → SFits w32 z
-coordinate-fits z e = record { sfits = ltb-true (mag z) 2147483648 e }
-
----- a number that is not negative
-
-negative-is : (z : ℤ) → ltZ z (pos 0) ≡ true → 4294967296 ≡ natural z
-negative-is (pos n) e = let h = ltb-true n 0 e in absurd (omega arith)
-negative-is (negsuc n) e = refl
-
-plain-is : (z : ℤ) → ltZ z (pos 0) ≡ false → natAbs z ≡ natural z
-plain-is (pos n) e = refl
-plain-is (negsuc n) e = absurd (false≢true (sym e))
-
-plain-fits : (z : ℤ) → SFits w64 z → ltZ z (pos 0) ≡ false → T (nonNeg z) × Fits w64 (natAbs z)
-plain-fits (pos n) f e = (tt, record { fits = omega (arith, f .sfits) })
-plain-fits (negsuc n) f e = absurd (false≢true (sym e))
+use Rattle.ranges.specs.Ranges.{isCoordinate}
+use Rattle.write_answers.specs.Writing.{numberAt, natural}
+use Rattle.dgn_text_writer.specs.Writing.{textGiven, oddBy}
 
 ---- the odd byte
 
@@ -64,37 +37,12 @@ other-than even (negsuc n) f e = go even
 ---- of a number as the machine reads it
 
 module _ (z : ℤ) (f : SFits w64 z) where
-  pub back : toZ w64 (ofZ w64 z) ≡ z
-  back = toZ-ofZ w64 z f
-
-  pub too-low : ltZ (toZ w64 (ofZ w64 z)) (negsuc 2147483647) ≡ true → false ≡ isCoordinate z
-  too-low e = sym (below-low z (subst (λ y. ltZ y (negsuc 2147483647) ≡ true) back e))
-
-  pub not-low : ltZ (toZ w64 (ofZ w64 z)) (negsuc 2147483647) ≡ false → ltZ (toZ w64 (ofZ w64 z)) (pos 2147483648) ≡ isCoordinate z
-  not-low e = ap (λ y. ltZ y (pos 2147483648)) back ∙ from-low z (subst (λ y. ltZ y (negsuc 2147483647) ≡ false) back e)
-
-  pub negative : ltZ (toZ w64 (ofZ w64 z)) (pos 0) ≡ true → 4294967296 ≡ natural z
-  negative e = negative-is z (subst (λ y. ltZ y (pos 0) ≡ true) back e)
-
-  pub plain : ltZ (toZ w64 (ofZ w64 z)) (pos 0) ≡ false → natAbs (toZ w64 (ofZ w64 z)) ≡ natural z
-  plain e = ap natAbs back ∙ plain-is z (subst (λ y. ltZ y (pos 0) ≡ false) back e)
-
-  pub plain-cast : ltZ (toZ w64 (ofZ w64 z)) (pos 0) ≡ false → T (nonNeg (toZ w64 (ofZ w64 z))) × Fits w64 (natAbs (toZ w64 (ofZ w64 z)))
-  plain-cast e = subst (λ y. T (nonNeg y) × Fits w64 (natAbs y)) (sym back) (plain-fits z f (subst (λ y. ltZ y (pos 0) ≡ false) back e))
-
   pub none : (even : Bool) → ofZ w64 z ≡ 18446744073709551615 → cond even 0 4294967296 ≡ oddBy even z
   none even e = rw (minus-one z f e) (go even)
     where
       go : (b : Bool) → _≡_ {A = ℕ} (cond b 0 4294967296) (cond (b && true) 0 4294967296)
       go true = refl
       go false = refl
-
-  -- cast to 32 bits
-  pub cast-fits : isCoordinate z ≡ true → SFits w32 (toZ w64 (ofZ w64 z))
-  cast-fits e = subst (SFits w32) (sym back) (coordinate-fits z e)
-
-  pub cast-is : isCoordinate z ≡ true → toZ w32 (ofZ w32 (toZ w64 (ofZ w64 z))) ≡ z
-  cast-is e = toZ-ofZ w32 _ (cast-fits e) ∙ back
 
   pub other : (even : Bool) → (ofZ w64 z ≡ 18446744073709551615 → ⊥) → natural z ≡ oddBy even z
   other even e = other-than even z f e
@@ -103,9 +51,9 @@ module _ (z : ℤ) (f : SFits w64 z) where
 
 pub record Given (l : List ℤ) : Type 0 where
   pub twelve : length l ≡ 12
-  pub x : isCoordinate (numberAt l 8) ≡ true
-  pub y : isCoordinate (numberAt l 9) ≡ true
-  pub z : isCoordinate (numberAt l 10) ≡ true
+  pub x : mag (numberAt l 8) < 2147483648
+  pub y : mag (numberAt l 9) < 2147483648
+  pub z : mag (numberAt l 10) < 2147483648
 
 pub given : (l : List ℤ) → textGiven l ≡ true → Given l
 unfolding textGiven
@@ -113,7 +61,12 @@ given l e =
     let a = both (eqb (length l) 12) _ e in
     let b = both (isCoordinate (numberAt l 8)) _ (a .1) in
     let c = both (isCoordinate (numberAt l 9)) (isCoordinate (numberAt l 10)) (b .1) in
-    record { twelve = eqb-true (length l) 12 (a .0); x = b .0; y = c .0; z = c .1 }
+    record {
+      twelve = eqb-true (length l) 12 (a .0);
+      x = ltb-true _ 2147483648 (b .0);
+      y = ltb-true _ 2147483648 (c .0);
+      z = ltb-true _ 2147483648 (c .1);
+    }
 
 -- texts of the same numbers
 pub same-text : {a b c d e f g h a′ b′ c′ d′ e′ f′ g′ h′ : ℕ} {x y z x′ y′ z′ : ℤ} {o o′ : ℕ} →

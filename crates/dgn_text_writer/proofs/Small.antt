@@ -21,7 +21,7 @@ pub fault-table : (dim : ℕ) (f : Fields) (t : Text) (characters triples tail :
 unfolding textFault
 fault-table dim f t characters triples tail room h = leb-true _ 22 (first-in (λ k. leb k 22) (textChecks dim f t characters triples tail room) refl h)
 
-module _ (dim : ℕ) (f : List ℕ) (l : List ℤ) (characters triples tail : List ℕ) (room : ℕ) where
+module _ (dim : ℕ) (f l : List ℤ) (characters triples tail : List ℕ) (room : ℕ) where
   -- the first fault, by the two slices of numbers
   pub fault-given : textGiven l ≡ true → fieldsGiven f ≡ true →
       givenFault dim f l characters triples tail room ≡ textFault dim (fieldsOf f) (textIn l characters triples) characters triples tail room

@@ -4,33 +4,20 @@
 use Prim.Native.Nat.{ℕ, _+_, _%_}
 use mathlib.Core.Bool.{Bool, cond, _&&_}
 use mathlib.Core.List.{List}
-use lib.ListN.{length, getD}
-use lib.Dec.{eqb, ltb}
+use lib.ListN.{length}
+use lib.Dec.{eqb}
 use lib.IntN.{ℤ, pos, negsuc}
-use lib.Signed.{mag}
-use Rattle.write_answers.specs.Writing.{fieldsGiven, fieldsOf, WroteBy}
+use Rattle.ranges.specs.Ranges.{isCoordinate}
+use Rattle.write_answers.specs.Writing.{numberAt, natural, fieldsGiven, fieldsOf, WroteBy}
 use Rattle.text_fields.specs.declared.Text.{Text}
 use Rattle.text_fields.specs.Words.{textSize, textWords}
 use Rattle.text_fields.specs.Faults.{textFault}
-
--- number i of the slice
-abbrev pub numberAt : List ℤ → ℕ → ℤ
-numberAt l i = getD l i (pos 0)
-
--- a coordinate is a signed long, -2147483648 to 2147483647 (mag is n of n and of -1 - n)
-abbrev pub isCoordinate : ℤ → Bool
-isCoordinate z = ltb (mag z) 2147483648
 
 -- twelve numbers, x, y and z coordinates
 unfoldable pub textGiven : List ℤ → Bool
 textGiven l =
     eqb (length l) 12
     && (isCoordinate (numberAt l 8) && (isCoordinate (numberAt l 9) && isCoordinate (numberAt l 10)))
-
--- a number that is not negative; any other stands for 4294967296, which is no byte and no long
-abbrev pub natural : ℤ → ℕ
-natural (pos n) = n
-natural (negsuc n) = 4294967296
 
 -- the odd byte behind n bytes: -1 is 0 where there is none
 abbrev pub oddBy : Bool → ℤ → ℕ
@@ -59,14 +46,14 @@ abbrev pub textIn : List ℤ → List ℕ → List ℕ → Text
 textIn l characters triples = textOf (length characters + length triples) l
 
 -- the number of the first fault, 0 where there is none: 1 for the two slices of numbers, then the writer's own
-unfoldable pub givenFault : ℕ → List ℕ → List ℤ → List ℕ → List ℕ → List ℕ → ℕ → ℕ
+unfoldable pub givenFault : ℕ → List ℤ → List ℤ → List ℕ → List ℕ → List ℕ → ℕ → ℕ
 givenFault dim f l characters triples tail room =
     cond (textGiven l && fieldsGiven f)
     (textFault dim (fieldsOf f) (textIn l characters triples) characters triples tail room)
     1
 
 -- the number that is returned, the answer slice and the buffer as they then are
-abbrev pub WroteText : ℕ → List ℕ → List ℤ → List ℕ → List ℕ → List ℕ → List ℕ → List ℕ → ℕ → List ℕ → List ℕ → Type 0
+abbrev pub WroteText : ℕ → List ℤ → List ℤ → List ℕ → List ℕ → List ℕ → List ℕ → List ℕ → ℕ → List ℕ → List ℕ → Type 0
 WroteText dim f l characters triples tail buffer =
     WroteBy (givenFault dim f l characters triples tail (length buffer)) (textSize dim characters triples tail)
     (textWords dim (fieldsOf f) (textIn l characters triples) characters triples tail) buffer

@@ -4,17 +4,8 @@ ghost use mathlib.Core.Path.{_≡_};
 ghost use mathlib.Core.Bool.{true};
 ghost use lib.Dec.{eqb};
 ghost use Prim.Native.Nat.{_%_};
-ghost use Rattle.dgn_text_writer.specs.Writing.{isCoordinate, textGiven, natural, oddBy, textOf, WroteText};
-
-// Whether a number is a coordinate.
-fn is_coordinate(v: i64) -> bool
-    ensures { λ r. ⌜ r ≡ isCoordinate v ⌝ }
-{
-    if v < -2147483648 {
-        return false;
-    }
-    v < 2147483648
-}
+ghost use Rattle.dgn_text_writer.specs.Writing.{textGiven, oddBy, textOf, WroteText};
+use write_answers::natural;
 
 // Whether a slice is the numbers of a text.
 fn text_given(text: &[i64]) -> bool
@@ -23,20 +14,13 @@ fn text_given(text: &[i64]) -> bool
     if text.len() != 12 {
         return false;
     }
-    if !is_coordinate(text[8]) {
+    if !ranges::is_coordinate(text[8]) {
         return false;
     }
-    if !is_coordinate(text[9]) {
+    if !ranges::is_coordinate(text[9]) {
         return false;
     }
-    is_coordinate(text[10])
-}
-
-// A number that is not negative; any other is none that the writer takes.
-fn natural(v: i64) -> usize
-    ensures { λ r. ⌜ r ≡ natural v ⌝ }
-{
-    if v < 0 { 4294967296 } else { v as usize }
+    ranges::is_coordinate(text[10])
 }
 
 // The odd byte behind n bytes.
@@ -72,7 +56,7 @@ fn text_of(text: &[i64], n: usize) -> text_fields::Text
 
 #[no_mangle]
 pub extern "C" fn dgn_write_text(
-    fields: &[usize],
+    fields: &[i64],
     text: &[i64],
     characters: &[u8],
     triples: &[u8],

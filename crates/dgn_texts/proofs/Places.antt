@@ -1,14 +1,14 @@
 -- The walk is at the elements of an accepted file, one after another; so the texts that it finds are those of the list of elements.
 use Prim.Native.Nat.{ℕ, zero, suc, _+_, _-_, _≤_, _<_}
 use mathlib.Core.Path.{_≡_, refl, sym, ap, _∙_, subst}
-use mathlib.Core.Bool.{Bool, true, false, cond}
+use mathlib.Core.Bool.{Bool, true, false}
 use mathlib.Core.List.{List, [], _∷_, map}
 use mathlib.Core.Option.{none, some}
 use native.Mathlib.Omega.{arith}
 use lib.IntN.{ℤ}
 use lib.ListN.{length, getD, drop, length-drop, drop-of-length-le}
 use lib.Seq.{drop-cons}
-use lib.Dec.{leb, ltb}
+use lib.Dec.{leb}
 use borrow.Author.Tests.{leb-true, leb-false, le-leb, lt-ltb, le-ltb}
 use Rattle.words.specs.Words.{words}
 use Rattle.files.specs.Judge.{judgeOf}
@@ -19,7 +19,7 @@ use Rattle.walking.specs.Walk.{walkStart, nextOf}
 use Rattle.walking.proofs.Walks.{walked, walk-is}
 use Rattle.places.specs.Places.{foundBy}
 use Rattle.places.proofs.Places.{spot-inside, spotted-found}
-use Rattle.order.specs.Fitting.{Fitting, partOf, itemsFrom}
+use Rattle.order.specs.Fitting.{partOf, itemsFrom}
 use Rattle.order.proofs.Order.{FoundIn, found-drop, file-found, count-is}
 use Rattle.text_views.specs.TextViews.{textIn, textOf}
 use Rattle.dgn_texts.specs.Texts.{entryBy, textEntry, textsPart, walkOf, entryAt, textsFrom, fromNumber}

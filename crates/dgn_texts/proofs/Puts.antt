@@ -1,6 +1,6 @@
 -- The numbers of one text put behind those that are used.
 use Prim.Native.Nat.{ℕ, suc, _+_, _-_, _*_, _≤_, _<_}
-use mathlib.Core.Path.{_≡_, refl, sym, ap, _∙_, subst}
+use mathlib.Core.Path.{_≡_, refl, ap, _∙_}
 use mathlib.Core.List.{List, []}
 use native.Mathlib.Omega.{arith}
 use lib.IntN.{ℤ, pos}
@@ -13,10 +13,11 @@ use Rattle.kinds.specs.FirstWord.{deletedOf}
 use Rattle.order.specs.declared.Taken.{Taken}
 use Rattle.order.specs.declared.Taken.the-variants.{Full, Used}
 use Rattle.order.specs.Fitting.{inNumbers, ElementPut}
+use Rattle.order.proofs.Fitting.{lays-numbers, nothing-put}
 use Rattle.text_views.specs.declared.Text.{Text}
 use Rattle.text_views.specs.declared.TextView.{TextView}
 use Rattle.text_views.specs.declared.TextView.the-variants as view
-use Rattle.text_numbers.specs.Numbers.{textNumbers, putText}
+use Rattle.text_numbers.specs.Numbers.{putText}
 use Rattle.text_numbers.proofs.Laws.{fifteen}
 use Rattle.dgn_texts.specs.Texts.{entryBy, fromNumber}
 
@@ -44,7 +45,7 @@ module _ (dim : ℕ) (ws : List ℕ) (k i at depth : ℕ) (numbers : List ℤ) (
   Put v r t = ElementPut inNumbers (fromNumber k i (entryBy v dim ws at depth)) numbers used r t
 
   nothing : (e : List ℤ) → e ≡ [] → ElementPut inNumbers e numbers used (Used used) numbers
-  nothing e q = rw q (record { is = rw (le-leb 0 (length numbers - used) (omega arith)) (ap Used (omega arith)); given = rw (le-leb 0 (length numbers - used) (omega arith)) refl })
+  nothing e q = rw q (nothing-put inNumbers lays-numbers numbers used)
 
   pub put-before : (v : TextView) → i < k → Put v (Used used) numbers
   put-before v h = nothing (fromNumber k i (entryBy v dim ws at depth)) (rw (lt-ltb i k h) refl)

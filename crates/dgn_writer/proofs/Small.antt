@@ -20,7 +20,7 @@ pub fault-table : (dim : ℕ) (f : Fields) (points : List ℤ) (tail : List ℕ)
 unfolding writeFault
 fault-table dim f points tail room h = leb-true _ 22 (first-in (λ k. leb k 22) (writeChecks dim f points tail room) refl h)
 
-module _ (dim : ℕ) (f : List ℕ) (points : List ℤ) (tail : List ℕ) (room : ℕ) where
+module _ (dim : ℕ) (f points : List ℤ) (tail : List ℕ) (room : ℕ) where
   -- the first fault, by the slice of fields
   pub fault-given : fieldsGiven f ≡ true → givenFault dim f points tail room ≡ writeFault dim (fieldsOf f) points tail room
   unfolding givenFault

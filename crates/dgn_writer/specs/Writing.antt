@@ -9,11 +9,11 @@ use Rattle.fields.specs.Faults.{writeFault}
 use Rattle.write_answers.specs.Writing.{fieldsGiven, fieldsOf, WroteBy}
 
 -- the number of the first fault, 0 where there is none: 1 for the slice of fields, then the writer's own
-unfoldable pub givenFault : ℕ → List ℕ → List ℤ → List ℕ → ℕ → ℕ
+unfoldable pub givenFault : ℕ → List ℤ → List ℤ → List ℕ → ℕ → ℕ
 givenFault dim f points tail room = cond (fieldsGiven f) (writeFault dim (fieldsOf f) points tail room) 1
 
 -- the number that is returned, the answer slice and the buffer as they then are
-abbrev pub Wrote : ℕ → List ℕ → List ℤ → List ℕ → List ℕ → List ℕ → ℕ → List ℕ → List ℕ → Type 0
+abbrev pub Wrote : ℕ → List ℤ → List ℤ → List ℕ → List ℕ → List ℕ → ℕ → List ℕ → List ℕ → Type 0
 Wrote dim f points tail buffer =
     WroteBy (givenFault dim f points tail (length buffer)) (sizeOf dim (fieldsOf f) points tail)
     (elementWords dim (fieldsOf f) points tail) buffer

@@ -4,7 +4,7 @@ ghost use Rattle.dgn_writer.specs.Writing.{Wrote};
 
 #[no_mangle]
 pub extern "C" fn dgn_write(
-    fields: &[usize],
+    fields: &[i64],
     points: &[i32],
     tail: &[u8],
     dim: usize,

@@ -1,18 +1,21 @@
 -- What the tests of a call say of its numbers, and back: each field's bound, and how many words the fixed part has.
-use Prim.Native.Nat.{ℕ, _+_, _-_, _*_, _/_, _%_, _≤_}
+use Prim.Native.Nat.{ℕ, _+_, _-_, _*_, _/_, _%_, _≤_, _<_}
 use mathlib.Core.Path.{_≡_, refl, subst⁻¹}
 use mathlib.Core.Bool.{Bool, true, false, cond, _&&_, and-eq-true-iff}
 use mathlib.Core.List.{List, [], _∷_}
 use native.Mathlib.Omega.{arith}
 use lib.ListN.{length}
 use lib.Dec.{eqb, leb}
-use borrow.Author.Tests.{leb-true, le-leb, eqb-true, eq-eqb, ne-eqb}
+use lib.IntN.{ℤ}
+use lib.Signed.{mag}
+use borrow.Author.Tests.{leb-true, le-leb, ltb-true, lt-ltb, eqb-true, eq-eqb, ne-eqb}
+use Rattle.ranges.specs.Ranges.{isCoordinate}
 use Rattle.limits.specs.Limits.{dimOk}
 use Rattle.limits.proofs.Dimensions.{by-dims}
 use Rattle.kinds.specs.Kinds.{isPointed, fixedPart}
 use Rattle.kinds.proofs.Types.{Each, each-named}
-use Rattle.fields.specs.Words.{rangeLongs, countWords}
-use Rattle.fields.specs.Faults.{eachAtMost, isWritten, wordsOk, symbologyOk, fieldsOk, pointsFit, argumentsOk, pointNumberOk}
+use Rattle.fields.specs.Words.{rangeCoordinates, countWords}
+use Rattle.fields.specs.Faults.{eachAtMost, eachCoordinate, isWritten, wordsOk, symbologyOk, fieldsOk, pointsFit, argumentsOk, pointNumberOk}
 use Rattle.fields.specs.declared.Fields.{Fields}
 
 ---- tests of two parts
@@ -36,6 +39,11 @@ and-no b e = rw e refl
 pub and-on : {a b r : Bool} → a ≡ true → r ≡ b → r ≡ (a && b)
 and-on e q = rw e q
 
+-- the last of a list of tests
+pub and-last : (a : Bool) → a ≡ (a && true)
+and-last true = refl
+and-last false = refl
+
 -- a bit is 1 exactly where it is not 0
 pub one-not : (n : ℕ) → n ≡ 0 → eqb n 1 ≡ false
 one-not n z = ne-eqb n 1 (λ o. omega arith)
@@ -54,11 +62,24 @@ pub least-each : (m : ℕ) (xs : List ℕ) → Each (λ x. x ≤ m) xs → eachA
 least-each m [] e = refl
 least-each m (x ∷ xs) e = and-true (le-leb x m (e .0)) (least-each m xs (e .1))
 
+-- each of a list is a coordinate
+abbrev pub Coordinates : List ℤ → Type 0
+Coordinates [] = Unit {0}
+Coordinates (z ∷ zs) = (mag z < 2147483648) × Coordinates zs
+
+coordinates : (zs : List ℤ) → eachCoordinate zs ≡ true → Coordinates zs
+coordinates [] e = tt
+coordinates (z ∷ zs) e = (ltb-true (mag z) 2147483648 (both (isCoordinate z) _ e .0), coordinates zs (both (isCoordinate z) _ e .1))
+
+coordinates-ok : (zs : List ℤ) → Coordinates zs → eachCoordinate zs ≡ true
+coordinates-ok [] e = refl
+coordinates-ok (z ∷ zs) e = and-true (lt-ltb (mag z) 2147483648 (e .0)) (coordinates-ok zs (e .1))
+
 ---- the fields
 
 pub record Bounds (f : Fields) : Type 0 where
   pub level : f .level ≤ 63
-  pub range : Each (λ x. x ≤ 4294967295) (rangeLongs f)
+  pub range : Coordinates (rangeCoordinates f)
   pub words : Each (λ x. x ≤ 65535) (f .group ∷ f .index ∷ f .properties ∷ [])
   pub style : f .style ≤ 7
   pub weight : f .weight ≤ 31
@@ -68,13 +89,13 @@ pub bounds : (f : Fields) → fieldsOk f ≡ true → Bounds f
 unfolding fieldsOk
 bounds f e =
     let a = both (leb (f .level) 63) _ e in
-    let b = both (eachAtMost 4294967295 (rangeLongs f)) (wordsOk f && symbologyOk f) (a .1) in
+    let b = both (eachCoordinate (rangeCoordinates f)) (wordsOk f && symbologyOk f) (a .1) in
     let c = both (wordsOk f) (symbologyOk f) (b .1) in
     let d = both (leb (f .style) 7) _ (c .1) in
     let g = both (leb (f .weight) 31) _ (d .1) in
     record {
       level = leb-true (f .level) 63 (a .0);
-      range = each-least 4294967295 (rangeLongs f) (b .0);
+      range = coordinates (rangeCoordinates f) (b .0);
       words = each-least 65535 (f .group ∷ f .index ∷ f .properties ∷ []) (c .0);
       style = leb-true (f .style) 7 (d .0);
       weight = leb-true (f .weight) 31 (g .0);
@@ -85,7 +106,7 @@ pub bounds-ok : (f : Fields) → Bounds f → fieldsOk f ≡ true
 unfolding fieldsOk
 bounds-ok f b =
     and-true (le-leb (f .level) 63 (b .level))
-    (and-true (least-each 4294967295 (rangeLongs f) (b .range))
+    (and-true (coordinates-ok (rangeCoordinates f) (b .range))
     (and-true (least-each 65535 (f .group ∷ f .index ∷ f .properties ∷ []) (b .words))
     (and-true (le-leb (f .style) 7 (b .style)) (and-true (le-leb (f .weight) 31 (b .weight)) (le-leb (f .colour) 255 (b .colour))))))
 

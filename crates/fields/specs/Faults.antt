@@ -6,18 +6,24 @@ use lib.ListN.{length}
 use lib.Dec.{eqb, leb}
 use lib.IntN.{ℤ}
 use Rattle.words.specs.Words.{words}
+use Rattle.ranges.specs.Ranges.{isCoordinate}
 use Rattle.limits.specs.Limits.{dimOk}
 use Rattle.kinds.specs.Kinds.{oneOf, isPointed, pointsWithin}
 use Rattle.linkages.specs.Linkages.{linkagesFill}
 use Rattle.elements.specs.Attributes.{linkagesOk}
 use Rattle.headers.specs.Checks.{Check, check, firstFault}
-use Rattle.fields.specs.Words.{rangeLongs, pointsIn, sizeOf, elementWords}
+use Rattle.fields.specs.Words.{rangeCoordinates, pointsIn, sizeOf, elementWords}
 use Rattle.fields.specs.declared.Fields.{Fields}
 
 -- each number of a list is at most m
 abbrev pub eachAtMost : ℕ → List ℕ → Bool
 eachAtMost m [] = true
 eachAtMost m (x ∷ xs) = leb x m && eachAtMost m xs
+
+-- each is a coordinate
+abbrev pub eachCoordinate : List ℤ → Bool
+eachCoordinate [] = true
+eachCoordinate (z ∷ zs) = isCoordinate z && eachCoordinate zs
 
 -- the types that are written
 abbrev pub isWritten : ℕ → Bool
@@ -31,7 +37,7 @@ abbrev pub symbologyOk : Fields → Bool
 symbologyOk f = leb (f .style) 7 && (leb (f .weight) 31 && leb (f .colour) 255)
 
 unfoldable pub fieldsOk : Fields → Bool
-fieldsOk f = leb (f .level) 63 && (eachAtMost 4294967295 (rangeLongs f) && (wordsOk f && symbologyOk f))
+fieldsOk f = leb (f .level) 63 && (eachCoordinate (rangeCoordinates f) && (wordsOk f && symbologyOk f))
 
 -- so many coordinates are two points for type 3, a whole number of points for the others
 unfoldable pub pointsFit : ℕ → ℕ → ℕ → Bool

@@ -6,6 +6,7 @@ use mathlib.Core.List.{List, [], _∷_, _++_, map}
 use lib.ListN.{length}
 use lib.IntN.{ℤ}
 use Rattle.words.specs.Words.{words, unsigned}
+use Rattle.ranges.specs.Ranges.{stored}
 use Rattle.kinds.specs.FirstWord.{bit}
 use Rattle.kinds.specs.Kinds.{isPointed, fixedPart}
 use Rattle.fields.specs.declared.Fields.{Fields}
@@ -19,9 +20,12 @@ longs (v ∷ vs) = v / 65536 ∷ v % 65536 ∷ longs vs
 unfoldable pub firstWord : Fields → ℕ
 firstWord f = f .level + 128 * bit (f .c) + 256 * f .kind + 32768 * bit (f .deleted)
 
--- the six longs of the range
+-- the six coordinates of the range, and the longs that stand for them
+abbrev pub rangeCoordinates : Fields → List ℤ
+rangeCoordinates f = f .«low_x» ∷ f .«low_y» ∷ f .«low_z» ∷ f .«high_x» ∷ f .«high_y» ∷ f .«high_z» ∷ []
+
 abbrev pub rangeLongs : Fields → List ℕ
-rangeLongs f = f .«low_x» ∷ f .«low_y» ∷ f .«low_z» ∷ f .«high_x» ∷ f .«high_y» ∷ f .«high_z» ∷ []
+rangeLongs f = map stored (rangeCoordinates f)
 
 -- the symbology word: style, weight and colour
 unfoldable pub symbology : Fields → ℕ

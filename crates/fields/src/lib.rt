@@ -7,8 +7,8 @@ ghost use lib.ListN.{length};
 ghost use Rattle.limits.specs.Limits.{dimOk};
 ghost use Rattle.kinds.specs.Kinds.{fixedPart};
 ghost use Rattle.elements.specs.Attributes.{linkagesOk};
-ghost use Rattle.fields.specs.Words.{rangeLongs, pointsIn, sizeOf, elementWords};
-ghost use Rattle.fields.specs.Faults.{eachAtMost, isWritten, wordsOk, symbologyOk, fieldsOk, pointsFit, argumentsOk, pointNumberOk, tailOk, writeFault};
+ghost use Rattle.fields.specs.Words.{rangeCoordinates, pointsIn, sizeOf, elementWords};
+ghost use Rattle.fields.specs.Faults.{eachCoordinate, isWritten, wordsOk, symbologyOk, fieldsOk, pointsFit, argumentsOk, pointNumberOk, tailOk, writeFault};
 
 // All header fields of an element; its size and N follow from its points and its tail.
 pub struct Fields {
@@ -16,12 +16,12 @@ pub struct Fields {
     pub level: usize,
     pub c: bool,
     pub deleted: bool,
-    pub low_x: usize,
-    pub low_y: usize,
-    pub low_z: usize,
-    pub high_x: usize,
-    pub high_y: usize,
-    pub high_z: usize,
+    pub low_x: i64,
+    pub low_y: i64,
+    pub low_z: i64,
+    pub high_x: i64,
+    pub high_y: i64,
+    pub high_z: i64,
     pub group: usize,
     pub index: usize,
     pub properties: usize,
@@ -41,29 +41,26 @@ fn kind_ok(kind: usize) -> bool
     }
 }
 
-// 1: the range longs.
+// 1: the coordinates of the range.
 fn range_ok(fields: Fields) -> bool
-    ensures { λ r. ⌜ r ≡ eachAtMost 4294967295 (rangeLongs fields) ⌝ }
+    ensures { λ r. ⌜ r ≡ eachCoordinate (rangeCoordinates fields) ⌝ }
 {
-    if 4294967295 < fields.low_x {
+    if !ranges::is_coordinate(fields.low_x) {
         return false;
     }
-    if 4294967295 < fields.low_y {
+    if !ranges::is_coordinate(fields.low_y) {
         return false;
     }
-    if 4294967295 < fields.low_z {
+    if !ranges::is_coordinate(fields.low_z) {
         return false;
     }
-    if 4294967295 < fields.high_x {
+    if !ranges::is_coordinate(fields.high_x) {
         return false;
     }
-    if 4294967295 < fields.high_y {
+    if !ranges::is_coordinate(fields.high_y) {
         return false;
     }
-    if 4294967295 < fields.high_z {
-        return false;
-    }
-    true
+    ranges::is_coordinate(fields.high_z)
 }
 
 // 1: the fields of a word each.

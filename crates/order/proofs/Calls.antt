@@ -7,7 +7,7 @@ use native.Mathlib.Omega.{arith}
 use lib.ListN.{length}
 use lib.Seq.{sets}
 use lib.Dec.{leb}
-use borrow.Author.Tests.{leb-true, leb-false, le-leb, lt-leb}
+use borrow.Author.Tests.{leb-true, leb-false}
 use Rattle.files.specs.Judge.{judgeOf}
 use Rattle.files.specs.declared.Judged.{Judged}
 use Rattle.files.specs.declared.Judged.the-variants as judged
@@ -15,9 +15,10 @@ use Rattle.answers.specs.Answers.{Reply, done, refuse, returned, sliceLeft, wit
 use Rattle.answers.specs.Besides.{ifDone}
 use Rattle.answers.proofs.Laws.{too-short, answered}
 use Rattle.answers.proofs.Besides.{done-beside, short-beside}
-use Rattle.order.specs.declared.Begun.{Begun}
+use Rattle.answers.proofs.Elements.{elements-few}
 use Rattle.order.specs.declared.Begun.the-variants.{Elements, Refused}
 use Rattle.order.specs.Calls.{begunBy, begunOf, noneFits, replyBy}
+use Rattle.order.proofs.Order.{count-is}
 
 -- what is known where the call goes on
 pub record GoesOn (dim : ℕ) (s : List ℕ) (needed have elements : ℕ) : Type 0 where
@@ -36,6 +37,13 @@ goes-on dim s needed room e q = go (leb needed room) refl (judgeOf dim s) refl q
     go true h (judged.Accepted elements d m) j q =
         let z : elements ≡ e = cc in
         record { room = leb-true needed room h; deepest = d; marker = m; accepted = j ∙ ap (λ i. judged.Accepted i d m) z }
+
+-- an accepted file has few elements
+pub goes-few : (dim : ℕ) (s : List ℕ) (needed room e : ℕ) → GoesOn dim s needed room e → e ≤ 1048576
+goes-few dim s needed room e on =
+    let f = elements-few dim s e (on .deepest) (on .marker) (on .accepted) in
+    let c = count-is dim s e (on .deepest) (on .marker) (on .accepted) in
+    omega arith
 
 -- a call that puts `given` into the slice for its answer and makes of the other slices, `was`, what they are where it is done
 module _ {S : Type 0} (dim : ℕ) (s : List ℕ) (needed put next : ℕ) (given out : List ℕ) (made was : S) where

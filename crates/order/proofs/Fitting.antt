@@ -11,7 +11,6 @@ use borrow.Author.Tests.{leb-true, leb-false, le-leb, lt-leb}
 use Rattle.answers.proofs.Besides.{put-then}
 use Rattle.order.specs.declared.Taken.{Taken}
 use Rattle.order.specs.declared.Taken.the-variants.{Full, Used}
-use Rattle.order.specs.declared.Part.{Part}
 use Rattle.order.specs.Fitting.{Fitting, behind, partOf, itemsFrom, Slices, inNumbers, ElementPut, PartPut}
 
 -- slices in which items are put behind others: the room stays, and what is put in two parts is as put at once
@@ -24,6 +23,12 @@ pub lays-numbers : Lays inNumbers
 lays-numbers = record { kept = λ s at x. length-sets s at x; joined = put-then; none = λ s at. refl }
 
 module _ {S A : Type 0} (into : Slices S A) (lays : Lays into) where
+  -- an element without items is passed over
+  pub nothing-put : (s : S) (used : ℕ) → ElementPut into [] s used (Used used) s
+  nothing-put s used =
+      let fits = le-leb 0 (into .room s - used) (omega arith) in
+      record { is = rw fits (ap Used (omega arith)); given = rw fits (sym (lays .none s used)) }
+
   -- so far: what was put, and what the rest comes to
   pub record Going (p : Fitting A) (s : S) (f : ℕ → List A) (elements i used : ℕ) (now : S) : Type 0 where
     pub given : List A

@@ -89,7 +89,6 @@ order-from ws end xs (suc k) h p =
 pub place-next : (ws : List ℕ) (i at n : ℕ) → at ≡ placeOf ws i → n ≡ sizeAt ws at → at + n ≡ placeOf ws (i + 1)
 place-next ws i at n e z = rw (add-one, z, e) refl
 
--- places are small
 -- the place of an element by its number, and 0 of a number that no file has
 pub start-there : (ws : List ℕ) (k : ℕ) → k ≤ 1048576 → startOf ws k ≡ placeOf ws k
 unfolding startOf
@@ -99,6 +98,7 @@ pub start-none : (ws : List ℕ) (k : ℕ) → 1048576 < k → startOf ws k ≡ 
 unfolding startOf
 start-none ws k h = rw (lt-leb k 1048576 h) refl
 
+-- places are small
 pub place-small : (s : List ℕ) → Below 256 s → (k : ℕ) → placeOf (words s) k ≤ 65537 * k
 place-small s b zero = omega arith
 place-small s b (suc k) = let h = place-small s b k in let z = size-small s b (placeOf (words s) k) in omega arith

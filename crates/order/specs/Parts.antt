@@ -1,11 +1,11 @@
 -- Calls that give what the elements of a file have in parts: each from an element number on, as many elements as its slices hold. A
 -- caller makes them one after another, each from the element where the last one stopped.
-use Prim.Native.Nat.{ℕ, _+_, _≤_, _<_}
+use Prim.Native.Nat.{ℕ, _+_, _≤_, _<_, max}
 use mathlib.Core.Path.{_≡_}
 use mathlib.Core.Bool.{Bool, cond, _&&_}
 use mathlib.Core.List.{List, [], _∷_, _++_}
 use lib.IntN.{ℤ}
-use lib.ListN.{length, take}
+use lib.ListN.{length, getD, take}
 use lib.Dec.{eqb, leb}
 use lib.Signed.{mag}
 use Rattle.files.specs.Spots.{Spot}
@@ -73,3 +73,10 @@ numbersCall answers onto written numbers out = record {
 abbrev pub Within : ℕ → List ℤ → Type 0
 Within bound [] = Unit {0}
 Within bound (z ∷ zs) = (mag z < bound) × Within bound zs
+
+-- a call that is done, whose answer is the number of the element to go on with and how many numbers there are: it goes on at most at the
+-- element after the last, or where it was asked to begin; it gives no more numbers than its slice holds, each within a bound
+pub record NumbersSmall (bound k : ℕ) (numbers numbers' : List ℤ) (out' : List ℕ) : Type 0 where
+  pub next : getD out' 0 0 ≤ max k 524288
+  pub written : getD out' 1 0 ≤ length numbers
+  pub each : Within bound (take (getD out' 1 0) numbers')

@@ -1,12 +1,17 @@
 -- The ways of a call for the elements of some types: refused as a call at a place is, with 6 for another type, or what is read, of an
 -- element that is found.
-use Prim.Native.Nat.{ℕ}
-use mathlib.Core.Path.{_≡_, refl, sym, _∙_}
-use mathlib.Core.Bool.{Bool, true, false, cond}
+use Prim.Native.Nat.{ℕ, _/_, _<_}
+use mathlib.Core.Path.{_≡_, refl, sym, ap, _∙_}
+use mathlib.Core.Bool.{Bool, true, false, cond, false≢true}
 use mathlib.Core.List.{List}
 use mathlib.Core.Option.{Option, none, some}
 use native.Mathlib.Omega.{arith}
+use lib.ListN.{length}
+use lib.Dec.{ltb}
+use borrow.Author.Tests.{ltb-true, ltb-false}
 use Rattle.words.specs.Words.{words}
+use Rattle.words.proofs.Laws.{word-out}
+use Rattle.kinds.specs.FirstWord.{typeOf}
 use Rattle.headers.specs.Header.{typeAt}
 use Rattle.files.specs.Judge.{judgeOf}
 use Rattle.files.specs.Spots.{Spot, spotsOf, spotIn}
@@ -18,6 +23,14 @@ use Rattle.places.specs.declared.Spotted.{Spotted}
 use Rattle.places.specs.declared.Spotted.the-variants as spotted
 use Rattle.places.specs.OfType.{ofType, ofPlace}
 use Rattle.places.proofs.Places.{spotted-refused, spotted-found}
+
+-- where no word stands the type is 0: an element of other types lies in the file
+pub type-inside : (test : ℕ → Bool) → test 0 ≡ false → (s : List ℕ) (at : ℕ) → test (typeAt (words s) at) ≡ true → at < length s / 2
+type-inside test z s at h = go (ltb at (length s / 2)) refl
+  where
+    go : (b : Bool) → ltb at (length s / 2) ≡ b → at < length s / 2
+    go true e = ltb-true at (length s / 2) e
+    go false e = absurd (false≢true (sym z ∙ sym (ap (λ w. test (typeOf w)) (word-out s at (ltb-false at (length s / 2) e))) ∙ h))
 
 -- an element that is found: the file is accepted, and it is one of its elements
 pub record Found (dim : ℕ) (s : List ℕ) (at : ℕ) : Type 0 where

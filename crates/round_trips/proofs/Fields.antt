@@ -3,12 +3,15 @@
 use Prim.Native.Nat.{ℕ, _+_, _-_, _*_, _/_, _%_, _≤_, _<_}
 use mathlib.Core.Path.{_≡_, refl, sym, ap, _∙_}
 use mathlib.Core.Bool.{Bool, true, false, _||_, false≢true}
-use mathlib.Core.List.{List, [], _∷_, _++_}
+use mathlib.Core.List.{List, [], _∷_, _++_, map}
 use native.Mathlib.Omega.{arith}
 use lib.ListN.{length}
 use lib.Dec.{eqb}
+use lib.IntN.{ℤ}
 use borrow.Author.Tests.{le-leb, eqb-true, eqb-false}
 use Rattle.words.specs.Words.{Below, wordAt, longAt}
+use Rattle.ranges.specs.Ranges.{stored}
+use Rattle.ranges.proofs.Ranges.{coordinate-small, stored-coordinate}
 use Rattle.kinds.specs.FirstWord.{levelOf, reservedOf, cOf, typeOf, deletedOf, bit}
 use Rattle.headers.specs.Header.{typeAt, sizeAt}
 use Rattle.kinds.specs.Kinds.{isLinked}
@@ -17,12 +20,29 @@ use Rattle.grammar.proofs.Stands.{Stands, stands-nil, stands-join}
 use Rattle.places.specs.declared.Above.{Above}
 use Rattle.views.specs.declared.Range.the-variants as range
 use Rattle.views.specs.declared.Display.the-variants as display
-use Rattle.views.specs.Views.{rangeOf, displayOf, elementView}
-use Rattle.fields.specs.Words.{longs, firstWord, rangeLongs, symbology, displayWords, headerWords}
+use Rattle.views.specs.Views.{coordinateAt, rangeOf, displayOf, elementView}
+use Rattle.fields.specs.Words.{longs, firstWord, rangeCoordinates, rangeLongs, symbology, displayWords, headerWords}
 use Rattle.fields.specs.declared.Fields.{Fields}
-use Rattle.fields.proofs.Bounds.{Bounds}
+use Rattle.fields.proofs.Bounds.{Coordinates, Bounds}
 use Rattle.round_trips.specs.Parts.{Shows}
-use Rattle.round_trips.proofs.Spans.{stands-cons, stands-at, LongsAt, longs-small, longs-stand}
+use Rattle.round_trips.proofs.Spans.{stands-cons, stands-at, LongsAt, long-small, longs-stand}
+
+---- coordinates of a range
+
+-- those that are read one after another from a place on
+abbrev CoordinatesAt : List ℕ → ℕ → List ℤ → Type 0
+CoordinatesAt ws q [] = Unit {0}
+CoordinatesAt ws q (z ∷ zs) = (z ≡ coordinateAt ws q) × CoordinatesAt ws (q + 2) zs
+
+-- the longs that stand for them are there
+coordinates-longs : (ws : List ℕ) (q : ℕ) (zs : List ℤ) → CoordinatesAt ws q zs → LongsAt ws q (map stored zs)
+coordinates-longs ws q [] c = tt
+coordinates-longs ws q (z ∷ zs) c = (ap stored (c .0) ∙ stored-coordinate (longAt ws q), coordinates-longs ws (q + 2) zs (c .1))
+
+coordinates-small : (ws : List ℕ) → Below 65536 ws → (q : ℕ) (zs : List ℤ) → CoordinatesAt ws q zs → Coordinates zs
+coordinates-small ws b q [] c = tt
+coordinates-small ws b q (z ∷ zs) c =
+    (rw (c .0) (coordinate-small (longAt ws q) (long-small ws b q)), coordinates-small ws b (q + 2) zs (c .1))
 
 ---- the fields as parts of words
 
@@ -31,7 +51,7 @@ pub record Shown (ws : List ℕ) (at : ℕ) (f : Fields) : Type 0 where
   pub c : eqb (cOf (wordAt ws at)) 1 ≡ f .c
   pub kind : typeAt ws at ≡ f .kind
   pub deleted : eqb (deletedOf (wordAt ws at)) 1 ≡ f .deleted
-  pub range : LongsAt ws (at + 2) (rangeLongs f)
+  pub range : CoordinatesAt ws (at + 2) (rangeCoordinates f)
   pub group : wordAt ws (at + 14) ≡ f .group
   pub index : wordAt ws (at + 15) ≡ f .index
   pub properties : wordAt ws (at + 16) ≡ f .properties
@@ -40,7 +60,8 @@ pub record Shown (ws : List ℕ) (at : ℕ) (f : Fields) : Type 0 where
   pub colour : wordAt ws (at + 17) / 256 ≡ f .colour
 
 pub range-there : (ws : List ℕ) (at : ℕ) → 14 ≤ sizeAt ws at →
-    rangeOf ws at ≡ range.Longs (longAt ws (at + 2)) (longAt ws (at + 4)) (longAt ws (at + 6)) (longAt ws (at + 8)) (longAt ws (at + 10)) (longAt ws (at + 12))
+    rangeOf ws at
+    ≡ range.Longs (coordinateAt ws (at + 2)) (coordinateAt ws (at + 4)) (coordinateAt ws (at + 6)) (coordinateAt ws (at + 8)) (coordinateAt ws (at + 10)) (coordinateAt ws (at + 12))
 unfolding rangeOf
 range-there ws at h = rw (le-leb 14 (sizeAt ws at) h) refl
 
@@ -55,7 +76,7 @@ unfolding elementView
 shown ws at depth above f k h v =
     let r = sym (v .range) ∙ range-there ws at h in
     let d = sym (display-there ws at k) ∙ v .display in
-    let place : (m n : ℕ) → m ≡ n → longAt ws m ≡ longAt ws n = λ m n e. ap (longAt ws) e in
+    let place : (m n : ℕ) → m ≡ n → coordinateAt ws m ≡ coordinateAt ws n = λ m n e. ap (coordinateAt ws) e in
     record {
       level = v .level;
       c = v .c;
@@ -139,7 +160,7 @@ module _ (ws : List ℕ) (b : Below 65536 ws) (at : ℕ) (f : Fields) (v : Shown
   unfolding headerWords
   header-stands z h =
       let range : Stands (longs (rangeLongs f)) (at + 1 + 1) ws =
-      stands-at (at + 1 + 1) (omega arith) (longs-stand ws b (at + 2) (rangeLongs f) (v .range) (omega arith)) in
+      stands-at (at + 1 + 1) (omega arith) (longs-stand ws b (at + 2) (rangeLongs f) (coordinates-longs ws (at + 2) (rangeCoordinates f) (v .range)) (omega arith)) in
       let display : Stands (displayWords f) (at + 1 + 1 + 12) ws = stands-at (at + 1 + 1 + 12) (omega arith) (display-stands h) in
       let rest = longs (rangeLongs f) ++ displayWords f in
       stands-cons (firstWord f) ((sizeAt ws at - 2) ∷ rest) ws at (omega arith) (first-is z)
@@ -157,7 +178,7 @@ module _ (ws : List ℕ) (b : Below 65536 ws) (at : ℕ) (f : Fields) (v : Shown
       let ss = b (at + 17) in
       record {
         level = let l = v .level in omega arith;
-        range = longs-small ws b (at + 2) (rangeLongs f) (v .range);
+        range = coordinates-small ws b (at + 2) (rangeCoordinates f) (v .range);
         words = (omega arith, (omega arith, (omega arith, tt)));
         style = let x = v .style in omega arith;
         weight = let x = v .weight in omega arith;

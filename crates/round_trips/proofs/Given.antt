@@ -29,7 +29,7 @@ use Rattle.places.specs.declared.Spotted.the-variants as spotted
 use Rattle.places.specs.Places.{spottedAt}
 use Rattle.places.specs.Extents.{extentBytes}
 use Rattle.views.specs.Starts.{Accepts}
-use Rattle.views.specs.Views.{elementView, viewOf}
+use Rattle.views.specs.Views.{coordinateAt, elementView, viewOf}
 use Rattle.views.specs.declared.Element.{Element}
 use Rattle.views.specs.declared.View.{View}
 use Rattle.views.specs.declared.View.the-variants.{Seen, Refused}
@@ -63,12 +63,12 @@ fieldsAt ws at = record {
   level = levelOf (wordAt ws at);
   c = eqb (cOf (wordAt ws at)) 1;
   deleted = eqb (deletedOf (wordAt ws at)) 1;
-  «low_x» = longAt ws (at + 2);
-  «low_y» = longAt ws (at + 4);
-  «low_z» = longAt ws (at + 6);
-  «high_x» = longAt ws (at + 8);
-  «high_y» = longAt ws (at + 10);
-  «high_z» = longAt ws (at + 12);
+  «low_x» = coordinateAt ws (at + 2);
+  «low_y» = coordinateAt ws (at + 4);
+  «low_z» = coordinateAt ws (at + 6);
+  «high_x» = coordinateAt ws (at + 8);
+  «high_y» = coordinateAt ws (at + 10);
+  «high_z» = coordinateAt ws (at + 12);
   group = wordAt ws (at + 14);
   index = wordAt ws (at + 15);
   properties = wordAt ws (at + 16);

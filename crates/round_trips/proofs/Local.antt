@@ -8,9 +8,13 @@ use native.Mathlib.Omega.{arith}
 use lib.ListN.{length, take, drop}
 use lib.Seq.{drop-at}
 use lib.Dec.{eqb, leb}
+use lib.IntN.{ℤ}
+use lib.Signed.{mag}
 use borrow.Author.Tests.{le-leb, leb-true}
 use Rattle.words.specs.Words.{words, bytes, Below, wordAt, longAt}
 use Rattle.words.proofs.Laws.{length-words, length-bytes, bytes-words, bytes-append}
+use Rattle.ranges.specs.Ranges.{coordinate, stored}
+use Rattle.ranges.proofs.Ranges.{coordinate-stored}
 use Rattle.linkages.specs.Linkages.{linkageIn}
 use Rattle.linkages.proofs.Local.{walk-local}
 use Rattle.kinds.specs.FirstWord.{levelOf, cOf, typeOf, deletedOf, bit}
@@ -24,18 +28,18 @@ use Rattle.views.specs.declared.Display.the-variants as display
 use Rattle.points_linkages.specs.declared.Attribute.the-variants as attribute
 use Rattle.views.specs.declared.View.the-variants.{Seen}
 use Rattle.places.specs.Places.{spottedAt}
-use Rattle.views.specs.Views.{rangeOf, displayOf, elementView, viewOf}
+use Rattle.views.specs.Views.{coordinateAt, rangeOf, displayOf, elementView, viewOf}
 use Rattle.points_linkages.specs.Linkages.{attributeBy, linkageOf}
 use Rattle.fields.specs.Words.{firstWord, symbology, headerWords, elementOf}
 use Rattle.fields.specs.Faults.{tailOk}
 use Rattle.fields.specs.declared.Fields.{Fields}
-use Rattle.fields.proofs.Bounds.{both}
+use Rattle.fields.proofs.Bounds.{both, bounds}
 use Rattle.fields.proofs.Element.{front, front-tail, length-front, length-of, size-of, kind-of, tail-right}
 use Rattle.round_trips.specs.Parts.{Shows, linkageMoved, linkageBy}
 use Rattle.round_trips.proofs.Own.{Owned, first-read, symbology-read}
 use Rattle.round_trips.proofs.Walks.{in-from, moved-by}
 
-same-range : {a b c d e f a′ b′ c′ d′ e′ f′ : ℕ} → a ≡ a′ → b ≡ b′ → c ≡ c′ → d ≡ d′ → e ≡ e′ → f ≡ f′ → range.Longs a b c d e f ≡ range.Longs a′ b′ c′ d′ e′ f′
+same-range : {a b c d e f a′ b′ c′ d′ e′ f′ : ℤ} → a ≡ a′ → b ≡ b′ → c ≡ c′ → d ≡ d′ → e ≡ e′ → f ≡ f′ → range.Longs a b c d e f ≡ range.Longs a′ b′ c′ d′ e′ f′
 same-range p q r s t u = cc
 
 same-display : {a b c d e f a′ b′ c′ d′ e′ f′ : ℕ} → a ≡ a′ → b ≡ b′ → c ≡ c′ → d ≡ d′ → e ≡ e′ → f ≡ f′ → display.Words a b c d e f ≡ display.Words a′ b′ c′ d′ e′ f′
@@ -67,6 +71,10 @@ module _ {dim : ℕ} {f : Fields} {size : ℕ} {body tail : List ℕ} (o : Owned
       let low = ap (wordAt ws) e ∙ word-there (i + 1) (omega arith) in
       omega arith
 
+  -- a coordinate of the range
+  coordinate-there : (i : ℕ) (z : ℤ) → i < 18 → longAt (elementOf f size body tail) i ≡ stored z → mag z < 2147483648 → coordinateAt ws (at + i) ≡ z
+  coordinate-there i z h e m = ap coordinate (long-there i h ∙ e) ∙ coordinate-stored z m
+
   first-there : wordAt ws at ≡ firstWord f
   unfolding headerWords
   first-there = let l = long in stands-first stands (omega arith)
@@ -84,10 +92,14 @@ module _ {dim : ℕ} {f : Fields} {size : ℕ} {body tail : List ℕ} (o : Owned
   unfolding rangeOf headerWords
   range-there =
       let l = o .formed .long in
+      let r = bounds f (o .formed .fields) .range in
       rw (size-there, le-leb 14 size (omega arith))
-      (same-range (long-there 2 (omega arith) ∙ long-whole (f .«low_x»)) (long-there 4 (omega arith) ∙ long-whole (f .«low_y»))
-      (long-there 6 (omega arith) ∙ long-whole (f .«low_z»)) (long-there 8 (omega arith) ∙ long-whole (f .«high_x»))
-      (long-there 10 (omega arith) ∙ long-whole (f .«high_y»)) (long-there 12 (omega arith) ∙ long-whole (f .«high_z»)))
+      (same-range (coordinate-there 2 (f .«low_x») (omega arith) (long-whole (stored (f .«low_x»))) (r .0))
+      (coordinate-there 4 (f .«low_y») (omega arith) (long-whole (stored (f .«low_y»))) (r .1 .0))
+      (coordinate-there 6 (f .«low_z») (omega arith) (long-whole (stored (f .«low_z»))) (r .1 .1 .0))
+      (coordinate-there 8 (f .«high_x») (omega arith) (long-whole (stored (f .«high_x»))) (r .1 .1 .1 .0))
+      (coordinate-there 10 (f .«high_y») (omega arith) (long-whole (stored (f .«high_y»))) (r .1 .1 .1 .1 .0))
+      (coordinate-there 12 (f .«high_z») (omega arith) (long-whole (stored (f .«high_z»))) (r .1 .1 .1 .1 .1 .0)))
 
   linked-there : isLinked (typeAt ws at) ≡ true
   linked-there = ap isLinked type-there ∙ o .formed .linked

@@ -7,11 +7,14 @@ use mathlib.Core.List.{List, [], _∷_, _++_, map}
 use native.Mathlib.Omega.{arith}
 use lib.ListN.{length}
 use lib.IntN.{ℤ}
+use lib.Signed.{mag}
 use lib.Dec.{eqb}
 use borrow.Author.Tests.{eq-eqb}
 use Rattle.words.specs.Words.{words, Below, wordAt, unsigned}
 use Rattle.words.proofs.Laws.{words-below}
 use Rattle.words.proofs.Signed.{unsigned-small}
+use Rattle.ranges.specs.Ranges.{stored}
+use Rattle.ranges.proofs.Ranges.{stored-small}
 use Rattle.kinds.specs.FirstWord.{levelOf, reservedOf, cOf, typeOf, deletedOf, bit}
 use Rattle.headers.specs.Header.{typeAt}
 use Rattle.kinds.specs.Kinds.{isHeader, isCurve, isPointed, mayStand}
@@ -24,7 +27,7 @@ use Rattle.grammar.proofs.Types.{plain-uncounted}
 use Rattle.grammar.proofs.Tests.{OwnTests}
 use Rattle.edits.proofs.Tests.{or-right}
 use Rattle.edits.proofs.Bounds.{below-nil, below-cons, below-append}
-use Rattle.fields.specs.Words.{longs, firstWord, rangeLongs, symbology, displayWords, headerWords, countWords, elementOf}
+use Rattle.fields.specs.Words.{longs, firstWord, rangeCoordinates, rangeLongs, symbology, displayWords, headerWords, countWords, elementOf}
 use Rattle.fields.specs.declared.Fields.{Fields}
 use Rattle.fields.proofs.Bounds.{Bounds, bounds}
 use Rattle.fields.proofs.Element.{bit-small, first-small, Formed, length-of, size-of, kind-of}
@@ -73,9 +76,13 @@ below-longs (v ∷ vs) e =
     let h = e .0 in
     below-append 65536 (v / 65536 ∷ v % 65536 ∷ []) (longs vs) (below-each 65536 (v / 65536 ∷ v % 65536 ∷ []) (omega arith) (omega arith, (omega arith, tt))) (below-longs vs (e .1))
 
+-- signed longs, stored as f says
+each-by : (f : ℤ → ℕ) → ((z : ℤ) → mag z < 2147483648 → f z < 4294967296) → (zs : List ℤ) → Longs zs → Each (λ v. v ≤ 4294967295) (map f zs)
+each-by f small [] l = tt
+each-by f small (z ∷ zs) l = (let h = small z (l .0) in omega arith, each-by f small zs (l .1))
+
 pub each-long : (ps : List ℤ) → Longs ps → Each (λ v. v ≤ 4294967295) (map unsigned ps)
-each-long [] l = tt
-each-long (z ∷ ps) l = (let h = unsigned-small z (l .0) in omega arith, each-long ps (l .1))
+each-long = each-by unsigned unsigned-small
 
 pub below-count : (kind n : ℕ) → n < 65536 → Below 65536 (countWords kind n)
 below-count kind n h = go (isPointed kind)
@@ -95,7 +102,7 @@ below-header f size b k h =
     let z = b .words .1 .1 .0 in
     below-append 65536 (firstWord f ∷ (size - 2) ∷ []) (longs (rangeLongs f) ++ displayWords f)
     (below-each 65536 (firstWord f ∷ (size - 2) ∷ []) (omega arith) (first-small f (b .level) k, (omega arith, tt)))
-    (below-append 65536 (longs (rangeLongs f)) (displayWords f) (below-longs (rangeLongs f) (b .range))
+    (below-append 65536 (longs (rangeLongs f)) (displayWords f) (below-longs (rangeLongs f) (each-by stored stored-small (rangeCoordinates f) (b .range)))
     (below-each 65536 (displayWords f) (omega arith) (omega arith, (omega arith, (omega arith, (omega arith, tt))))))
 
 module _ {dim : ℕ} {f : Fields} {size : ℕ} {body tail : List ℕ} (m : Formed dim f size body tail) where

@@ -8,27 +8,23 @@ use mathlib.Core.List.{List}
 use native.Mathlib.Omega.{arith}
 use lib.IntN.{ℤ, pos, negsuc}
 use lib.ListN.{length}
-use lib.Dec.{eqb, leb}
-use borrow.Author.Tests.{leb-true, leb-false, eq-eqb, ne-eqb, lt-ltb, le-ltb}
+use lib.Dec.{eqb}
+use borrow.Author.Tests.{eq-eqb, ne-eqb, lt-ltb, le-ltb}
 use mir.Syntax.{w64}
 use mir.Val.{toZ, ofZ}
 use mir.ValLaws.{toZ-ofZ}
 use Rattle.words.specs.Words.{words, wordAt}
-use Rattle.words.proofs.Laws.{word-out}
 use Rattle.texts.specs.Texts.{byteAt, countsWord, countsAt, textBytes, firstCharacter, fieldByte, fieldsIn}
 use Rattle.headers.specs.Header.{typeAt}
+use Rattle.places.proofs.OfType.{type-inside}
 use Rattle.text_views.specs.declared.Odd.the-variants as odds
 use Rattle.text_views.specs.declared.Characters.the-variants as part
 use Rattle.text_views.specs.declared.FieldView.the-variants as field
-use Rattle.text_views.specs.TextViews.{oddAt, charactersAt, fieldJustification, fieldAt, fieldIn}
+use Rattle.text_views.specs.TextViews.{isText, oddAt, charactersAt, fieldJustification, fieldAt, fieldIn}
 
 -- where no word stands there is no text
 pub text-inside : (s : List ℕ) (at t : ℕ) → t ≡ typeAt (words s) at → t ≡ 17 → at < length s / 2
-text-inside s at t e h = go (leb (length s / 2) at) refl
-  where
-    go : (b : Bool) → leb (length s / 2) at ≡ b → at < length s / 2
-    go true q = let w = word-out s at (leb-true (length s / 2) at q) in absurd (omega arith)
-    go false q = leb-false (length s / 2) at q
+text-inside s at t e h = type-inside isText refl s at (ap isText (sym e ∙ h))
 
 ---- bytes
 

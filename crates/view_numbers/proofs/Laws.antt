@@ -2,16 +2,17 @@
 use Prim.Native.Nat.{ℕ, suc, _+_, _<_, _≤_}
 use mathlib.Core.Path.{_≡_, refl, sym, ap, _∙_}
 use mathlib.Core.Bool.{Bool, true, false, cond}
-use mathlib.Core.List.{List, [], _∷_, _++_, map, append-nil}
+use mathlib.Core.List.{List, [], _∷_, _++_, map, map-append, append-assoc}
 use native.Mathlib.Omega.{arith}
-use lib.ListN.{length, getD, set, drop, length-append, length-map, List·getD-map, drop-of-length-le}
+use native.Mathlib.Numerals.{towards-suc}
+use lib.ListN.{length, getD, set, length-append, length-map, List·getD-map}
 use lib.Seq.{sets, sets-eq, paste, paste-suc, take-all}
 use lib.IntN.{ℤ, pos}
 use lib.Dec.{ltb}
 use mir.Syntax.{w64}
 use mir.Val.{SFits}
 use borrow.Author.Tests.{ltb-true, le-leb, lt-leb}
-use Rattle.words.proofs.Puts.{sets-then}
+use Rattle.answers.proofs.Besides.{put-then}
 use Rattle.places.specs.declared.Above.{Above}
 use Rattle.places.specs.declared.Above.the-variants as aboves
 use Rattle.views.specs.declared.Number.{Number}
@@ -48,42 +49,44 @@ name-three cells.Absent = refl
 name-three (cells.Words first second) = refl
 
 -- the parts of a view put one behind another
-module _ (s : List ℕ) (e : Element) where
-  pub common-put :
-      sets s 0 (commonNumbers e)
-      ≡ sets (sets (sets s 0 (e .level ∷ bit (e .c) ∷ e .kind ∷ bit (e .deleted) ∷ e .size ∷ e .depth ∷ [])) 6 (aboveNumbers (e .above)))
-      8 (rangeNumbers (e .range))
-  common-put = let a = above-two (e .above) in sym (sets-then _ 6 (aboveNumbers (e .above)) _ 8 (omega arith))
+abbrev own : Element → List ℕ
+own e = e .level ∷ bit (e .c) ∷ e .kind ∷ bit (e .deleted) ∷ e .size ∷ e .depth ∷ []
 
-  module _ (place : ℕ) where
-    pub kind-put :
-        sets s 15 (kindNumbers place e)
-        ≡ set (sets (sets (sets (sets (sets s 15 (displayNumbers (e .display))) 22 (numberNumbers (e .points))) 24 (nameNumbers (e .name)))
-        27 (numberNumbers (e .total))) 29 (numberNumbers (e .count))) 31 place
-    kind-put =
-        let d = display-seven (e .display) in
-        let p = number-two (e .points) in
-        let n = name-three (e .name) in
-        let t = number-two (e .total) in
-        let c = number-two (e .count) in
-        sym (sets-then _ 15 (displayNumbers (e .display)) _ 22 (omega arith))
-        ∙ sym (sets-then _ 22 (numberNumbers (e .points)) _ 24 (omega arith))
-        ∙ sym (sets-then _ 24 (nameNumbers (e .name)) _ 27 (omega arith))
-        ∙ sym (sets-then _ 27 (numberNumbers (e .total)) _ 29 (omega arith))
-        ∙ sym (sets-then _ 29 (numberNumbers (e .count)) (place ∷ []) 31 (omega arith))
+pub common-put : (s : List ℤ) (at : ℕ) (e : Element) →
+    sets s at (map asSigned (commonNumbers e)) ≡ sets (sets s at (map asSigned (own e))) (at + 6) (map asSigned (aboveNumbers (e .above)))
+common-put s at e = sym (put-then s at (map asSigned (own e)) (map asSigned (aboveNumbers (e .above))) (at + 6) refl)
 
-    view-put : sets s 0 (viewNumbers place e) ≡ sets (sets s 0 (commonNumbers e)) 15 (kindNumbers place e)
-    view-put =
-        let a = above-two (e .above) in
-        let r = range-seven (e .range) in
-        let l = length-append (aboveNumbers (e .above)) (rangeNumbers (e .range)) in
-        sym (sets-then s 0 (commonNumbers e) (kindNumbers place e) 15 (omega arith))
+-- the seven numbers of a range, one by one
+pub range-put : (s : List ℤ) (at : ℕ) (a b c d e f : ℤ) →
+    set (set (set (set (set (set (set s at (pos 1)) (at + 1) a) (at + 2) b) (at + 3) c) (at + 4) d) (at + 5) e) (at + 6) f
+    ≡ sets s at (rangeNumbers (ranges.Longs a b c d e f))
+range-put s at a b c d e f = simp towards-suc
 
--- a view is 32 numbers
-pub thirty-two : (place : ℕ) (e : Element) → length (viewNumbers place e) ≡ 32
-thirty-two place e =
-    let a = above-two (e .above) in
-    let r = range-seven (e .range) in
+-- numbers behind others, as signed ones
+then : (s : List ℤ) (at : ℕ) (x y : List ℕ) (n m : ℕ) → length x ≡ n → m ≡ at + n →
+    sets s at (map asSigned (x ++ y)) ≡ sets (sets s at (map asSigned x)) m (map asSigned y)
+then s at x y n m l e =
+    let h = length-map x asSigned in
+    ap (sets s at) (map-append asSigned x y) ∙ sym (put-then s at (map asSigned x) (map asSigned y) m (omega arith))
+
+pub kind-put : (s : List ℤ) (at place : ℕ) (e : Element) →
+    sets s at (map asSigned (kindNumbers place e))
+    ≡ set (sets (sets (sets (sets (sets s at (map asSigned (displayNumbers (e .display)))) (at + 7) (map asSigned (numberNumbers (e .points))))
+    (at + 9) (map asSigned (nameNumbers (e .name)))) (at + 12) (map asSigned (numberNumbers (e .total)))) (at + 14) (map asSigned (numberNumbers (e .count))))
+    (at + 16) (asSigned place)
+kind-put s at place e =
+    then s at (displayNumbers (e .display)) _ 7 (at + 7) (display-seven (e .display)) refl
+    ∙ then _ (at + 7) (numberNumbers (e .points)) _ 2 (at + 9) (number-two (e .points)) (omega arith)
+    ∙ then _ (at + 9) (nameNumbers (e .name)) _ 3 (at + 12) (name-three (e .name)) (omega arith)
+    ∙ then _ (at + 12) (numberNumbers (e .total)) _ 2 (at + 14) (number-two (e .total)) (omega arith)
+    ∙ then _ (at + 14) (numberNumbers (e .count)) (place ∷ []) 2 (at + 16) (number-two (e .count)) (omega arith)
+
+-- eight numbers, seven of the range, and seventeen: a view is 32 numbers
+common-eight : (e : Element) → length (commonNumbers e) ≡ 8
+common-eight e = let a = above-two (e .above) in omega arith
+
+kind-seventeen : (place : ℕ) (e : Element) → length (kindNumbers place e) ≡ 17
+kind-seventeen place e =
     let d = display-seven (e .display) in
     let p = number-two (e .points) in
     let n = name-three (e .name) in
@@ -91,12 +94,16 @@ thirty-two place e =
     let c = number-two (e .count) in
     simp length-append (omega arith)
 
--- numbers put over all of a list
-put-all : (s x : List ℕ) → length x ≡ length s → sets s 0 x ≡ x
-put-all s x h = sets-eq x s 0 (omega arith) ∙ ap (λ l. x ++ l) (drop-of-length-le s {i = 0 + length x} (omega arith)) ∙ append-nil x
-
-pub all-put : (s : List ℕ) (place : ℕ) (e : Element) → length s ≡ 32 → sets (sets s 0 (commonNumbers e)) 15 (kindNumbers place e) ≡ viewNumbers place e
-all-put s place e h = let l = thirty-two place e in sym (view-put s e place) ∙ put-all s (viewNumbers place e) (omega arith)
+pub thirty-two : (f : ℕ → ℤ) (place : ℕ) (e : Element) → length (viewNumbers f place e) ≡ 32
+thirty-two f place e =
+    let a = length-append (map f (commonNumbers e)) (rangeNumbers (e .range) ++ map f (kindNumbers place e)) in
+    let b = length-append (rangeNumbers (e .range)) (map f (kindNumbers place e)) in
+    let c = length-map (commonNumbers e) f in
+    let d = length-map (kindNumbers place e) f in
+    let r = range-seven (e .range) in
+    let x = common-eight e in
+    let y = kind-seventeen place e in
+    omega arith
 
 -- a copy of all of a list
 pub pasted : {A : Type 0} (s x : List A) (at n : ℕ) → length x ≡ n → at + n ≤ length s → paste s at x n ≡ sets s at x
@@ -123,6 +130,16 @@ module _ (s : List ℤ) (at place : ℕ) (e : Element) where
   unfolding putView
   no-room h = simp (lt-leb (at + 32) (length s) h)
 
-  pub room : (t : List ℤ) (x : List ℕ) → at + 32 ≤ length s → t ≡ sets s at (map asSigned x) → x ≡ viewNumbers place e → t ≡ putView s at place e
+  pub room : (t : List ℤ) → at + 32 ≤ length s →
+      t ≡ sets (sets (sets s at (map asSigned (commonNumbers e))) (at + 8) (rangeNumbers (e .range))) (at + 15) (map asSigned (kindNumbers place e)) →
+      t ≡ putView s at place e
   unfolding putView
-  room t x h put is = rw (le-leb (at + 32) (length s) h) (rw is at put)
+  room t h put =
+      let l = length-map (commonNumbers e) asSigned in
+      let x = common-eight e in
+      let r = range-seven (e .range) in
+      let m = length-append (map asSigned (commonNumbers e)) (rangeNumbers (e .range)) in
+      rw (le-leb (at + 32) (length s) h)
+      (put ∙ ap (λ u. sets u (at + 15) (map asSigned (kindNumbers place e))) (put-then s at (map asSigned (commonNumbers e)) (rangeNumbers (e .range)) (at + 8) (omega arith))
+      ∙ put-then s at (map asSigned (commonNumbers e) ++ rangeNumbers (e .range)) (map asSigned (kindNumbers place e)) (at + 15) (omega arith)
+      ∙ ap (sets s at) (append-assoc (map asSigned (commonNumbers e)) (rangeNumbers (e .range)) (map asSigned (kindNumbers place e))))

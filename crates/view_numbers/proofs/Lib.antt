@@ -1,3 +1,3 @@
 pub mod Laws
 pub mod Small
-pub mod Below
+pub mod Within

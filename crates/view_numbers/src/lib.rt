@@ -4,16 +4,26 @@ ghost use mathlib.Core.List.{map};
 ghost use Prim.Native.Nat.{_+_, _≤_};
 ghost use lib.ListN.{length};
 ghost use lib.Seq.{sets};
-ghost use Rattle.view_numbers.specs.Numbers.{aboveNumbers, numberNumbers, rangeNumbers, displayNumbers, nameNumbers, commonNumbers, kindNumbers, viewNumbers, asSigned, putView};
+ghost use Rattle.view_numbers.specs.Numbers.{aboveNumbers, numberNumbers, rangeNumbers, displayNumbers, nameNumbers, commonNumbers, kindNumbers, asSigned, putView};
 
-// Numbers, from a place of a slice on.
-fn put_numbers(out: &mut [usize], at: usize, numbers: &[usize])
+// A number as a signed one.
+fn as_signed(n: usize) -> i64
+    ensures { λ r. ⌜ r ≡ asSigned n ⌝ }
+{
+    if n < 9223372036854775808 {
+        return n as i64;
+    }
+    0
+}
+
+// Numbers as signed ones, from a place of a slice on.
+fn put_signed(out: &mut [i64], at: usize, numbers: &[usize])
     requires { ⌜ at + length (now numbers) ≤ length (now out) ⌝ }
-    ensures { λ _. ⌜ now (out .exit) ≡ sets (now (out .entry)) at (now (numbers .entry)) ⌝ }
+    ensures { λ _. ⌜ now (out .exit) ≡ sets (now (out .entry)) at (map asSigned (now (numbers .entry))) ⌝ }
 {
     let mut k = 0;
     while k < numbers.len() {
-        out[at + k] = numbers[k];
+        out[at + k] = as_signed(numbers[k]);
         k += 1;
     }
 }
@@ -35,23 +45,6 @@ fn number_numbers(number: views::Number) -> [usize; 2]
     match number {
         views::Number::Absent => [0, 0],
         views::Number::Value { value } => [1, value],
-    }
-}
-
-// The range.
-fn range_numbers(range: views::Range) -> [usize; 7]
-    ensures { λ r. ⌜ r ≡ rangeNumbers range ⌝ }
-{
-    match range {
-        views::Range::Absent => [0; 7],
-        views::Range::Longs {
-            low_x,
-            low_y,
-            low_z,
-            high_x,
-            high_y,
-            high_z,
-        } => [1, low_x, low_y, low_z, high_x, high_y, high_z],
     }
 }
 
@@ -82,10 +75,10 @@ fn name_numbers(name: views::Name) -> [usize; 3]
     }
 }
 
-// Numbers 0 to 14 of a view.
-fn put_common(out: &mut [usize], element: views::Element)
-    requires { ⌜ 15 ≤ length (now out) ⌝ }
-    ensures { λ _. ⌜ now (out .exit) ≡ sets (now (out .entry)) 0 (commonNumbers element) ⌝ }
+// Numbers 0 to 7 of a view, from a place of a slice on.
+fn put_common(out: &mut [i64], at: usize, element: views::Element)
+    requires { ⌜ at + 8 ≤ length (now out) ⌝ }
+    ensures { λ _. ⌜ now (out .exit) ≡ sets (now (out .entry)) at (map asSigned (commonNumbers element)) ⌝ }
 {
     let c = kinds::pick(element.c, 1, 0);
     let deleted = kinds::pick(element.deleted, 1, 0);
@@ -97,61 +90,53 @@ fn put_common(out: &mut [usize], element: views::Element)
         element.size,
         element.depth,
     ];
-    put_numbers(out, 0, &own);
+    put_signed(out, at, &own);
     let above = element.above;
-    put_numbers(out, 6, &above_numbers(above));
-    let range = element.range;
-    put_numbers(out, 8, &range_numbers(range));
+    put_signed(out, at + 6, &above_numbers(above));
 }
 
-// Numbers 15 to 31 of a view.
-fn put_kind(out: &mut [usize], place: usize, element: views::Element)
-    requires { ⌜ 32 ≤ length (now out) ⌝ }
-    ensures { λ _. ⌜ now (out .exit) ≡ sets (now (out .entry)) 15 (kindNumbers place element) ⌝ }
+// Numbers 8 to 14 of a view, the range, from a place of a slice on.
+fn put_range(out: &mut [i64], at: usize, range: views::Range)
+    requires { ⌜ at + 7 ≤ length (now out) ⌝ }
+    ensures { λ _. ⌜ now (out .exit) ≡ sets (now (out .entry)) at (rangeNumbers range) ⌝ }
+{
+    match range {
+        views::Range::Absent => put_signed(out, at, &[0; 7]),
+        views::Range::Longs {
+            low_x,
+            low_y,
+            low_z,
+            high_x,
+            high_y,
+            high_z,
+        } => {
+            out[at] = 1;
+            out[at + 1] = low_x;
+            out[at + 2] = low_y;
+            out[at + 3] = low_z;
+            out[at + 4] = high_x;
+            out[at + 5] = high_y;
+            out[at + 6] = high_z;
+        }
+    }
+}
+
+// Numbers 15 to 31 of a view, from a place of a slice on.
+fn put_kind(out: &mut [i64], at: usize, place: usize, element: views::Element)
+    requires { ⌜ at + 17 ≤ length (now out) ⌝ }
+    ensures { λ _. ⌜ now (out .exit) ≡ sets (now (out .entry)) at (map asSigned (kindNumbers place element)) ⌝ }
 {
     let display = element.display;
-    put_numbers(out, 15, &display_numbers(display));
+    put_signed(out, at, &display_numbers(display));
     let points = element.points;
-    put_numbers(out, 22, &number_numbers(points));
+    put_signed(out, at + 7, &number_numbers(points));
     let name = element.name;
-    put_numbers(out, 24, &name_numbers(name));
+    put_signed(out, at + 9, &name_numbers(name));
     let total = element.total;
-    put_numbers(out, 27, &number_numbers(total));
+    put_signed(out, at + 12, &number_numbers(total));
     let count = element.count;
-    put_numbers(out, 29, &number_numbers(count));
-    out[31] = place;
-}
-
-// A view as numbers.
-fn numbers_of(place: usize, element: views::Element) -> [usize; 32]
-    ensures { λ r. ⌜ r ≡ viewNumbers place element ⌝ }
-{
-    let mut numbers = [0; 32];
-    put_common(&mut numbers, element);
-    put_kind(&mut numbers, place, element);
-    numbers
-}
-
-// A number as a signed one.
-fn as_signed(n: usize) -> i64
-    ensures { λ r. ⌜ r ≡ asSigned n ⌝ }
-{
-    if n < 9223372036854775808 {
-        return n as i64;
-    }
-    0
-}
-
-// Numbers as signed ones, from a place of a slice on.
-fn put_signed(out: &mut [i64], at: usize, numbers: &[usize])
-    requires { ⌜ at + length (now numbers) ≤ length (now out) ⌝ }
-    ensures { λ _. ⌜ now (out .exit) ≡ sets (now (out .entry)) at (map asSigned (now (numbers .entry))) ⌝ }
-{
-    let mut k = 0;
-    while k < numbers.len() {
-        out[at + k] = as_signed(numbers[k]);
-        k += 1;
-    }
+    put_signed(out, at + 14, &number_numbers(count));
+    out[at + 16] = as_signed(place);
 }
 
 // The view of the element at a place, from a place of a slice on; a slice with no room for it stays.
@@ -164,5 +149,8 @@ pub fn put_view(out: &mut [i64], at: usize, place: usize, element: views::Elemen
     if out.len() - 32 < at {
         return;
     }
-    put_signed(out, at, &numbers_of(place, element));
+    put_common(out, at, element);
+    let range = element.range;
+    put_range(out, at + 8, range);
+    put_kind(out, at + 15, place, element);
 }

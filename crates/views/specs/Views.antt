@@ -5,7 +5,9 @@ use mathlib.Core.List.{List}
 use mathlib.Core.Bool.{Bool, true, false, cond}
 use lib.ListN.{length}
 use lib.Dec.{eqb, leb, ltb}
+use lib.IntN.{ℤ}
 use Rattle.words.specs.Words.{words, wordAt, longAt}
+use Rattle.ranges.specs.Ranges.{coordinate}
 use Rattle.kinds.specs.FirstWord.{levelOf, cOf, deletedOf}
 use Rattle.headers.specs.Header.{typeAt, sizeAt, pointsAt, countAt, nameFirst, nameSecond, totalAt}
 use Rattle.kinds.specs.Kinds.{isHeader, isCounted, isPointed, isLinked, isCell}
@@ -25,12 +27,19 @@ use Rattle.views.specs.declared.Element.{Element}
 use Rattle.views.specs.declared.View.{View}
 use Rattle.views.specs.declared.View.the-variants as view
 
--- words 2-13: six longs, low x y z, high x y z; none where the element has fewer than 14 words
+-- a coordinate of a range, by the place of its long
+abbrev pub coordinateAt : List ℕ → ℕ → ℤ
+coordinateAt ws i = coordinate (longAt ws i)
+
+-- words 2-13: six longs, low x y z, high x y z, as coordinates
+abbrev pub sixAt : List ℕ → ℕ → Range
+sixAt ws at =
+    range.Longs (coordinateAt ws (at + 2)) (coordinateAt ws (at + 4)) (coordinateAt ws (at + 6))
+    (coordinateAt ws (at + 8)) (coordinateAt ws (at + 10)) (coordinateAt ws (at + 12))
+
+-- the range; none where the element has fewer than 14 words
 unfoldable pub rangeOf : List ℕ → ℕ → Range
-rangeOf ws at =
-    cond (leb 14 (sizeAt ws at))
-    (range.Longs (longAt ws (at + 2)) (longAt ws (at + 4)) (longAt ws (at + 6)) (longAt ws (at + 8)) (longAt ws (at + 10)) (longAt ws (at + 12)))
-    range.Absent
+rangeOf ws at = cond (leb 14 (sizeAt ws at)) (sixAt ws at) range.Absent
 
 -- words 14-17 of known types other than 1
 unfoldable pub displayOf : List ℕ → ℕ → Display

@@ -3,7 +3,7 @@ ghost use mathlib.Core.Path.{_≡_};
 ghost use Prim.Native.Nat.{_/_, _<_};
 ghost use lib.ListN.{length};
 ghost use Rattle.words.specs.Words.{words};
-ghost use Rattle.views.specs.Views.{rangeOf, displayOf, numberIf, nameWords, elementView, elementIn, viewOf};
+ghost use Rattle.views.specs.Views.{sixAt, rangeOf, displayOf, numberIf, nameWords, elementView, elementIn, viewOf};
 use places::Above;
 use places::Spotted;
 use places::spotted_at;
@@ -14,16 +14,16 @@ pub enum Number {
     Value { value: usize },
 }
 
-// The range longs, unsigned.
+// The coordinates of the range.
 pub enum Range {
     Absent,
     Longs {
-        low_x: usize,
-        low_y: usize,
-        low_z: usize,
-        high_x: usize,
-        high_y: usize,
-        high_z: usize,
+        low_x: i64,
+        low_y: i64,
+        low_z: i64,
+        high_x: i64,
+        high_y: i64,
+        high_z: i64,
     },
 }
 
@@ -67,22 +67,34 @@ pub enum View {
     Refused { number: usize, place: usize },
 }
 
-// The range of the element at a place, where it has the words.
-fn range_at(file: &[u8], at: usize) -> Range
-    requires { ⌜ at < length (now file) / 2 ⌝ }
+// The range of the element whose words a slice begins with.
+fn range_in(own: &[u8]) -> Range
+    ensures { λ r. ⌜ r ≡ sixAt (words (now (own .entry))) 0 ⌝ }
+{
+    Range::Longs {
+        low_x: ranges::coordinate_at(own, 2),
+        low_y: ranges::coordinate_at(own, 4),
+        low_z: ranges::coordinate_at(own, 6),
+        high_x: ranges::coordinate_at(own, 8),
+        high_y: ranges::coordinate_at(own, 10),
+        high_z: ranges::coordinate_at(own, 12),
+    }
+}
+
+// The range of the element at a place, where it has the words. Of a part with just these words the compiler knows that they are
+// there, and drops each test for them.
+pub fn range_at(file: &[u8], at: usize) -> Range
     ensures { λ r. ⌜ r ≡ rangeOf (words (now (file .entry))) at ⌝ }
 {
     if headers::size_at(file, at) < 14 {
         return Range::Absent;
     }
-    Range::Longs {
-        low_x: words::long(file, at + 2),
-        low_y: words::long(file, at + 4),
-        low_z: words::long(file, at + 6),
-        high_x: words::long(file, at + 8),
-        high_y: words::long(file, at + 10),
-        high_z: words::long(file, at + 12),
+    let start = 2 * at;
+    if file.len() - start < 28 {
+        return range_in(&file[start..]);
     }
+    let end = start + 28;
+    range_in(&file[start..end])
 }
 
 // Words 14 to 17, of the types that have them.

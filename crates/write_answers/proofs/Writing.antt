@@ -1,12 +1,13 @@
 -- What a function that writes an element leaves, by its own checks and by what the writer answers. Every refusal of the writer is
 -- small: its number and its place can be taken apart again.
 use Prim.Native.Nat.{ℕ, _%_, _≤_, _<_}
-use mathlib.Core.Path.{_≡_, refl, sym, ap, _∙_, subst}
+use mathlib.Core.Path.{_≡_, refl, sym, ap, subst}
 use mathlib.Core.Bool.{Bool, true, false, cond, _&&_}
 use mathlib.Core.List.{List}
 use native.Mathlib.Omega.{arith}
-use lib.ListN.{length, getD}
+use lib.ListN.{length}
 use lib.Dec.{eqb, leb}
+use lib.IntN.{ℤ}
 use borrow.Author.Tests.{eqb-true, eqb-false, le-leb, lt-leb}
 use Rattle.fields.specs.declared.Fields.{Fields}
 use Rattle.writer.specs.Writing.{writtenBy, WritesBy}
@@ -15,26 +16,26 @@ use Rattle.writer.specs.declared.Written.the-variants.{Made, Refused}
 use Rattle.answers.specs.Answers.{refuse, Replied, SmallReply}
 use Rattle.answers.proofs.Laws.{too-short, answered}
 use Rattle.write_answers.specs.declared.Given.the-variants.{Header, Nothing}
-use Rattle.write_answers.specs.Writing.{fieldsGiven, fieldsOf, givenIn, writeReply, cutReply, WroteBy}
+use Rattle.write_answers.specs.Writing.{naturalAt, fieldsGiven, fieldsOf, givenIn, writeReply, cutReply, WroteBy}
 
 -- header fields are sixteen numbers
-pub given-sixteen : (f : List ℕ) → fieldsGiven f ≡ true → length f ≡ 16
+pub given-sixteen : (f : List ℤ) → fieldsGiven f ≡ true → length f ≡ 16
 unfolding fieldsGiven
 given-sixteen f = go (eqb (length f) 16) refl
   where
-    go : (b : Bool) → eqb (length f) 16 ≡ b → (b && (leb (getD f 2 0) 1 && leb (getD f 3 0) 1)) ≡ true → length f ≡ 16
+    go : (b : Bool) → eqb (length f) 16 ≡ b → (b && (leb (naturalAt f 2) 1 && leb (naturalAt f 3) 1)) ≡ true → length f ≡ 16
     go true e h = eqb-true (length f) 16 e
     go false e h = let z : _≡_ {A = ℕ} 0 1 = cc in absurd (omega arith)
 
 -- what a slice is, by what is found of it
-pub given-is : (f : List ℕ) (g : Fields) → givenIn f ≡ Header g → (fieldsGiven f ≡ true) × (g ≡ fieldsOf f)
+pub given-is : (f : List ℤ) (g : Fields) → givenIn f ≡ Header g → (fieldsGiven f ≡ true) × (g ≡ fieldsOf f)
 given-is f g e = go (fieldsGiven f) refl e
   where
     go : (b : Bool) → fieldsGiven f ≡ b → cond b (Header (fieldsOf f)) Nothing ≡ Header g → (fieldsGiven f ≡ true) × (g ≡ fieldsOf f)
     go true q e = (q, cc)
     go false q e = let z : _≡_ {A = ℕ} 0 1 = cc in absurd (omega arith)
 
-pub given-not : (f : List ℕ) → givenIn f ≡ Nothing → fieldsGiven f ≡ false
+pub given-not : (f : List ℤ) → givenIn f ≡ Nothing → fieldsGiven f ≡ false
 given-not f e = go (fieldsGiven f) refl e
   where
     go : (b : Bool) → fieldsGiven f ≡ b → cond b (Header (fieldsOf f)) Nothing ≡ Nothing → fieldsGiven f ≡ false

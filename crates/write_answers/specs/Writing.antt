@@ -7,6 +7,7 @@ use mathlib.Core.Bool.{Bool, cond, _&&_}
 use mathlib.Core.List.{List, [], _∷_}
 use lib.ListN.{length, getD}
 use lib.Dec.{eqb, leb}
+use lib.IntN.{ℤ, pos, negsuc}
 use Rattle.fields.specs.declared.Fields.{Fields}
 use Rattle.writer.specs.Writing.{writtenBy, bytesBy}
 use Rattle.writer.specs.declared.Written.{Written}
@@ -15,32 +16,44 @@ use Rattle.write_answers.specs.declared.Given.{Given}
 use Rattle.write_answers.specs.declared.Given.the-variants.{Header, Nothing}
 use Rattle.answers.specs.Answers.{Reply, done, refuse, Replied}
 
--- sixteen numbers, C and deleted 0 or 1
-unfoldable pub fieldsGiven : List ℕ → Bool
-fieldsGiven f = eqb (length f) 16 && (leb (getD f 2 0) 1 && leb (getD f 3 0) 1)
+-- number i of a slice
+abbrev pub numberAt : List ℤ → ℕ → ℤ
+numberAt l i = getD l i (pos 0)
 
--- the header fields
-abbrev pub fieldsOf : List ℕ → Fields
+-- a number that is not negative; any other stands for 4294967296, which is in the range of no field
+abbrev pub natural : ℤ → ℕ
+natural (pos n) = n
+natural (negsuc n) = 4294967296
+
+abbrev pub naturalAt : List ℤ → ℕ → ℕ
+naturalAt l i = natural (numberAt l i)
+
+-- sixteen numbers, C and deleted 0 or 1
+unfoldable pub fieldsGiven : List ℤ → Bool
+fieldsGiven f = eqb (length f) 16 && (leb (naturalAt f 2) 1 && leb (naturalAt f 3) 1)
+
+-- the header fields; only the coordinates of the range may be negative
+abbrev pub fieldsOf : List ℤ → Fields
 fieldsOf f = record {
-  kind = getD f 0 0;
-  level = getD f 1 0;
-  c = eqb (getD f 2 0) 1;
-  deleted = eqb (getD f 3 0) 1;
-  «low_x» = getD f 4 0;
-  «low_y» = getD f 5 0;
-  «low_z» = getD f 6 0;
-  «high_x» = getD f 7 0;
-  «high_y» = getD f 8 0;
-  «high_z» = getD f 9 0;
-  group = getD f 10 0;
-  index = getD f 11 0;
-  properties = getD f 12 0;
-  style = getD f 13 0;
-  weight = getD f 14 0;
-  colour = getD f 15 0;
+  kind = naturalAt f 0;
+  level = naturalAt f 1;
+  c = eqb (naturalAt f 2) 1;
+  deleted = eqb (naturalAt f 3) 1;
+  «low_x» = numberAt f 4;
+  «low_y» = numberAt f 5;
+  «low_z» = numberAt f 6;
+  «high_x» = numberAt f 7;
+  «high_y» = numberAt f 8;
+  «high_z» = numberAt f 9;
+  group = naturalAt f 10;
+  index = naturalAt f 11;
+  properties = naturalAt f 12;
+  style = naturalAt f 13;
+  weight = naturalAt f 14;
+  colour = naturalAt f 15;
 }
 
-abbrev pub givenIn : List ℕ → Given
+abbrev pub givenIn : List ℤ → Given
 givenIn f = cond (fieldsGiven f) (Header (fieldsOf f)) Nothing
 
 -- the words written, or the refusal

@@ -34,12 +34,12 @@ fn put_range(out: &mut [u8], fields: fields::Fields)
     requires { ⌜ (28 ≤ length (now out)) × (fieldsOk fields ≡ true) ⌝ }
     ensures { λ _. ⌜ now (out .exit) ≡ laid (now (out .entry)) 2 (longs (rangeLongs fields)) ⌝ }
 {
-    words::put_long(out, 2, fields.low_x as u32);
-    words::put_long(out, 4, fields.low_y as u32);
-    words::put_long(out, 6, fields.low_z as u32);
-    words::put_long(out, 8, fields.high_x as u32);
-    words::put_long(out, 10, fields.high_y as u32);
-    words::put_long(out, 12, fields.high_z as u32);
+    ranges::put_coordinate(out, 2, fields.low_x as i32);
+    ranges::put_coordinate(out, 4, fields.low_y as i32);
+    ranges::put_coordinate(out, 6, fields.low_z as i32);
+    ranges::put_coordinate(out, 8, fields.high_x as i32);
+    ranges::put_coordinate(out, 10, fields.high_y as i32);
+    ranges::put_coordinate(out, 12, fields.high_z as i32);
 }
 
 // Words 14 to 17.

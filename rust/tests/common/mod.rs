@@ -4,14 +4,14 @@ use dgn::{Bounds, Dimension, DisplayHeader, Fields, Type};
 
 pub const TWO: Dimension = Dimension::Two;
 
-/// The fields of a line with every field set.
+/// The fields of a line with every field set; its range has low z above high z.
 pub fn fields() -> Fields {
     Fields {
         kind: Type::Line,
         level: 5,
         component: true,
         deleted: true,
-        bounds: Bounds { low: [10, 11, 12], high: [13, 14, 4_294_967_295] },
+        bounds: Bounds { low: [1, -2, i32::MAX], high: [65538, 7, i32::MIN] },
         display: DisplayHeader {
             graphic_group: 15,
             attribute_index: 16,

@@ -34,7 +34,7 @@ fn same(ours: &View, theirs: &reader::View, place: u64) {
     assert_eq!((ours.size as u64, ours.depth as u64), (theirs.size, theirs.depth));
     assert_eq!(ours.header, number(theirs.header));
     let bounds = ours.bounds.map(|b| [b.low, b.high].concat());
-    assert_eq!(bounds, theirs.range.map(|range| range.map(i64::from).to_vec()));
+    assert_eq!(bounds, theirs.range.map(|range| range.to_vec()));
     let display = ours.display.map(|d| reader::Display {
         graphic_group: d.graphic_group.into(),
         attribute_index: d.attribute_index.into(),
@@ -140,6 +140,7 @@ pub fn file(runs: &mut Runs, file: &[u8], dim: u64) {
         assert_eq!(dgn::all_texts(file, d).map(|_| ()).map_err(plain), Err(refusal.clone()));
         assert_eq!(dgn::all_views(file, d).map(|_| ()).map_err(plain), Err(refusal.clone()));
         assert_eq!(dgn::all_points(file, d).map(|_| ()).map_err(plain), Err(refusal.clone()));
+        assert_eq!(dgn::all_ranges(file, d).map(|_| ()).map_err(plain), Err(refusal.clone()));
         assert_eq!(Session::open(file.to_vec(), file.len(), vec![], d).map(|_| ()).map_err(plain), Err(refusal));
         return;
     }
@@ -148,6 +149,7 @@ pub fn file(runs: &mut Runs, file: &[u8], dim: u64) {
     assert_eq!(views.len(), starts.len());
     let mut drawn = dgn::all_points(file, d).expect("an accepted file").into_iter();
     let mut texts = dgn::all_texts(file, d).expect("an accepted file").into_iter();
+    let mut outside = dgn::all_ranges(file, d).expect("an accepted file").into_iter();
     for (view, start) in views.iter().zip(&starts) {
         let place = start.place as usize;
         same(view, &reader::view(file, dim, start.place).expect("an element"), start.place);
@@ -177,6 +179,11 @@ pub fn file(runs: &mut Runs, file: &[u8], dim: u64) {
             let found = TextAt { place, deleted: view.deleted, depth: view.depth, text };
             assert_eq!(texts.next(), Some(found));
         }
+        let held = dgn::in_range(file, d, place).map_err(plain);
+        assert_eq!(held, reader::points_in_range(file, dim, start.place));
+        if held == Ok(false) {
+            assert_eq!(outside.next(), Some(place));
+        }
         let points: Vec<_> = (0..).map_while(|k| reader::point(file, dim, start.place, k).ok()).collect();
         if !points.is_empty() {
             let ours = drawn.next().expect("an element with points");
@@ -186,6 +193,7 @@ pub fn file(runs: &mut Runs, file: &[u8], dim: u64) {
     }
     assert_eq!(drawn.next(), None);
     assert_eq!(texts.next(), None);
+    assert_eq!(outside.next(), None);
 }
 
 /// All views, points and texts of an accepted file are those that its numbers say.
@@ -210,7 +218,7 @@ pub fn all(file: &[u8], dim: u64, views: &[i64], points: &[i64], texts: &[i64]) 
 fn written(random: &mut Random, runs: &mut Runs) {
     let w = good_text(random);
     let f = &w.text.header;
-    let [low, high] = [0, 3].map(|k| [f.range[k] as i64, f.range[k + 1] as i64, f.range[k + 2] as i64]);
+    let [low, high] = [0, 3].map(|first| [0, 1, 2].map(|axis| f.range[first + axis] as i32));
     let fields = Fields {
         kind: Type::Text,
         level: f.level as u8,

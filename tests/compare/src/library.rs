@@ -26,6 +26,9 @@ pub const MOST_COORDINATES: usize = 70_000;
 /// The longest slice for views or points: all views of the most elements.
 pub const MOST_NUMBERS: usize = 32 * 262_144;
 
+/// The most places that dgn_ranges gives of a file.
+pub const MOST_RANGES: usize = 20_164;
+
 /// The longest slice for floats: those of the most ellipses, and some more.
 pub const MOST_FLOATS: usize = 5 * 15_000;
 
@@ -295,6 +298,12 @@ pub fn point(file: &[u8], dim: u64, place: u64, k: u64) -> Result<[i64; 3], Refu
     Ok(of_file(file, |f, o| raw::point(f, dim as usize, place as usize, k as usize, o))?)
 }
 
+pub fn in_range(file: &[u8], dim: u64, place: u64) -> Result<bool, Refusal> {
+    let [held]: [usize; 1] = of_file(file, |f, o| raw::in_range(f, dim as usize, place as usize, o))?;
+    assert!(held <= 1);
+    Ok(held == 1)
+}
+
 pub fn linkage(file: &[u8], dim: u64, place: u64, k: u64) -> Result<Linkage, Refusal> {
     let o = of_file::<_, 4>(file, |f, o| raw::linkage(f, dim as usize, place as usize, k as usize, o))?;
     assert!(o[0] <= 1, "1 for a user linkage, else 0");
@@ -343,6 +352,16 @@ pub fn texts(file: &[u8], dim: u64, k: u64, room: usize) -> Result<(u64, Vec<i64
         |l, n| lent(l, &l.file, file, |f| answer(l, |o| raw::texts(f, dim as usize, k as usize, n, o))),
     )?;
     Ok((out[0] as u64, numbers))
+}
+
+/// The next element number, and the places of elements outside their ranges from element number k on, in a slice of so many.
+pub fn ranges(file: &[u8], dim: u64, k: u64, room: usize) -> Result<(u64, Vec<i64>), Refusal> {
+    let (out, places) = filled::<2>(
+        room,
+        |out| out[1],
+        |l, n| lent(l, &l.file, file, |f| answer(l, |o| raw::ranges(f, dim as usize, k as usize, n, o))),
+    )?;
+    Ok((out[0] as u64, places))
 }
 
 /// Lends slices of so many marked numbers and floats. Gives the answer, the numbers and the bits of the floats; those behind the
@@ -421,7 +440,7 @@ pub fn unpack(first: u64, second: u64) -> Result<[u8; 7], Refusal> {
 }
 
 /// Writes into a copy of the buffer, which is copied back.
-pub fn write(fields: &[usize], points: &[i32], tail: &[u8], dim: u64, buffer: &mut [u8]) -> Result<u64, Refusal> {
+pub fn write(fields: &[i64], points: &[i32], tail: &[u8], dim: u64, buffer: &mut [u8]) -> Result<u64, Refusal> {
     let out: [usize; 1] = LENDING.with(|l| {
         lent_to_write(l, &l.buffer, buffer, |b| {
             lent(l, &l.fields, fields, |f| {
@@ -437,7 +456,7 @@ pub fn write(fields: &[usize], points: &[i32], tail: &[u8], dim: u64, buffer: &m
 /// What is handed to the writer of a text.
 pub struct TextCall<'a> {
     /// The 16 fields of the header.
-    pub fields: &'a [usize],
+    pub fields: &'a [i64],
     /// The 12 numbers of the text.
     pub numbers: &'a [i64],
     pub characters: &'a [u8],
@@ -613,7 +632,7 @@ pub fn mark_by(state: &mut State, index: &mut Index, place: u64, deleted: usize)
 /// Every other call with an answer slice of M numbers, one too few or none: 1, and nothing is written.
 pub fn short_answers(file: &[u8]) {
     // a call that would be made, but for its answer: a 2D line without a tail
-    let fields = [3usize, 0, 0, 0, 0, 0, 0, 0, 0, 0, 0, 0, 0, 0, 0, 0];
+    let fields = [3i64, 0, 0, 0, 0, 0, 0, 0, 0, 0, 0, 0, 0, 0, 0, 0];
     // and a 2D text without characters
     let mut of_a_text = fields;
     of_a_text[0] = 17;
@@ -657,6 +676,9 @@ pub fn short_answers(file: &[u8]) {
                     short::<_, 0>(l, |o| raw::write(&fields, &[0; 4], &[], 2, b, o))
                 }),
                 lent_to_write(l, &l.numbers, &mut [7; 64], |n| short::<_, 0>(l, |o| raw::views(f, 2, 0, n, o))),
+                short::<_, 0>(l, |o| raw::in_range(f, 2, 0, o)),
+                lent_to_write(l, &l.numbers, &mut [7; 64], |n| short::<_, 1>(l, |o| raw::ranges(f, 2, 0, n, o))),
+                lent_to_write(l, &l.numbers, &mut [7; 64], |n| short::<_, 0>(l, |o| raw::ranges(f, 2, 0, n, o))),
                 lent_to_write(l, &l.numbers, &mut [7; 64], |n| short::<_, 1>(l, |o| raw::points(f, 2, 0, n, o))),
                 lent_to_write(l, &l.numbers, &mut [7; 64], |n| short::<_, 0>(l, |o| raw::points(f, 2, 0, n, o))),
                 lent_to_write(l, &l.numbers, &mut [7; 64], |n| short::<_, 1>(l, |o| raw::texts(f, 2, 0, n, o))),

@@ -12,6 +12,7 @@ mod indexes;
 mod library;
 mod limits;
 mod program;
+mod ranges;
 mod real;
 mod runs;
 mod seen;
@@ -51,6 +52,8 @@ const STEPS: &[Step] = &[
     ("written texts", |random, runs, wanted| text_writes::calls(random, runs, wanted / 8)),
     ("each number at each depth, and two faults in one element", |random, runs, _| files::numbers(random, runs, 50)),
     ("ellipses and arcs, by floats of every kind", |random, runs, wanted| curves::directed(random, runs, wanted / 6)),
+    ("points in their ranges or nearly so, every part", |random, runs, wanted| ranges::directed(random, runs, wanted / 10)),
+    ("ranges of the largest files in parts", |random, runs, _| ranges::largest(random, runs)),
     ("cuts, and every place", |random, runs, _| files::cuts(random, runs, 200)),
     ("every part of small files, views, points and texts", |random, runs, _| whole::small(random, runs, 100)),
     ("the largest files in parts, views, points and texts", |random, runs, _| whole::largest(random, runs)),

@@ -46,6 +46,7 @@ pub fn run(runs: &mut Runs) {
         answered(runs, &name, dim, &answer, &file);
         runs.everywhere(&file, dim);
         whole::every_part(runs, &file, dim);
+        runs.every_range(&file, dim);
         bindings::file(runs, &file, dim);
         for p in 0..file.len() as u64 / 2 {
             for k in 2..5 {

@@ -24,7 +24,7 @@ pub struct Runs {
 /// The numbers of a view at a place, in the order of include/dgn.h.
 pub fn view_numbers(v: &View, place: u64) -> [i64; 32] {
     let number = |n: Option<u64>| [u64::from(n.is_some()), n.unwrap_or(0)];
-    let range = v.range.unwrap_or([0; 6]).map(u64::from);
+    let range = v.range.unwrap_or([0; 6]).map(|end| end as u64);
     let display = v.display.as_ref().map_or([0; 6], |d| {
         [d.graphic_group, d.attribute_index, d.properties, d.style, d.weight, d.colour]
     });
@@ -111,15 +111,45 @@ fn text_bytes(text: &[u8]) -> [u8; 7] {
 }
 
 /// The sixteen fields of the writer, in the order of include/dgn.h.
-pub fn field_numbers(f: &reader::Fields) -> [usize; 16] {
+pub fn field_numbers(f: &reader::Fields) -> [i64; 16] {
     let mut all = vec![f.kind, f.level, f.c, f.deleted];
-    all.extend(f.range);
+    all.extend(f.range.map(|end| end as u64));
     all.extend([f.graphic_group, f.attribute_index, f.properties, f.style, f.weight, f.colour]);
     let mut numbers = [0; 16];
     for (slot, value) in numbers.iter_mut().zip(all) {
-        *slot = value as usize;
+        *slot = value as i64;
     }
     numbers
+}
+
+/// Each field of a header by its number in include/dgn.h, with values at its limits and past them; the type with those around this one.
+pub fn field_limits(kind: i64) -> Vec<(usize, i64)> {
+    let ends = [i64::MIN, -(1 << 31) - 1, -(1 << 31), -1, 0, 1, (1 << 31) - 1, 1 << 31, (1 << 32) - 1, 1 << 32, i64::MAX];
+    let mut all: Vec<_> = (4..10).flat_map(|i| ends.map(|end| (i, end))).collect();
+    let words = [(0, kind), (1, 63), (2, 1), (3, 1), (10, 65535), (11, 65535), (12, 65535), (13, 7), (14, 31), (15, 255)];
+    all.extend(words.into_iter().flat_map(|(i, most)| [0, 1, 2, 3, most - 1, most, most + 1, -1].map(|value| (i, value))));
+    all
+}
+
+/// Sets a field by its number; below 0 it is far above every limit.
+pub fn set_field(f: &mut reader::Fields, i: usize, value: i64) {
+    let slot = match i {
+        0 => &mut f.kind,
+        1 => &mut f.level,
+        2 => &mut f.c,
+        3 => &mut f.deleted,
+        4..=9 => {
+            f.range[i - 4] = value;
+            return;
+        }
+        10 => &mut f.graphic_group,
+        11 => &mut f.attribute_index,
+        12 => &mut f.properties,
+        13 => &mut f.style,
+        14 => &mut f.weight,
+        _ => &mut f.colour,
+    };
+    *slot = value as u64;
 }
 
 /// A small number, now and then a huge one.
@@ -207,6 +237,7 @@ impl Runs {
         );
         self.calls += 4;
         self.curve(file, dim, p);
+        let _ = self.in_range(file, dim, p);
         self.numbered(file, dim, p, k);
     }
 

@@ -2,7 +2,7 @@
 //! in.
 
 use crate::library::{self, TextCall};
-use crate::runs::{field_numbers, written_numbers, Runs};
+use crate::runs::{field_limits, field_numbers, set_field, written_numbers, Runs};
 use reader::generate::text_writes::{good_text, long_text, text_call, TextWrite};
 use reader::generate::Random;
 use reader::{Field, Refusal};
@@ -14,7 +14,7 @@ fn read_back(w: &TextWrite, element: &[u8]) {
     file[0] &= 0x7f;
     file.extend([255, 255]);
     let v = library::view(&file, w.dim, 0).expect("a written text is read");
-    let f = field_numbers(&w.text.header).map(|number| number as i64);
+    let f = field_numbers(&w.text.header);
     assert_eq!([v[0], v[2], v[3]], [f[1], 17, f[3]], "level, type, deleted");
     assert_eq!((v[4], v[31]), (element.len() as i64 / 2, 0), "size, place");
     assert_eq!((v[8], &v[9..15]), (1, &f[4..10]), "range");
@@ -167,19 +167,11 @@ fn numbers(random: &mut Random, runs: &mut Runs, dim: u64) {
             runs.write_text(&TextWrite { text, ..w });
         }
     }
-    // each field of the header at its limits and above
-    let most = [17, 63, 1, 1, 1 << 32, 1 << 32, 1 << 32, 1 << 32, 1 << 32, 1 << 32, 65536, 65536, 65536, 8, 32, 256];
-    for (i, &above) in most.iter().enumerate() {
-        for value in [0, 1, 2, 3, above - 1, above, above + 1, u64::MAX] {
-            let mut w = good_text(random);
-            let f = &mut w.text.header;
-            let mut slots: Vec<&mut u64> = vec![&mut f.kind, &mut f.level, &mut f.c, &mut f.deleted];
-            slots.extend(&mut f.range);
-            slots.extend([&mut f.graphic_group, &mut f.attribute_index, &mut f.properties]);
-            slots.extend([&mut f.style, &mut f.weight, &mut f.colour]);
-            *slots[i] = value;
-            runs.write_text(&w);
-        }
+    // each field of the header at its limits and past them
+    for (i, value) in field_limits(17) {
+        let mut w = good_text(random);
+        set_field(&mut w.text.header, i, value);
+        runs.write_text(&w);
     }
 }
 

@@ -1,6 +1,7 @@
 //! Whole files: the views, points and texts of all elements, in parts of any size, against those of the second reader one
 //! by one.
 
+use crate::ranges::Outside;
 use crate::runs::{point_numbers, small_or_huge, text_numbers, view_numbers, Runs};
 use crate::{bindings, library};
 use reader::generate::{changes, large, valid, Random};
@@ -188,6 +189,10 @@ pub fn any_part(random: &mut Random, runs: &mut Runs, file: &[u8], dim: u64) {
     let room = if random.one_in(8) { random.index(32) } else { random.index(140) };
     let k = small_or_huge(random);
     runs.part(file, dim, k, room);
+    if file.len() < 10_000 {
+        let outside = Outside::of(file, dim);
+        runs.ranges(&outside, file, dim, k, random.index(4));
+    }
 }
 
 /// Small files, each in every part of it.

@@ -1,7 +1,7 @@
 //! The writer of both readers: the same answers and the same bytes, and what was written reads back as it was handed in.
 
 use crate::library;
-use crate::runs::{field_numbers, Runs};
+use crate::runs::{field_limits, field_numbers, set_field, Runs};
 use reader::generate::writes::{good_write, long_line, write_call, Write};
 use reader::generate::Random;
 use reader::Refusal;
@@ -13,7 +13,7 @@ fn read_back(w: &Write, element: &[u8]) {
     file[0] &= 0x7f;
     file.extend([255, 255]);
     let v = library::view(&file, w.dim, 0).expect("a written element is read");
-    let f = field_numbers(&w.fields).map(|number| number as i64);
+    let f = field_numbers(&w.fields);
     assert_eq!([v[0], v[2], v[3]], [f[1], f[0], f[3]], "level, type, deleted");
     assert_eq!((v[4], v[31]), (element.len() as i64 / 2, 0), "size, place");
     assert_eq!((v[8], &v[9..15]), (1, &f[4..10]), "range");
@@ -68,19 +68,11 @@ pub fn limits(random: &mut Random, runs: &mut Runs) {
             }
         }
     }
-    // each field at its limits and above
-    let most = [11, 63, 1, 1, 1 << 32, 1 << 32, 1 << 32, 1 << 32, 1 << 32, 1 << 32, 65536, 65536, 65536, 8, 32, 256];
-    for (i, &above) in most.iter().enumerate() {
-        for value in [0, 1, 2, above - 1, above, above + 1, u64::MAX] {
-            let mut w = good_write(random);
-            let f = &mut w.fields;
-            let mut slots: Vec<&mut u64> = vec![&mut f.kind, &mut f.level, &mut f.c, &mut f.deleted];
-            slots.extend(&mut f.range);
-            slots.extend([&mut f.graphic_group, &mut f.attribute_index, &mut f.properties]);
-            slots.extend([&mut f.style, &mut f.weight, &mut f.colour]);
-            *slots[i] = value;
-            runs.write(&w);
-        }
+    // each field at its limits and past them
+    for (i, value) in field_limits(11) {
+        let mut w = good_write(random);
+        set_field(&mut w.fields, i, value);
+        runs.write(&w);
     }
     // a slice of fields of another length than 16 is a call made wrongly: 1, and the buffer stays
     let w = good_write(random);

@@ -21,6 +21,7 @@ pub mod judge;
 pub mod layout;
 pub mod linkage;
 pub mod names;
+pub mod range;
 pub mod record;
 pub mod refusal;
 pub mod session;
@@ -45,6 +46,7 @@ pub use indexed::{insert_indexed, mark_indexed, remove_indexed, rename_indexed, 
 pub use judge::{judge, Judged};
 pub use linkage::{linkage, Linkage, LinkageKind};
 pub use names::{pack, unpack};
+pub use range::points_in_range;
 pub use record::{last_record, Record};
 pub use refusal::{FindRefusal, Refusal};
 pub use text::{read_text, text_characters, text_field, texts_from, Field, Text, TextAt};

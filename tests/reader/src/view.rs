@@ -2,6 +2,7 @@
 
 use crate::judge::{judge_seeing, Seen};
 use crate::layout;
+use crate::range;
 use crate::refusal::{self, plain, Refusal};
 use crate::words::{long, word};
 
@@ -31,7 +32,7 @@ pub struct View {
     /// The direct header's place.
     pub header: Option<u64>,
     /// Low x y z, high x y z; none in an element of fewer than 14 words.
-    pub range: Option<[u32; 6]>,
+    pub range: Option<[i32; 6]>,
     pub display: Option<Display>,
     /// The number of points of types 4, 6, 11 and 21.
     pub n: Option<u64>,
@@ -68,11 +69,7 @@ pub fn view(file: &[u8], dim: u64, place: u64) -> Result<View, Refusal> {
     let range = if element.size < 14 {
         None
     } else {
-        let mut six = [0; 6];
-        for (slot, offset) in six.iter_mut().zip([2, 4, 6, 8, 10, 12]) {
-            *slot = long(file, start + offset);
-        }
-        Some(six)
+        Some(range::range(file, start))
     };
     let display = if layout::has_display(kind) {
         let symbology = own(17);

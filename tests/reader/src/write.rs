@@ -2,6 +2,7 @@
 
 use crate::layout;
 use crate::linkage;
+use crate::range;
 use crate::refusal::{self, plain, Refusal};
 use crate::words::{count, put};
 
@@ -13,7 +14,8 @@ pub struct Fields {
     pub level: u64,
     pub c: u64,
     pub deleted: u64,
-    pub range: [u64; 6],
+    /// Low x y z, high x y z.
+    pub range: [i64; 6],
     pub graphic_group: u64,
     pub attribute_index: u64,
     pub properties: u64,
@@ -26,11 +28,10 @@ impl Fields {
     /// Whether each field but the type is in its range.
     pub(crate) fn in_range(&self) -> bool {
         let word = u64::from(u16::MAX);
-        let long = u64::from(u32::MAX);
         self.level <= 63
             && self.c <= 1
             && self.deleted <= 1
-            && self.range.iter().all(|&value| value <= long)
+            && self.range.iter().all(|&end| i32::try_from(end).is_ok())
             && self.graphic_group <= word
             && self.attribute_index <= word
             && self.properties <= word
@@ -58,8 +59,8 @@ impl Fields {
         put(out, 0, first);
         put(out, 1, size - 2);
         let mut next = 2;
-        for value in self.range {
-            put_long(out, &mut next, value);
+        for coordinate in self.range {
+            put_long(out, &mut next, range::stored(coordinate));
         }
         put(out, 14, self.graphic_group);
         put(out, 15, self.attribute_index);

@@ -234,3 +234,24 @@ fn ellipses() {
     // A sweep with its sign bit set, as stored.
     assert_eq!(found[4], (1606, Some((5_400_000, 2_158_283_648)), third));
 }
+
+// The points of every line, line string, shape and curve of the accepted files
+// lie in its range.
+#[test]
+fn ranges() {
+    let mut held = 0;
+    for folder in ["", "texts/"] {
+        for (name, dim, answer, file) in files(folder) {
+            if !answer.starts_with("accepted") {
+                continue;
+            }
+            for start in generate::places::scan(&file).0 {
+                if let Ok(in_range) = points_in_range(&file, dim, start.place) {
+                    assert!(in_range, "{name} at {}", start.place);
+                    held += 1;
+                }
+            }
+        }
+    }
+    assert!(held >= 65, "{held}");
+}

@@ -31,8 +31,10 @@ fn read_all(random: &mut Random, file: &[u8], dim: u64) {
             text_field(file, dim, place, k).err(),
         ];
         let ellipse = read_ellipse(file, dim, place).err();
+        let in_range = points_in_range(file, dim, place).err();
+        let others = [(ellipse, &[15, 16][..]), (in_range, &[3, 4, 6, 11][..])];
         let by_type = texts.map(|answer| (answer, &[17][..]));
-        for (answer, kinds) in by_type.into_iter().chain([(ellipse, &[15, 16][..])]) {
+        for (answer, kinds) in by_type.into_iter().chain(others) {
             match (&judged, answer) {
                 (Ok(_), Some(other)) if other.number == 6 => {
                     assert_eq!(other.place, place);

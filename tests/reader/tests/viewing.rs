@@ -51,12 +51,12 @@ fn fields_of_an_element() {
         depth: 1,
         header: Some(26),
         range: Some([
-            65538,
-            3 << 16 | 4,
-            5 << 16 | 6,
-            7 << 16 | 8,
-            9 << 16 | 10,
-            u32::MAX,
+            i32::MIN + 65538,
+            i32::MIN + (3 << 16 | 4),
+            i32::MIN + (5 << 16 | 6),
+            i32::MIN + (7 << 16 | 8),
+            i32::MIN + (9 << 16 | 10),
+            i32::MAX,
         ]),
         display: Some(Display {
             graphic_group: 77,
@@ -105,7 +105,7 @@ fn fields_by_type() {
         (None, None, None, None)
     );
     let longer = view(&file, 2, 48).unwrap();
-    assert_eq!((longer.range, longer.display), (Some([0; 6]), None));
+    assert_eq!((longer.range, longer.display), (Some([i32::MIN; 6]), None));
     let node = view(&file, 2, 62).unwrap();
     assert_eq!(
         (node.total, node.count, node.name),

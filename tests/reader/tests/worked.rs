@@ -29,11 +29,10 @@ fn both_longs() {
     words[2..4].copy_from_slice(&[0xFFFF, 0xFFFE]);
     let file = file(&[words]);
     assert_eq!(point(&file, 2, 0, 0), Ok(vec![65538, -2]));
-    // "They are given out as unsigned numbers and are not judged."
-    assert_eq!(
-        view(&file, 2, 0).unwrap().range,
-        Some([0xFFFF_FFFE, 0, 0, 0, 0, 0])
-    );
+    // "the coordinate is the unsigned number less 2,147,483,648."
+    let mut range = [i32::MIN; 6];
+    range[0] = i32::MAX - 1;
+    assert_eq!(view(&file, 2, 0).unwrap().range, Some(range));
 }
 
 // "00417 is 49234, 51080; 417 is 55677, 0." and "Word 64000: 12."

@@ -49,11 +49,10 @@ fn fields_out_of_range() {
         );
     }
     type Set = fn(&mut Fields, u64);
-    let limits: [(Set, u64); 10] = [
+    let limits: [(Set, u64); 9] = [
         (|fields, value| fields.level = value, 63),
         (|fields, value| fields.c = value, 1),
         (|fields, value| fields.deleted = value, 1),
-        (|fields, value| fields.range[5] = value, u32::MAX as u64),
         (|fields, value| fields.graphic_group = value, 65535),
         (|fields, value| fields.attribute_index = value, 65535),
         (|fields, value| fields.properties = value, 65535),
@@ -74,6 +73,17 @@ fn fields_out_of_range() {
         for above in [limit + 1, u64::MAX] {
             set(&mut fields, above);
             assert_eq!(try_write(&fields, &four, &[], 2), call);
+        }
+    }
+    for end in 0..6 {
+        let mut fields = good.clone();
+        for value in [i64::from(i32::MIN), i64::from(i32::MAX)] {
+            fields.range[end] = value;
+            assert_eq!(try_write(&fields, &four, &[], 2), Ok(26));
+            for outside in [value + value.signum(), value * 2, -value * 2] {
+                fields.range[end] = outside;
+                assert_eq!(try_write(&fields, &four, &[], 2), call);
+            }
         }
     }
     for length in [0, 1, 2, 3, 5, 6, 8] {

@@ -47,12 +47,10 @@ fn run(call: &TextWrite, out: &mut [u8]) -> Result<u64, Refusal> {
 fn arguments_out_of_range() {
     let call = refused(1, 0);
     type Set = fn(&mut TextFields, u64);
-    let limits: [(Set, u64); 16] = [
+    let limits: [(Set, u64); 14] = [
         (|text, value| text.header.level = value, 63),
         (|text, value| text.header.c = value, 1),
         (|text, value| text.header.deleted = value, 1),
-        (|text, value| text.header.range[0] = value, u32::MAX as u64),
-        (|text, value| text.header.range[5] = value, u32::MAX as u64),
         (|text, value| text.header.graphic_group = value, 65535),
         (|text, value| text.header.attribute_index = value, 65535),
         (|text, value| text.header.style = value, 7),
@@ -114,6 +112,15 @@ fn arguments_out_of_range() {
                 text.origin[axis] = value;
                 assert_eq!(try_write(&text, &[], &[], &[], dim), Ok(base));
                 text.origin[axis] = value + value.signum();
+                assert_eq!(try_write(&text, &[], &[], &[], dim), call);
+            }
+        }
+        for end in 0..6 {
+            let mut text = good.clone();
+            for value in [i64::from(i32::MIN), i64::from(i32::MAX)] {
+                text.header.range[end] = value;
+                assert_eq!(try_write(&text, &[], &[], &[], dim), Ok(base));
+                text.header.range[end] = value + value.signum();
                 assert_eq!(try_write(&text, &[], &[], &[], dim), call);
             }
         }
@@ -247,7 +254,7 @@ fn words_of_a_text() {
     text.header.level = 41;
     text.header.c = 1;
     text.header.deleted = 1;
-    text.header.range = [65_538, 2, 3, 4, 5, 0xFFFF_FFFE];
+    text.header.range = [65_538, 0, -1, i64::from(i32::MIN), i64::from(i32::MAX), -2];
     text.header.graphic_group = 77;
     text.header.attribute_index = 88;
     text.header.properties = 0xF7FF;
@@ -268,17 +275,17 @@ fn words_of_a_text() {
     let wanted = [
         17 << 8 | 1 << 15 | 1 << 7 | 41,
         34,
-        1,
+        0x8001,
         2,
+        0x8000,
         0,
-        2,
-        0,
-        3,
-        0,
-        4,
-        0,
-        5,
+        0x7FFF,
         65535,
+        0,
+        0,
+        65535,
+        65535,
+        0x7FFF,
         65534,
         77,
         88,

@@ -1,5 +1,4 @@
 -- Each store is in the slice; the numbers are as they were.
-use mathlib.Core.Path.{_≡_}
 use native.Mathlib.Omega.{arith}
 use lib.ListN.{length-set}
 use mir.Syntax.{w64}

@@ -1,6 +1,6 @@
--- By the type; where no word stands it is 0, so a curve lies in the file (curve-inside).
+-- By the type; where no word stands it is 0, so a curve lies in the file (`type-inside`).
 use mathlib.Core.Path.{refl, sym, ap, _∙_}
-use Rattle.curve_views.proofs.Laws.{curve-inside}
+use Rattle.places.proofs.OfType.{type-inside}
 use borrow.Author.Tests.{not-true, not-false}
 use Rattle.kinds.specs.Kinds.{isCurve}
 use Rattle.curve_views.specs.CurveViews.{curveIn}
@@ -22,7 +22,7 @@ curve-from-requires : tie.Need-curve-from-requires
 curve-from-requires c κs =
     let is = c .before .before .type-at .ensures in
     let k = sym (c .before .is-curve .ensures) ∙ not-false _ (c .if1 .left) in
-    (is, (k, curve-inside (c .before .before .before .before .args .file .now) (c .before .before .before .before .args .at) (rw (sym is) k)))
+    (is, (k, type-inside isCurve refl (c .before .before .before .before .args .file .now) (c .before .before .before .before .args .at) (rw (sym is) k)))
 
 returns-2 : tie.Need-returns-2
 unfolding curveIn

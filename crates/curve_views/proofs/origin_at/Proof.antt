@@ -6,7 +6,6 @@ use native.Mathlib.Omega.{arith}
 use lib.Dec.{eqb}
 use borrow.Author.Tests.{eq-eqb, ne-eqb}
 use Rattle.curve_views.specs.CurveViews.{originAt}
-use borrow.Author.Needs.{needs}
 use Rattle.curve_views.proofs.origin_at.Statement.{statement}
 use Rattle.curve_views.proofs.origin_at.Tie as tie
 

@@ -1,8 +1,8 @@
 -- Each way of the call; a refusal is small, so its one number fits.
-use mathlib.Core.Path.{sym, ap, _∙_, subst}
+use mathlib.Core.Path.{sym, ap, _∙_}
 use native.Mathlib.Omega.{arith}
 use Rattle.curve_views.specs.CurveViews.{curveOf}
-use Rattle.dgn_curve.specs.CurveReplies.{curveReply, CurveReplied}
+use Rattle.dgn_curve.specs.CurveReplies.{curveReply}
 use Rattle.dgn_curve.proofs.Done.{few-numbers, few-floats, replied-as, put-there}
 use Rattle.dgn_curve.proofs.Small.{curve-refused-small}
 use borrow.Author.Needs.{needs}

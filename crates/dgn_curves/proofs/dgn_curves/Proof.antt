@@ -2,9 +2,9 @@
 use mathlib.Core.Path.{sym, _∙_}
 use native.Mathlib.Omega.{arith}
 use lib.ListN.{length, length-set}
-use Rattle.order.proofs.Calls.{GoesOn, goes-on}
+use Rattle.order.proofs.Calls.{GoesOn, goes-on, goes-few}
 use Rattle.dgn_curves.specs.Curves.{both}
-use Rattle.dgn_curves.proofs.Replies.{curves-refused, curves-full, curves-done, accepted-few}
+use Rattle.dgn_curves.proofs.Replies.{curves-refused, curves-full, curves-done}
 use borrow.Author.Needs.{needs}
 use Rattle.dgn_curves.proofs.dgn_curves.Statement.{statement}
 use Rattle.dgn_curves.proofs.dgn_curves.Tie as tie
@@ -30,7 +30,7 @@ enum-known-elements : tie.Need-enum-known-elements
 enum-known-elements c = search needs
 
 put-curves-requires : tie.Need-put-curves-requires
-put-curves-requires c κs = accepted-few _ _ _ _ (goes (c .before .before .before))
+put-curves-requires c κs = goes-few _ _ _ _ _ (goes (c .before .before .before))
 
 none-fits-requires : tie.Need-none-fits-requires
 none-fits-requires c κs = search needs

@@ -1,7 +1,8 @@
 -- -1 stands for no byte where there is none (`none`), any other number for itself (`other`).
 use mathlib.Core.Path.{ap, _∙_}
-use Rattle.dgn_text_writer.specs.Writing.{natural}
-use Rattle.dgn_text_writer.proofs.Numbers.{back, none, other}
+use Rattle.write_answers.specs.Writing.{natural}
+use Rattle.write_answers.proofs.Numbers.{back}
+use Rattle.dgn_text_writer.proofs.Numbers.{none, other}
 use borrow.Author.Needs.{needs}
 use Rattle.dgn_text_writer.proofs.odd_of.Statement.{statement}
 use Rattle.dgn_text_writer.proofs.odd_of.Tie as tie

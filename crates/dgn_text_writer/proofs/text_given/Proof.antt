@@ -3,8 +3,10 @@ use mathlib.Core.Path.{ap, _∙_}
 use Rattle.headers.proofs.Checks.{refused, accepted}
 use borrow.Author.Tests.{eq-eqb, ne-eqb}
 use Rattle.fields.proofs.Bounds.{and-no, and-on}
-use Rattle.dgn_text_writer.specs.Writing.{numberAt, isCoordinate, textGiven}
-use Rattle.dgn_text_writer.proofs.Numbers.{back}
+use Rattle.ranges.specs.Ranges.{isCoordinate}
+use Rattle.write_answers.specs.Writing.{numberAt}
+use Rattle.write_answers.proofs.Numbers.{back}
+use Rattle.dgn_text_writer.specs.Writing.{textGiven}
 use borrow.Author.Needs.{needs}
 use Rattle.dgn_text_writer.proofs.text_given.Statement.{statement}
 use Rattle.dgn_text_writer.proofs.text_given.Tie as tie

@@ -3,8 +3,11 @@ use mathlib.Core.Path.{ap, _∙_}
 use native.Mathlib.Omega.{arith}
 use lib.Dec.{eqb}
 use Prim.Native.Nat.{_%_}
-use Rattle.dgn_text_writer.specs.Writing.{numberAt, natural, oddBy}
-use Rattle.dgn_text_writer.proofs.Numbers.{back, cast-fits, cast-is, given, same-text}
+use Rattle.ranges.proofs.Ranges.{cast-fits, cast-is}
+use Rattle.write_answers.specs.Writing.{numberAt, natural}
+use Rattle.write_answers.proofs.Numbers.{back}
+use Rattle.dgn_text_writer.specs.Writing.{oddBy}
+use Rattle.dgn_text_writer.proofs.Numbers.{given, same-text}
 use borrow.Author.Needs.{needs}
 use Rattle.dgn_text_writer.proofs.text_of.Statement.{statement}
 use Rattle.dgn_text_writer.proofs.text_of.Tie as tie
@@ -75,7 +78,7 @@ shared-slice-copy-out-t28 c =
 cast-t29 : tie.Need-cast-t29
 cast-t29 c =
     let start = c .before .before .before .before .before .before .before .before .before .before .before .before .before .before .before .before .before in
-    let g = given _ (start .pre) in cast-fits (numberAt (start .args .text .now) 8) (record { sfits = (c .t28 .given) }) (g .x)
+    let g = given _ (start .pre) in cast-fits (numberAt (start .args .text .now) 8) (g .x)
 
 shared-slice-copy-out-t31 : tie.Need-shared-slice-copy-out-t31
 shared-slice-copy-out-t31 c =
@@ -85,7 +88,7 @@ shared-slice-copy-out-t31 c =
 cast-t32 : tie.Need-cast-t32
 cast-t32 c =
     let start = c .before .before .before .before .before .before .before .before .before .before .before .before .before .before .before .before .before .before in
-    let g = given _ (start .pre) in cast-fits (numberAt (start .args .text .now) 9) (record { sfits = (c .t31 .given) }) (g .y)
+    let g = given _ (start .pre) in cast-fits (numberAt (start .args .text .now) 9) (g .y)
 
 shared-slice-copy-out-t34 : tie.Need-shared-slice-copy-out-t34
 shared-slice-copy-out-t34 c =
@@ -95,7 +98,7 @@ shared-slice-copy-out-t34 c =
 cast-t35 : tie.Need-cast-t35
 cast-t35 c =
     let start = c .before .before .before .before .before .before .before .before .before .before .before .before .before .before .before .before .before .before .before in
-    let g = given _ (start .pre) in cast-fits (numberAt (start .args .text .now) 10) (record { sfits = (c .t34 .given) }) (g .z)
+    let g = given _ (start .pre) in cast-fits (numberAt (start .args .text .now) 10) (g .z)
 
 shared-slice-copy-out-odd-of : tie.Need-shared-slice-copy-out-odd-of
 shared-slice-copy-out-odd-of c =
@@ -136,9 +139,9 @@ returns c =
     ((at-natural6 .natural6 .ensures) ∙ ap natural (back (numberAt (start .args .text .now) 5) (record { sfits = (at-natural-arg6 .natural-arg6 .given) })))
     ((at-natural7 .natural7 .ensures) ∙ ap natural (back (numberAt (start .args .text .now) 6) (record { sfits = (at-natural-arg7 .natural-arg7 .given) })))
     ((at-natural8 .natural8 .ensures) ∙ ap natural (back (numberAt (start .args .text .now) 7) (record { sfits = (at-natural-arg8 .natural-arg8 .given) })))
-    (cast-is (numberAt (start .args .text .now) 8) (record { sfits = (at-t28 .t28 .given) }) (g .x))
-    (cast-is (numberAt (start .args .text .now) 9) (record { sfits = (at-t31 .t31 .given) }) (g .y))
-    (cast-is (numberAt (start .args .text .now) 10) (record { sfits = (c .before .before .t34 .given) }) (g .z))
+    (cast-is (numberAt (start .args .text .now) 8) (g .x))
+    (cast-is (numberAt (start .args .text .now) 9) (g .y))
+    (cast-is (numberAt (start .args .text .now) 10) (g .z))
     ((c .odd-of .ensures) ∙ ap (oddBy (eqb ((start .args .n) % 2) 0)) (back (numberAt (start .args .text .now) 11) (record { sfits = (c .before .odd-of-arg .given) })))
 
 pub text-of-spec : {M : Type 1} → statement M

@@ -1,9 +1,26 @@
--- With fewer than 14 words there is no range; else each long is read at its place.
-use borrow.Author.Tests.{le-leb, lt-leb}
+-- With fewer than 14 words there is no range; else it is read of a part of the file that begins with the element (`six-rest`, `six-front`).
+use Prim.Native.Nat.{_+_, _-_, _*_, _/_, _≤_, _<_}
+use mathlib.Core.Path.{_∙_}
+use native.Mathlib.Omega.{arith}
+use lib.ListN.{length}
+use borrow.Author.Tests.{lt-leb}
+use Rattle.words.specs.Words.{words}
+use Rattle.headers.specs.Header.{sizeAt}
 use Rattle.views.specs.Views.{rangeOf}
+use Rattle.views.proofs.Known.{size-inside, six-rest, six-front, range-six}
 use borrow.Author.Needs.{needs}
 use Rattle.views.proofs.range_at.Statement.{statement}
 use Rattle.views.proofs.range_at.Tie as tie
+
+abbrev start : tie.Else1 → tie.Start
+start c = c .before .before .before
+
+-- the element has the words, and its size stands in the file
+has : (c : tie.Else1) → 14 ≤ sizeAt (words (start c .args .file .now)) (start c .args .at)
+has c = rw (c .before .size-at .ensures) at (c .if1 .left)
+
+inside : (c : tie.Else1) → start c .args .at + 1 < length (start c .args .file .now) / 2
+inside c = let h = has c in size-inside (start c .args .file .now) (start c .args .at) (omega arith)
 
 size-at-requires : tie.Need-size-at-requires
 size-at-requires c κs = search needs
@@ -12,60 +29,50 @@ returns : tie.Need-returns
 unfolding rangeOf
 returns c = rw (lt-leb 14 _ (rw (c .before .size-at .ensures) at (c .if1 .taken)))
 
-add-long : tie.Need-add-long
-add-long c = search needs
+mul-start : tie.Need-mul-start
+mul-start c = omega (arith, inside c)
 
-long-requires : tie.Need-long-requires
-long-requires c κs = search needs
+sub-if2 : tie.Need-sub-if2
+sub-if2 c = omega (arith, inside c)
 
-add-long-2 : tie.Need-add-long-2
-add-long-2 c = search needs
+sub-range-in : tie.Need-sub-range-in
+sub-range-in c = omega (arith, inside (c .before))
 
-long-requires-2 : tie.Need-long-requires-2
-long-requires-2 c κs = search needs
+part-range-in-start : tie.Need-part-range-in-start
+part-range-in-start c = omega (arith, inside (c .before))
 
-add-long-3 : tie.Need-add-long-3
-add-long-3 c = search needs
+part-range-in-end : tie.Need-part-range-in-end
+part-range-in-end c = search needs
 
-long-requires-3 : tie.Need-long-requires-3
-long-requires-3 c κs = search needs
-
-add-long-4 : tie.Need-add-long-4
-add-long-4 c = search needs
-
-long-requires-4 : tie.Need-long-requires-4
-long-requires-4 c κs = search needs
-
-add-long-5 : tie.Need-add-long-5
-add-long-5 c = search needs
-
-long-requires-5 : tie.Need-long-requires-5
-long-requires-5 c κs = search needs
-
-add-long-6 : tie.Need-add-long-6
-add-long-6 c = search needs
-
-long-requires-6 : tie.Need-long-requires-6
-long-requires-6 c κs = search needs
+range-in-requires : tie.Need-range-in-requires
+range-in-requires c κs = search needs
 
 returns-2 : tie.Need-returns-2
-unfolding rangeOf
 returns-2 c =
-    let at-long3 = c .before .before .before in
-    let at-long2 = at-long3 .before in
-    let at-long = at-long2 .before in
-    let at-if1 = at-long .before in
-    let at-size-at = at-if1 .before in
-    rw (
-      (at-long .long .ensures .is),
-      (at-long2 .long2 .ensures .is),
-      (at-long3 .long3 .ensures .is),
-      (c .before .before .long4 .ensures .is),
-      (c .before .long5 .ensures .is),
-      (c .long6 .ensures .is),
-      le-leb 14 _
-          (rw (at-size-at .size-at .ensures) at (at-if1 .if1 .left)),
-    )
+    let at-if1 = c .before .before .before in
+    let a = start at-if1 .args in
+    range-six (a .file .now) (a .at) (has at-if1) (c .range-in .ensures ∙ six-rest (a .file .now) (a .at))
+
+add-end : tie.Need-add-end
+add-end c = search needs
+
+sub-range-in-2 : tie.Need-sub-range-in-2
+sub-range-in-2 c = search needs
+
+part-range-in-start-2 : tie.Need-part-range-in-start-2
+part-range-in-start-2 c = search needs
+
+part-range-in-end-2 : tie.Need-part-range-in-end-2
+part-range-in-end-2 c = search needs
+
+range-in-requires-2 : tie.Need-range-in-requires-2
+range-in-requires-2 c κs = search needs
+
+returns-3 : tie.Need-returns-3
+returns-3 c =
+    let at-if1 = c .before .before .before in
+    let a = start at-if1 .args in
+    range-six (a .file .now) (a .at) (has at-if1) (c .range-in2 .ensures ∙ six-front (a .file .now) (a .at) (2 * a .at + 28 - 2 * a .at) (omega arith))
 
 pub range-at-spec : {M : Type 1} → statement M
 range-at-spec =
@@ -73,16 +80,16 @@ range-at-spec =
     (tie.spec
     size-at-requires
     returns
-    add-long
-    long-requires
-    add-long-2
-    long-requires-2
-    add-long-3
-    long-requires-3
-    add-long-4
-    long-requires-4
-    add-long-5
-    long-requires-5
-    add-long-6
-    long-requires-6
-    returns-2)
+    mul-start
+    sub-if2
+    sub-range-in
+    part-range-in-start
+    part-range-in-end
+    range-in-requires
+    returns-2
+    add-end
+    sub-range-in-2
+    part-range-in-start-2
+    part-range-in-end-2
+    range-in-requires-2
+    returns-3)

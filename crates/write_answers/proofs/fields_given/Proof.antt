@@ -1,5 +1,8 @@
 -- Each test decides its part of the definition.
+use mathlib.Core.Path.{ap}
+use lib.Dec.{leb}
 use borrow.Author.Tests.{eq-eqb, ne-eqb, lt-leb, le-leb}
+use Rattle.fields.proofs.Bounds.{and-no, and-on}
 use Rattle.write_answers.specs.Writing.{fieldsGiven}
 use borrow.Author.Needs.{needs}
 use Rattle.write_answers.proofs.fields_given.Statement.{statement}
@@ -7,22 +10,25 @@ use Rattle.write_answers.proofs.fields_given.Tie as tie
 
 returns : tie.Need-returns
 unfolding fieldsGiven
-returns c = simp (ne-eqb _ 16 ((c .if1 .taken)))
+returns c = and-no _ (ne-eqb _ 16 (c .if1 .taken))
 
-shared-slice-read-if2 : tie.Need-shared-slice-read-if2
-shared-slice-read-if2 c = search needs
+natural-at-requires : tie.Need-natural-at-requires
+natural-at-requires c κs = search needs
 
 returns-2 : tie.Need-returns-2
 unfolding fieldsGiven
-returns-2 c = simp (eq-eqb _ 16 ((c .before .before .if1 .left)), lt-leb _ 1 ((c .if2 .taken)))
+returns-2 c = and-on (eq-eqb _ 16 (c .before .before .if1 .left)) (and-no _ (lt-leb _ 1 (rw (c .before .natural-at .ensures) at (c .if2 .taken))))
 
-shared-slice-read-result : tie.Need-shared-slice-read-result
-shared-slice-read-result c = search needs
+natural-at-requires-2 : tie.Need-natural-at-requires-2
+natural-at-requires-2 c κs = search needs
 
 returns-3 : tie.Need-returns-3
 unfolding fieldsGiven
-returns-3 c = rw (eq-eqb _ 16 ((c .before .before .before .if1 .left)), le-leb _ 1 ((c .before .if2 .left)))
+returns-3 c =
+    let at-if2 = c .before in
+    and-on (eq-eqb _ 16 (at-if2 .before .before .if1 .left))
+    (and-on (le-leb _ 1 (rw (at-if2 .before .natural-at .ensures) at (at-if2 .if2 .left))) (ap (λ n. leb n 1) (c .natural-at2 .ensures)))
 
 pub fields-given-spec : {M : Type 1} → statement M
 fields-given-spec =
-    tie.close (tie.spec returns shared-slice-read-if2 returns-2 shared-slice-read-result returns-3)
+    tie.close (tie.spec returns natural-at-requires returns-2 natural-at-requires-2 returns-3)

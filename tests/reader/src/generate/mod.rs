@@ -16,6 +16,7 @@ pub mod large;
 pub mod moves;
 pub mod places;
 pub mod random;
+pub mod ranges;
 pub mod sessions;
 mod targets;
 pub mod text;
@@ -31,4 +32,5 @@ pub use indexes::{any_index, indexed_session, rough_indexed_session, IndexedSess
 pub use journals::undo_state;
 pub use places::{place, places};
 pub use random::Random;
+pub use ranges::ranges;
 pub use sessions::{next_call, rough_session, rough_state, session, session_from, Session};

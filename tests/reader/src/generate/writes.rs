@@ -79,7 +79,7 @@ pub fn good_header(random: &mut Random, kind: u64, fixed: usize) -> (Fields, Vec
     }
     let mut range = [0; 6];
     for value in &mut range {
-        *value = random.draw() & 0xFFFF_FFFF;
+        *value = i64::from(random.draw() as i32);
     }
     let fields = Fields {
         kind,
@@ -105,7 +105,10 @@ pub fn spoil_header(random: &mut Random, fields: &mut Fields) {
         1 => fields.level = random.pick(&[64, far]),
         2 => fields.c = random.pick(&[2, far]),
         3 => fields.deleted = random.pick(&[2, far]),
-        4 => fields.range[random.index(6)] = random.pick(&[1 << 32, u64::MAX]),
+        4 => {
+            let outside = [1 << 31, -(1 << 31) - 1, 1 << 32, i64::MAX, i64::MIN];
+            fields.range[random.index(6)] = random.pick(&outside);
+        }
         5 => fields.graphic_group = random.pick(&[65536, u64::MAX]),
         6 => fields.attribute_index = random.pick(&[65536, u64::MAX, 65535, 0, 9]),
         7 => fields.properties = random.pick(&[65536, u64::MAX, 2048]),

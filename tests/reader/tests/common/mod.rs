@@ -176,7 +176,7 @@ pub fn fields_of(view: &View) -> Fields {
         level: view.level,
         c: u64::from(view.c),
         deleted: u64::from(view.deleted),
-        range: view.range.unwrap().map(u64::from),
+        range: view.range.unwrap().map(i64::from),
         graphic_group: display.graphic_group,
         attribute_index: display.attribute_index,
         properties: display.properties,

@@ -1,0 +1,4 @@
+pub mod Puts
+pub mod Replies
+pub mod All
+pub mod Small

@@ -1,0 +1,4 @@
+pub mod Check
+pub mod Ranges
+pub mod Answers
+pub mod Calls
