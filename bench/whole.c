@@ -1,4 +1,4 @@
-/* All views, points, texts, ellipses and arcs, and ranges of a file in plain C, for the bench alone: judges once by plain_judge
+/* All views, points, texts, ellipses and arcs, ranges, and plates of a file in plain C, for the bench alone: judges once by plain_judge
  * and then goes from element to element and fills in the numbers of include/dgn.h, written from the rules. From an element
  * number on, and as many as there is room for. It promises nothing beyond what the bench compares. */
 #include <stdbool.h>
@@ -303,6 +303,70 @@ size_t plain_curves(const uint8_t *file, size_t len, size_t dim, size_t k, int64
             f[4] = 0.0;
             for (size_t i = 0; i < dim; i++)
                 f[2 + i] = float_at(p, origin + 4 * i);
+        }
+        at += word(p, 1) + 2;
+    }
+    out[0] = e > k ? e : k;
+    out[1] = n;
+    return 0;
+}
+
+/* The kind of a type on a plate: lines, what has points, texts, ellipses and arcs, headers, others. */
+static inline size_t kind(unsigned type)
+{
+    if (type == 3)
+        return 0;
+    if (among(pointed, type))
+        return 1;
+    if (type == 17)
+        return 2;
+    if (type == 15 || type == 16)
+        return 3;
+    return among(headers, type) ? 4 : 5;
+}
+
+/* The nine numbers of the plate of the cell at a place. */
+static inline void count(const uint8_t *file, size_t at, unsigned type, int64_t *v)
+{
+    const uint8_t *p = file + 2 * at;
+    const size_t name = type == 1 ? 16 : 19, end = at + 19 + word(p, 18);
+    uint64_t mask;
+    memset(v, 0, 9 * sizeof *v);
+    v[0] = word(p, name);
+    v[1] = word(p, name + 1);
+    for (size_t next = at + word(p, 1) + 2; next < end;) {
+        const uint8_t *q = file + 2 * next;
+        const unsigned first = word(q, 0), under = first >> 8 & 127;
+        if (!(first >> 15))
+            v[2 + kind(under)]++;
+        next += among(headers, under) ? 19 + word(q, 18) : word(q, 1) + 2;
+    }
+    memcpy(&mask, p + 44, sizeof mask);
+    v[8] = __builtin_popcountll(mask);
+}
+
+/* The plates of the cells from element number k on, 11 numbers each, out the next element number and how many; or the number of a
+ * refusal, and nothing is written. */
+size_t plain_plates(const uint8_t *file, size_t len, size_t dim, size_t k, int64_t *numbers, size_t room, size_t *out)
+{
+    size_t judged[3];
+    size_t number = plain_judge(file, len, dim, judged);
+    if (number != 0)
+        return number;
+    size_t at = 0, n = 0, e = 0;
+    for (; e < judged[0]; e++) {
+        const uint8_t *p = file + 2 * at;
+        unsigned first = word(p, 0), type = first >> 8 & 127;
+        if (e >= k && (type == 1 || type == 2)) {
+            if (room < 11 * (n + 1)) {
+                if (n == 0)
+                    return 15;
+                break;
+            }
+            int64_t *v = numbers + 11 * n++;
+            v[0] = (int64_t)at;
+            v[1] = first >> 15;
+            count(file, at, type, v + 2);
         }
         at += word(p, 1) + 2;
     }

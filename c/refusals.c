@@ -20,7 +20,7 @@ static const char *const texts[][2] = {
     {"ROOM", "The buffer is too small for what is to be written there."},
     {"JOURNAL", "The journal has too little room for the record of this edit."},
     {"NOTHING", "No edit is left in the journal."},
-    {"NOT A CELL", "Only a cell can be renamed."},
+    {"NOT A CELL", "Only a cell can be renamed, and only a cell has a plate."},
     {"BAD JOURNAL", "The journal's last record is damaged, or cannot be reversed in the file as it is."},
     {"FIELD", "An enter-data field of a text lies outside its characters or has an unknown justification."},
     {"FLOAT", "A float of an ellipse or an arc is no number."},

@@ -31,10 +31,11 @@
  *                             counts from the piece's start
  *
  * Cost. Each call that is handed a file judges all of it: one pass, on the machine of docs/BENCH.md below a millisecond
- * for 1 MiB. To read all elements use dgn_views, dgn_points, dgn_texts, dgn_curves and dgn_ranges, which make one pass for
- * many elements; dgn_view, dgn_point, dgn_text, dgn_curve and dgn_in_range make one for each. With room for
- * DGN_FILE_ELEMENTS views, DGN_FILE_NUMBERS numbers of points, DGN_FILE_TEXTS texts, DGN_FILE_CURVES ellipses and arcs and
- * DGN_FILE_RANGES places one call of each reads any file. Nothing is allocated, and 256 KiB of stack are enough.
+ * for 1 MiB. To read all elements use dgn_views, dgn_points, dgn_texts, dgn_curves, dgn_ranges and dgn_plates, which make one
+ * pass for many elements; dgn_view, dgn_point, dgn_text, dgn_curve, dgn_in_range and dgn_plate make one for each. With room
+ * for DGN_FILE_ELEMENTS views, DGN_FILE_NUMBERS numbers of points, DGN_FILE_TEXTS texts, DGN_FILE_CURVES ellipses and arcs,
+ * DGN_FILE_RANGES places and DGN_FILE_CELLS plates one call of each reads any file. Nothing is allocated, and 256 KiB of stack
+ * are enough.
  *
  * Threads. The library keeps no state: calls may be made from any threads at once, on separate buffers. A buffer that a
  * call writes to is no other thread's until it returns.
@@ -88,8 +89,8 @@ extern "C" {
 
 /* ---- refusals ---- */
 
-/* 2 to 12, 20 and 21 are of a file or a piece, some of them of what is handed to a writer, 14 and 16 to 19 of editing, 22 of a
- * stored journal.
+/* 2 to 12, 20 and 21 are of a file or a piece, some of them of what is handed to a writer, 14 and 16 to 19 of editing, 18 of a
+ * plate too, 22 of a stored journal.
  * The names of 5 and 9 are PLACE and COUNT; DGN_PLACE and DGN_COUNT take an answer apart. */
 enum dgn_refusal {
     DGN_DONE = 0,
@@ -110,7 +111,7 @@ enum dgn_refusal {
     DGN_ROOM = 15,        /* an output or file buffer is too small */
     DGN_JOURNAL = 16,     /* too few free journal words */
     DGN_NOTHING = 17,     /* the journal is empty */
-    DGN_NOT_A_CELL = 18,  /* rename of another type */
+    DGN_NOT_A_CELL = 18,  /* rename or plate of another type */
     DGN_BAD_JOURNAL = 19, /* the last record is ill-formed, or may not be reversed in this file */
     DGN_FIELD = 20,       /* an enter-data field of a text is wrong */
     DGN_FLOAT = 21,       /* a float of an ellipse or an arc is no number */
@@ -248,6 +249,18 @@ enum { DGN_RANGES_NEXT, DGN_RANGES_COUNT };
 #define DGN_RANGES_NUMBERS 2
 size_t dgn_ranges(const uint8_t *file, size_t len, size_t dimension, size_t k, int64_t *places, size_t places_len, size_t *out, size_t out_len);
 
+/* The plates of the cells (types 1 and 2, deleted ones too) among the elements number k, k+1, .. Each gives 11 numbers: these two,
+ * then the 9 of dgn_plate; as many plates as `numbers` holds whole, and what stands behind them stays. out needs 2: the number of
+ * the element to go on with, as for dgn_points, and how many plates. 15 where one is left and `numbers` has fewer than 11. */
+enum dgn_plates_index {
+    DGN_PLATES_PLACE = 0,
+    DGN_PLATES_DELETED = 1,       /* 1 where the cell itself is deleted */
+    DGN_PLATES_PLATE = 2          /* the first of the 9 */
+};
+enum { DGN_PLATES_NEXT, DGN_PLATES_COUNT };
+#define DGN_PLATES_NUMBERS 11
+size_t dgn_plates(const uint8_t *file, size_t len, size_t dimension, size_t k, int64_t *numbers, size_t numbers_len, size_t *out, size_t out_len);
+
 /* ---- one element: the one that starts at `place`. Refusals of each: 1, the file's own, 13 ---- */
 
 /* Its extent. out needs 2: its first word and the word after its last. */
@@ -333,6 +346,26 @@ enum dgn_curve_float_index {
 /* numbers needs 7 and floats 5; what stands behind them stays. Refusals: 1 (also shorter slices), the file's own, 13, 6 at the
  * place of an element of another type. */
 size_t dgn_curve(const uint8_t *file, size_t len, size_t dimension, size_t place, int64_t *numbers, size_t numbers_len, double *floats, size_t floats_len);
+
+/* ---- the plate of a cell: of the element of type 1 or 2 that starts at `place`, be it live or deleted ---- */
+
+/* Its numbers. Of the direct components the live ones are counted, each once and as one kind: a header as one, whatever stands
+ * beneath it. */
+enum dgn_plate_index {
+    DGN_PLATE_NAME = 0,           /* the two words of its name, see dgn_unpack */
+    DGN_PLATE_NAME_2 = 1,
+    DGN_PLATE_LINES = 2,          /* type 3 */
+    DGN_PLATE_POINTED = 3,        /* types 4, 6, 11 and 21 */
+    DGN_PLATE_TEXTS = 4,          /* type 17 */
+    DGN_PLATE_CURVES = 5,         /* types 15 and 16 */
+    DGN_PLATE_HEADERS = 6,        /* types 1, 2, 7, 12, 14, 18 and 19 */
+    DGN_PLATE_OTHERS = 7,         /* all others */
+    DGN_PLATE_LEVELS = 8          /* the one bits of its mask, words 22 to 25: 0 to 64 */
+};
+#define DGN_PLATE_NUMBERS 9
+
+/* out needs 9. Refusals: 1, the file's own, 13, 18 at 0 for an element of another type. */
+size_t dgn_plate(const uint8_t *file, size_t len, size_t dimension, size_t place, int64_t *out, size_t out_len);
 
 /* ---- names ---- */
 

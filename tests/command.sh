@@ -104,7 +104,7 @@ cd "$work/odd" || exit 1
 
 # outputs that cannot be written
 full() { "$@" > /dev/full 2> "$work/err"; [ $? -eq 3 ] && says "standard output cannot be written"; }
-for arguments in "--help" "--version" "help --man" "check samples" "list samples/seals.cel" "parts samples/seals.cel" \
+for arguments in "--help" "--version" "help --man" "check samples" "list samples/seals.cel" "parts samples/seals.cel" "plates samples/seals.cel" \
     "find 417 samples" "index samples/seals.cel" "lookup samples/seals.cel.dgnidx 417" "text samples/plate.dgn" "show samples/seals.cel 417" "compare samples/seals.cel samples/nested.dgn"; do
     # shellcheck disable=SC2086
     check "a full disk: $arguments" full "$program" $arguments
@@ -135,7 +135,7 @@ check "names by a list and others" ends 2 "$program" check --from none samples
 # what is no file
 mkfifo pipe
 for what in /dev/null /dev/zero pipe samples none; do
-    for subcommand in list parts text "show x.dgn" "find 417"; do
+    for subcommand in list parts plates text "show x.dgn" "find 417"; do
         case $subcommand in
         "show x.dgn") ends 3 "$program" show "$what" 417 ;;
         "find 417") [ "$what" = samples ] || ends 3 "$program" find 417 "$what" ;;
@@ -264,6 +264,17 @@ find samples tests -name '*.dgn' | sort > names && split -d -n l/3 names names.
 for k in names.*; do "$program" check --tsv --from $k; done > joined
 check "tsv lines of a list that is split" cmp joined <("$program" check --tsv --from names)
 check "tsv: 17 columns" test "$("$program" check --tsv samples tests none | awk -F '\t' '{ print NF }' | sort -u)" = 17
+
+# the plates are those of the program platelist, on all samples and real files that it accepts as 2D
+plates() { "$program" plates --2d --tsv "$1" 2> /dev/null | cut -f 3-11 | tr '\t' ' ' | sed 's/ $//'; }
+listed=0
+for file in $(find samples tests/real -name '*.dgn' -o -name '*.cel'); do
+    "$top/target/bin/platelist" < "$file" > platelist.out
+    grep -q REFUSED platelist.out && continue
+    check "plates of $file" cmp platelist.out <(plates "$file")
+    listed=$((listed + $(wc -l < platelist.out)))
+done
+check "plates: how many" test $listed -gt 40
 
 # the first run, in a copy where nothing is built, with a stand-in for rt that fails, then with the archive; and the second
 cd "$top" || exit 1

@@ -318,6 +318,42 @@ static void curves(void)
     fresh_floats();
 }
 
+/* a deleted 2D cell with a line, a deleted line and a cell of no name that holds a raw element of two words, and the end marker; of the
+ * mask of the first 18 bits are set */
+static uint8_t catalogue[294];
+#define OUTER 49234, 51080, 1, 0, 0, 0, 1, 0, 18
+#define INNER 0, 0, 0, 0, 0, 0, 0, 1, 0
+
+static void plates(void)
+{
+    static const unsigned words[][2] = {{0, DGN_CELL << 8 | 32768}, {1, 44}, {18, 127}, {19, 49234}, {20, 51080}, {22, 1}, {23, 32768}, {24, 65535},
+                                        {46, DGN_LINE << 8 | 128}, {47, 24}, {72, DGN_LINE << 8 | 32768 | 128}, {73, 24},
+                                        {98, DGN_CELL << 8 | 128}, {99, 44}, {116, 29}, {144, 5 << 8 | 128}, {146, DGN_END_MARKER}};
+    const size_t size = sizeof catalogue;
+    for (size_t i = 0; i < sizeof words / sizeof *words; i++)
+        put_in(catalogue, words[i][0], words[i][1]);
+
+    fresh();
+    check(dgn_plate(catalogue, size, 2, 0, fresh_numbers(), 9) == 0 && NUMBERS_ARE(OUTER), "the plate of a deleted cell");
+    check(dgn_plate(catalogue, size, 2, 98, fresh_numbers(), ROOM) == 0 && NUMBERS_ARE(INNER), "the plate of a cell in it");
+    check(dgn_plate(file, len, 2, 0, fresh_numbers(), 9) == 0 && NUMBERS_ARE(49234, 51080, 0, 0, 0, 0, 0, 0, 0), "a deleted line does not count");
+    check(refused(dgn_plate(catalogue, size, 2, 0, fresh_numbers(), 8), DGN_CALL, 0), "eight numbers for a plate");
+    check(refused(dgn_plate(catalogue, size, 2, 1, fresh_numbers(), 9), DGN_NO_SUCH, 0), "no cell at 1");
+    check(refused(dgn_plate(catalogue, size, 2, 46, fresh_numbers(), 9), DGN_NOT_A_CELL, 0), "a line has no plate");
+    check(refused(dgn_plate(catalogue, size, 3, 0, fresh_numbers(), 9), DGN_SHORT, 0), "a cell too short for 3D");
+
+    check(dgn_plates(catalogue, size, 2, 0, fresh_numbers(), 22, fresh(), 2) == 0 && ARE(5, 2) && NUMBERS_ARE(0, 1, OUTER, 98, 0, INNER), "plates");
+    check(dgn_plates(catalogue, size, 2, 0, fresh_numbers(), 21, fresh(), 2) == 0 && ARE(3, 1) && NUMBERS_ARE(0, 1, OUTER), "numbers for one plate");
+    check(dgn_plates(catalogue, size, 2, 1, fresh_numbers(), ROOM, fresh(), 2) == 0 && ARE(5, 1) && NUMBERS_ARE(98, 0, INNER), "plates from 1 on");
+    check(dgn_plates(catalogue, size, 2, 4, fresh_numbers(), 0, fresh(), 2) == 0 && ARE(5, 0) && numbers_are(0, NULL), "no more plates");
+    check(dgn_plates(catalogue, size, 2, 9, fresh_numbers(), 0, fresh(), 2) == 0 && ARE(9, 0) && numbers_are(0, NULL), "no plates behind the end");
+    check(refused(dgn_plates(catalogue, size, 2, 0, fresh_numbers(), 10, fresh(), 2), DGN_ROOM, 0), "10 numbers for 11");
+    check(refused(dgn_plates(catalogue, size, 2, 0, fresh_numbers(), 11, fresh(), 1), DGN_CALL, 0), "one number for the two of plates");
+    put_in(catalogue, 144, 5 << 8);
+    check(refused(dgn_plate(catalogue, size, 2, 0, fresh_numbers(), 9), DGN_WRONG_PLACE, 144), "the file's own refusal of a plate");
+    check(refused(dgn_plates(catalogue, size, 2, 0, fresh_numbers(), 22, fresh(), 2), DGN_WRONG_PLACE, 144), "the file's own refusal of plates");
+}
+
 static void whole(void)
 {
     check(dgn_views(file, len, 2, 0, fresh_numbers(), ROOM, fresh(), 1) == 0 && ARE(2) && NUMBERS_ARE(CELL, LINE), "all views");
@@ -442,6 +478,7 @@ static void largest(void)
     check(at + 70 + 2 > sizeof large, "no more cells in a file");
     large[at] = large[at + 1] = 255;
     check(dgn_index(large, sizeof large, 2, index, sizeof index, fresh(), 1) == 0 && ARE(DGN_INDEX_BYTES), "the most cells");
+    check(dgn_plates(large, sizeof large, 2, 0, all, DGN_FILE_CELLS * DGN_PLATES_NUMBERS, fresh(), 2) == 0 && ARE(DGN_FILE_CELLS, DGN_FILE_CELLS), "the most plates");
     check(DGN_INDEX_ROOM(DGN_FILE_BYTES) == DGN_INDEX_BYTES && DGN_INDEX_ROOM(at + 2) == DGN_INDEX_BYTES, "room for any index");
     static double most[DGN_FILE_CURVES * DGN_CURVE_FLOATS];
     for (at = 0; at < 72 * DGN_FILE_CURVES; at += 72)
@@ -758,6 +795,7 @@ int main(void)
     writing_text();
     text();
     curves();
+    plates();
     whole();
     ranges();
     largest();

@@ -104,7 +104,7 @@ crates=$(library)
 for name in names thirds fields text_writer dgn_texts; do
     check "$name is no crate of the library" grep -qx "$name" <<< "$crates"
 done
-check "a crate of the programs is one of the library" none grep -xE 'listing|celllist|textlist' <<< "$crates"
+check "a crate of the programs is one of the library" none grep -xE 'listing|plate_lines|celllist|textlist|platelist' <<< "$crates"
 for name in $crates; do
     for source in crates/"$name"/src/*.rt; do
         check "$(divisors "$source")" none divisors "$source"

@@ -1,7 +1,7 @@
 #!/usr/bin/env bash
 # The outside tests: the second reader's own tests, both readers on the same inputs through the C interface, the program
-# celllist against the second reader, the C header and the C examples. Counts are added up; the last line is
-# "N passed, M failed".
+# celllist against the second reader, the C header and the C examples, that of plates against the program platelist. Counts are
+# added up; the last line is "N passed, M failed".
 set -u
 cd "$(dirname "$0")/.." || exit 1
 top=$PWD
@@ -90,9 +90,18 @@ full() {
     [ $? -eq "$status" ] && grep -q "standard output" "$work/err"
 }
 
+# plates_alike PLATES FILE: whether the example prints of a file what the program platelist prints
+plates_alike() { cmp <("$1" "$2" 2> /dev/null) <(target/bin/platelist < "$2"); }
+
+# more than a program can hold: the sample library's cells a hundred times, and their plates
+{ for ((k = 0; k < 100; k++)); do head -c 842 samples/seals.cel; done && printf '\377\377'; } > "$work/catalogue.cel"
+for ((k = 0; k < 100; k++)); do
+    printf '%d 2 2 0 0 0 0 0 00417\n%d 0 2 0 0 0 0 0 417\n%d 1 1 0 0 0 0 0 PUMP.1\n%d 0 0 0 0 0 0 0 EMPTY\n' $((421 * k)) $((421 * k + 181)) $((421 * k + 286)) $((421 * k + 386))
+done > "$work/catalogue.out"
+
 # hosts FOLDER: the C examples, built into the folder, print what is stored
 hosts() {
-    local cells=tests/real/a11_cells_2d.dgn nested=samples/nested.dgn saved=$work/saved.dgn
+    local cells=tests/real/a11_cells_2d.dgn nested=samples/nested.dgn saved=$work/saved.dgn file
     check "host" prints 0 examples/host.out "$1/host" $cells 00417
     check "host, a refused file" prints 1 examples/host-refused.out "$1/host" tests/real/a18_cell_hdr_link_dgnlib_2d.dgn 00417
     check "host, a folder" prints 3 /dev/null "$1/host" tests/real 00417
@@ -108,11 +117,27 @@ hosts() {
     check "parts, renamed back: the file" cmp "$saved.2" $nested
     check "parts, a full disk" full 3 "$1/parts" $nested 00417 00418 "$saved"
     check "parts, a file that cannot be saved" ends 3 "$1/parts" $nested 00417 00418 /dev/full
+    check "plates" prints 0 examples/plates.out "$1/plates" $cells
+    check "plates, 2D" prints 0 examples/plates.out "$1/plates" $cells 2
+    check "plates, 3D" prints 0 examples/plates-3d.out "$1/plates" tests/real/d04_cells_3d.dgn 3
+    check "plates, above 65,536 bytes" prints 0 "$work/catalogue.out" "$1/plates" "$work/catalogue.cel"
+    check "plates, a refused file" prints 1 <(echo "REFUSED 3 1100") "$1/plates" tests/real/a18_cell_hdr_link_dgnlib_2d.dgn
+    check "plates, a refused file: why" grep -qx "plates: CUT: An element is cut off, or words are left over after a piece\." "$work/err"
+    check "plates, a folder" prints 3 /dev/null "$1/plates" tests/real
+    check "plates, a missing file" prints 3 /dev/null "$1/plates" "$work/none.dgn"
+    check "plates, no such dimension" prints 2 /dev/null "$1/plates" $cells 4
+    check "plates, a full disk" full 4 "$1/plates" $cells
+    check "plates, a refused file and a full disk" full 4 "$1/plates" samples/shortened.cel
+    for file in $drawings; do check "plates of $file are not those of platelist" plates_alike "$1/plates" "$file"; done
 }
+
+# all samples and real files
+drawings=$(find samples tests/real -name '*.dgn' -o -name '*.cel')
+check "samples and real files are missing" test "$(wc -w <<< "$drawings")" -gt 75
 
 # with the archive
 mkdir "$work/archived"
-for name in host session parts; do
+for name in host session parts plates; do
     check "$name.c does not build" gcc $strict -o "$work/archived/$name" "examples/$name.c" target/staticlib/libdgn.a
 done
 hosts "$work/archived"
@@ -130,9 +155,10 @@ other() {
 
 # every answer that an example gets is looked at
 called() { gcc -std=c99 -Iinclude -c -o "$work/called.o" "examples/$1.c" && nm -u "$work/called.o" | sed -nE '/ dgn_refusal_/d; s/^ *U (dgn_[a-z_]+)$/\1/p'; }
-for name in host session parts; do
+for name in host session parts plates; do
     case $name in
     host) arguments=(tests/real/a11_cells_2d.dgn 00417) ;;
+    plates) arguments=(tests/real/a11_cells_2d.dgn) ;;
     session) arguments=() ;;
     parts) arguments=(samples/nested.dgn 00417 00418 "$work/saved.dgn") ;;
     esac
@@ -162,7 +188,7 @@ flags=$(PKG_CONFIG_PATH=$prefix/lib/pkgconfig pkg-config --cflags --libs dgn)
 check "pkg-config does not read dgn.pc" test $? -eq 0
 for language in "c -std=c99" "c++ -std=c++11"; do
     mkdir -p "$work/installed"
-    for name in host session parts; do
+    for name in host session parts plates; do
         compiler=gcc
         [ "${language%% *}" = c ] || compiler=g++
         check "$name.c does not build by $compiler" env -C "$work" $compiler -x $language -Wall -Wextra -Wpedantic -Werror -O2 \

@@ -66,6 +66,13 @@ check "host.c does not build" gcc -Iinclude -o "$work/host" examples/host.c "$ar
 "$work/host" samples/nested.dgn 00417 > "$work/host.out"
 check "README.md does not show what the C host prints" shows "./host samples/nested.dgn 00417" "$work/host.out"
 
+# the plates, by the C example and by the program
+check "plates.c does not build" gcc -Iinclude -o "$work/plates" examples/plates.c "$archive"
+"$work/plates" tests/real/a11_cells_2d.dgn > "$work/plates.out"
+check "README.md does not show what the example of plates prints" shows "./plates tests/real/a11_cells_2d.dgn" "$work/plates.out"
+target/bin/platelist < samples/seals.cel > "$work/plates.out"
+check "README.md does not show what platelist prints" shows "target/bin/platelist < samples/seals.cel" "$work/plates.out"
+
 # no file, from another folder, by a link, a missing file, a folder, two files
 check "list" lists 0 samples/seals.out
 check "list says something where nothing is to be built" quiet
@@ -100,7 +107,7 @@ check "a full disk, a refusal" full "$top/list" samples/shortened.cel
 check "a full disk, texts" full "$top/list" --text
 check "a full disk, help" full "$top/list" --help
 check "no standard output" closed "$top/list"
-for name in celllist textlist; do
+for name in celllist textlist platelist; do
     program=target/bin/$name
     check "$name of a folder" cmp <("$program" < samples 2> /dev/null) /dev/null
     "$program" < samples 2> "$work/err" > /dev/null

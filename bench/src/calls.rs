@@ -52,6 +52,15 @@ extern "C" {
         room: usize,
         out: *mut usize,
     ) -> usize;
+    fn plain_plates(
+        file: *const u8,
+        len: usize,
+        dim: usize,
+        k: usize,
+        numbers: *mut i64,
+        room: usize,
+        out: *mut usize,
+    ) -> usize;
     fn hop_sizes(file: *const u8) -> usize;
     fn hop_totals(file: *const u8) -> usize;
     fn hop_extent(file: *const u8, at: usize, end: usize) -> usize;
@@ -210,6 +219,19 @@ pub fn ranges_in_c(file: &[u8], dim: u64, k: usize, slices: &mut Slices) -> Put 
     let (p, room, o) = (slices.numbers.as_mut_ptr(), slices.numbers.len(), out.as_mut_ptr());
     let returned = unsafe { plain_ranges(file.as_ptr(), file.len(), dim as usize, k, p, room, o) };
     put(returned, out[0], [out[1], 0])
+}
+
+pub fn plates(file: &[u8], dim: u64, k: usize, slices: &mut Slices) -> Put {
+    let mut out = [0; 2];
+    let returned = raw::plates(file, dim as usize, k, &mut slices.numbers, &mut out);
+    put(returned, out[0], [raw::PLATES_NUMBERS * out[1], 0])
+}
+
+pub fn plates_in_c(file: &[u8], dim: u64, k: usize, slices: &mut Slices) -> Put {
+    let mut out = [0; 2];
+    let (n, room, o) = (slices.numbers.as_mut_ptr(), slices.numbers.len(), out.as_mut_ptr());
+    let returned = unsafe { plain_plates(file.as_ptr(), file.len(), dim as usize, k, n, room, o) };
+    put(returned, out[0], [raw::PLATES_NUMBERS * out[1], 0])
 }
 
 /// The elements at all depths and at the top of an accepted file.

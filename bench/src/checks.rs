@@ -6,18 +6,20 @@ use crate::inputs::{Input, ABSENT, LAST};
 use crate::whole::{self, Fill};
 use reader::generate::{aimed, changes, large, two_faults, valid, Random, ORDER};
 
-/// Views, points, texts, ellipses and arcs, and ranges, each by the library and by C, and the numbers and floats of a part.
-const FILLS: [(Fill, Fill, [usize; 2]); 5] = [
+/// Views, points, texts, ellipses and arcs, ranges, and plates, each by the library and by C, and the numbers and floats of a part.
+const FILLS: [(Fill, Fill, [usize; 2]); 6] = [
     (calls::views, calls::views_in_c, whole::VIEWS),
     (calls::points, calls::points_in_c, whole::POINTS),
     (calls::texts, calls::texts_in_c, whole::TEXTS),
     (calls::curves, calls::curves_in_c, whole::CURVES),
     (calls::ranges, calls::ranges_in_c, whole::RANGES),
+    (calls::plates, calls::plates_in_c, whole::PLATES),
 ];
 
 /// So many numbers and floats.
-const ROOMS: [[usize; 2]; 11] =
-    [[100, 100], [0, 0], [1, 0], [17, 0], [18, 0], [36, 0], [9, 5], [8, 5], [9, 4], [18, 9], [100, 14]];
+const ROOMS: [[usize; 2]; 14] = [
+    [100, 100], [0, 0], [1, 0], [17, 0], [18, 0], [36, 0], [9, 5], [8, 5], [9, 4], [18, 9], [100, 14], [10, 0], [11, 0], [22, 0],
+];
 
 /// Files judged alike, and how many of them are refused.
 #[derive(Default)]
@@ -47,7 +49,8 @@ impl Checked {
         }
     }
 
-    /// All views, points, texts, ellipses and arcs, and ranges of a measured input: those of the library in one part, in parts, and of C.
+    /// All views, points, texts, ellipses and arcs, ranges, and plates of a measured input: those of the library in one part, in parts, and
+    /// of C.
     fn whole(&self, input: &Input) {
         let dim = input.kind.dim();
         let elements = calls::judge(&input.file, dim).expect("an accepted file").elements as usize;

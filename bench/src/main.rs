@@ -1,6 +1,6 @@
 //! The bench: checks that all answer alike, measures them in turn and prints tables of ratios.
-//! `bench FOLDER [ROUNDS [many|index]]`: FOLDER takes the files that the programs read and write; with `many` the table of many files
-//! alone, with `index` those of cells and indexes.
+//! `bench FOLDER [ROUNDS [many|index|plates]]`: FOLDER takes the files that the programs read and write; with `many` the table of many
+//! files alone, with `index` those of cells and indexes, with `plates` that of plates.
 
 mod blocks;
 mod calls;
@@ -21,15 +21,16 @@ const ROOT: &str = concat!(env!("CARGO_MANIFEST_DIR"), "/..");
 
 fn main() {
     let mut arguments = std::env::args().skip(1);
-    let folder = arguments.next().expect("bench FOLDER [ROUNDS [many|index]]");
+    let folder = arguments.next().expect("bench FOLDER [ROUNDS [many|index|plates]]");
     let rounds: usize = arguments.next().map_or(301, |n| n.parse().expect("a number of rounds"));
 
+    let all: Vec<Input> = KINDS.iter().map(|&kind| make(kind, 1024 * KIB, 1)).collect();
     match arguments.next().as_deref() {
         Some("many") => return many::table(&folder, rounds),
         Some("index") => return indexes::tables(rounds),
+        Some("plates") => return whole::plates(&all, rounds),
         _ => {}
     }
-    let all: Vec<Input> = KINDS.iter().map(|&kind| make(kind, 1024 * KIB, 1)).collect();
     let mut checked = checks::Checked::default();
     let ranged: Vec<Input> = RANGED.iter().map(|&kind| make(kind, 1024 * KIB, 1)).collect();
     for input in all.iter().chain(&ranged) {
@@ -48,6 +49,7 @@ fn main() {
     whole::texts(&all, 1 + rounds / 6);
     whole::curves(&all, 1 + rounds / 6);
     whole::ranges(&ranged, &all, 1 + rounds / 6);
+    whole::plates(&all, 1 + rounds / 6);
     edits::table(rounds);
     indexes::tables(rounds);
     blocks::table(rounds);

@@ -1,4 +1,4 @@
-//! Whole files: all views, points, texts, ellipses and arcs, and ranges, in one part and in parts, against C that judges once and fills
+//! Whole files: all views, points, texts, ellipses and arcs, ranges, and plates, in one part and in parts, against C that judges once and fills
 //! in the same numbers. Every part judges the file again, so parts stand against C in one part and its judging once more for each
 //! further one.
 
@@ -9,12 +9,13 @@ use crate::timing::{measure, Measured};
 use dgn::raw;
 use std::hint::black_box;
 
-/// The numbers and floats of a part: so many views, numbers of points, texts, ellipses and arcs, and places.
+/// The numbers and floats of a part: so many views, numbers of points, texts, ellipses and arcs, places, and plates.
 pub const VIEWS: [usize; 2] = [raw::VIEW_NUMBERS * 4096, 0];
 pub const POINTS: [usize; 2] = [65_536, 0];
 pub const TEXTS: [usize; 2] = [raw::TEXTS_NUMBERS * 4096, 0];
 pub const CURVES: [usize; 2] = [raw::CURVES_NUMBERS * 4096, raw::CURVE_FLOATS * 4096];
 pub const RANGES: [usize; 2] = [4096, 0];
+pub const PLATES: [usize; 2] = [raw::PLATES_NUMBERS * 4096, 0];
 
 /// The same call of the library or of C: puts what stands from element number k on into slices.
 pub type Fill = fn(&[u8], u64, usize, &mut Slices) -> Put;
@@ -109,4 +110,9 @@ pub fn ranges(ranged: &[Input], all: &[Input], rounds: usize) {
     for inputs in [ranged, all] {
         table(inputs, rounds, calls::ranges, calls::ranges_in_c, RANGES);
     }
+}
+
+pub fn plates(all: &[Input], rounds: usize) {
+    titles("all plates, 1 MiB, parts of 4,096");
+    table(all, rounds, calls::plates, calls::plates_in_c, PLATES);
 }

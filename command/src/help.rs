@@ -43,6 +43,7 @@ pub const SUBCOMMANDS: &[&Subcommand] = &[
     &reading::check::SUBCOMMAND,
     &reading::list::SUBCOMMAND,
     &reading::parts::SUBCOMMAND,
+    &reading::plates::SUBCOMMAND,
     &reading::find::SUBCOMMAND,
     &reading::index::SUBCOMMAND,
     &reading::lookup::SUBCOMMAND,

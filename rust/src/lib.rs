@@ -3,8 +3,8 @@
 //!
 //! A file is a slice of an even number of bytes, at most [`FILE_BYTES`]. A place is the index of a 16-bit word, from 0.
 //! Every file is allowed, and no caller has to check one first. Each call judges the whole file, one pass over its
-//! bytes, so a whole file is read by [`views`], [`points`], [`texts`], [`curves`] and [`ranges`] and not by a call for each element. There
-//! is no state: any thread may call.
+//! bytes, so a whole file is read by [`views`], [`points`], [`texts`], [`curves`], [`ranges`] and [`plates`] and not by a call for each
+//! element. There is no state: any thread may call.
 //!
 //! A call that is refused answers a [`Refusal`] and changes no byte of what it was lent.
 //!
@@ -42,6 +42,7 @@ mod indexes;
 mod journals;
 mod names;
 mod numbered;
+mod plates;
 pub mod raw;
 mod reading;
 mod refusals;
@@ -57,6 +58,7 @@ pub use elements::{Bounds, Dimension, DisplayHeader, Linkage, LinkageKind, Point
 pub use indexes::{all_cells, cells, index_room, Cells, Entries, Entry, Index, LookedUp, ENTRY_BYTES};
 pub use journals::{blocks_of_journal, journal_of_blocks, record, Edit, History, Record};
 pub use names::{pack, unpack, Name};
+pub use plates::{all_plates, plate, plates, Plate, PlateAt, Plates};
 pub use reading::{extent, find, find_with_deleted, in_range, judge, linkage, point, view, Found, Judged};
 pub use refusals::{Number, Refusal};
 pub use sessions::Session;

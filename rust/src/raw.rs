@@ -26,6 +26,12 @@ pub const CURVE_FLOATS: usize = 5;
 /// The numbers of an ellipse or an arc among those of a file.
 pub const CURVES_NUMBERS: usize = 9;
 
+/// The numbers of a plate.
+pub const PLATE_NUMBERS: usize = 9;
+
+/// The numbers of a plate among those of a file.
+pub const PLATES_NUMBERS: usize = 11;
+
 /// The fields that [`write()`] and [`write_text()`] take.
 pub const WRITE_FIELDS: usize = 16;
 
@@ -99,6 +105,9 @@ functions! {
     /// numbers and floats: the 7 and the 5 of an ellipse or an arc.
     pub fn curve(file: &[u8], dim: usize, place: usize, numbers: &mut [i64], floats: &mut [f64]) = dgn_curve;
 
+    /// out: the 9 numbers of a plate.
+    pub fn plate(file: &[u8], dim: usize, place: usize, out: &mut [i64]) = dgn_plate;
+
     /// out: how many views were put into `views`, 32 numbers each.
     pub fn views(file: &[u8], dim: usize, k: usize, views: &mut [i64], out: &mut [usize]) = dgn_views;
 
@@ -115,6 +124,9 @@ functions! {
 
     /// out: the next element number, how many places were put into `places`.
     pub fn ranges(file: &[u8], dim: usize, k: usize, places: &mut [i64], out: &mut [usize]) = dgn_ranges;
+
+    /// out: the next element number, how many plates were put into `numbers`, 11 numbers each.
+    pub fn plates(file: &[u8], dim: usize, k: usize, numbers: &mut [i64], out: &mut [usize]) = dgn_plates;
 
     /// out: two words.
     pub fn pack(text: &[u8], out: &mut [usize]) = dgn_pack;

@@ -47,7 +47,7 @@ numbered! {
         Journal = 16,
         /// Undo of an empty journal.
         Nothing = 17,
-        /// Rename of another type.
+        /// Rename or plate of another type.
         NotACell = 18,
         /// The last record is ill-formed or its reversal is not allowed.
         BadJournal = 19,

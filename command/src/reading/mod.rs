@@ -12,6 +12,7 @@ pub mod list;
 pub mod lookup;
 pub mod names;
 pub mod parts;
+pub mod plates;
 pub mod show;
 pub mod text;
 pub mod tree;

@@ -10,6 +10,7 @@ use lib.ListN.{length}
 use lib.Dec.{leb}
 use borrow.Author.Tests.{le-leb, lt-leb}
 use Rattle.answers.specs.Answers.{Reply, done, refuse, refusalNumber, returned, sliceLeft, withRoom, Replied, Small, SmallReply, ReadAs}
+use Rattle.answers.specs.Besides.{ifDone}
 
 module _ {A : Type 0} (needed : ℕ) where
   pub too-short : (q : Reply A) (s : List A) → length s < needed → Replied needed q s 1 s
@@ -25,6 +26,15 @@ refusal-leaves {A = A} needed q s t n r h = go (withRoom needed q s) refl
     go : (w : Reply A) → withRoom needed q s ≡ w → t ≡ s
     go (done given) e = absurd (h (rw e at (r .is)))
     go (refuse number detail) e = rw e at (r .out)
+
+-- and so is what is lent beside it
+pub refusal-leaves-beside : {A S : Type 0} (needed : ℕ) (q : Reply A) (s t : List A) (n : ℕ) (made was : S) → Replied needed q s n t → n ≢ 0 →
+    ifDone (withRoom needed q s) made was ≡ was
+refusal-leaves-beside {A = A} needed q s t n made was r h = go (withRoom needed q s) refl
+  where
+    go : (w : Reply A) → withRoom needed q s ≡ w → ifDone w made was ≡ was
+    go (done given) e = absurd (h (rw e at (r .is)))
+    go (refuse number detail) e = refl
 
 -- number and detail of a refusal, from the number that is returned; it is no 0 and fits 32 bits
 pub taken-apart : (number detail : ℕ) → Small number detail →

@@ -84,7 +84,7 @@ use Rattle.round_trips.specs.RoundTrip.{ReadsBack, Rewrites, EveryGiven}
 use Rattle.round_trips.proofs.Given as given
 use Rattle.round_trips.proofs.InFile as back
 use Rattle.round_trips.proofs.Again as again
-use Rattle.demands.specs.Listing.{listingOf, textListingOf, walkLines, walkTexts, walkPlace}
+use Rattle.demands.specs.Listing.{listingOf, textListingOf, plateListingOf, walkLines, walkTexts, walkPlates, walkPlace}
 use Rattle.demands.specs.Starred.{allHold, starred}
 use Rattle.demands.specs.ReadingCalls.{FileRefused, Found}
 use Rattle.demands.specs.IndexPromises.{IndexAsBuilt, BuiltOpens, CellsOk, EntryOrder, EntriesApart}
@@ -115,6 +115,7 @@ use Rattle.edits.proofs.Marks as marks
 use Rattle.sessions.specs.Runs.{EveryCall}
 use Rattle.sessions.proofs.Runs as runs
 use Rattle.answers.specs.Answers.{Reply, withRoom, Replied, Small, SmallReply, ReadAs}
+use Rattle.answers.specs.Besides.{ifDone}
 use Rattle.answers.proofs.Laws as answers
 use Rattle.view_numbers.specs.Numbers.{viewGiven}
 use Rattle.view_numbers.proofs.Within as shown
@@ -158,7 +159,7 @@ use Rattle.text_views.specs.Fields.{FieldsWithin}
 use Rattle.text_views.specs.Refusals.{TextRefused}
 use Rattle.text_views.proofs.Fields as text-fields
 use Rattle.text_views.proofs.Refusals as texts-refused
-use Rattle.dfloats.specs.Promises.{FloatRounded, NearestOnly, FloatNearest, FloatStandard, FloatExact, FloatZero, FloatHeld, FloatOne}
+use Rattle.dfloats.specs.Promises.{FloatRounded, NearestOnly, TiesEven, FloatNearest, FloatStandard, FloatExact, FloatZero, FloatHeld, FloatOne}
 use Rattle.dfloats.proofs.Meaning as floats
 use Rattle.curve_views.specs.CurveViews.{curveOf}
 use Rattle.curve_views.specs.Promises.{CurveRefused, CurveGiven, FloatsNumbers, CurveHeld}
@@ -169,6 +170,16 @@ use Rattle.dgn_curves.specs.Answers.{curvesReply}
 use Rattle.dgn_curves.specs.Calls.{AllCurves}
 use Rattle.dgn_curves.proofs.All as every-curve
 use Rattle.dgn_curves.proofs.Small as small-curves
+use Rattle.promises.specs.Components.{ComponentsAre}
+use Rattle.promises.specs.Marked.{MarkElements}
+use Rattle.promises.proofs.Promises as library
+use Rattle.plates.specs.Plates.{plateOf}
+use Rattle.plates.specs.Promises.{PlateRefused, PlateGiven, CountsAddUp, CountedOnce, LevelsMost, PlateWithin, MarkLowers, PlateLocal}
+use Rattle.plates.proofs.Promises as plates
+use Rattle.dgn_plates.specs.Answers.{plateReply, platesReply}
+use Rattle.dgn_plates.specs.Calls.{AllPlates}
+use Rattle.dgn_plates.proofs.All as every-plate
+use Rattle.dgn_plates.proofs.Small as small-plates
 use Rattle.text_parts.specs.Own.{CharactersOwn, TextsApart}
 use Rattle.text_parts.proofs.Own as own-characters
 use Rattle.dgn_linkages.specs.LinkageNumbers.{linkageReply}
@@ -269,6 +280,10 @@ field-refused = texts-refused.field-refused
 pub curve-refused : CurveRefused
 curve-refused = curve-calls.curve-refused
 
+-- the call for the plate of a cell, also with 18 at 0 for an element that is no cell
+pub plate-refused : PlateRefused
+plate-refused = plates.plate-refused
+
 pub linkage-refused : (dim : ℕ) (s : List ℕ) (at k n p : ℕ) → linkageOf dim s at k ≡ attribute.Refused n p → RefusedBy dim s (13 ∷ []) n p
 linkage-refused = points.linkage-refused
 
@@ -317,6 +332,11 @@ from-blocks-refused = blocks-refused.from-refused
 -- of the functions for C, whose contracts are `Replied`: a refusal changes no number of the lent slice
 pub refusal-leaves : {A : Type 0} (needed : ℕ) (q : Reply A) (s t : List A) (n : ℕ) → Replied needed q s n t → n ≢ 0 → t ≡ s
 refusal-leaves = answers.refusal-leaves
+
+-- nor of a slice that is lent beside it, as numbers, floats or entries are
+pub refusal-leaves-beside : {A S : Type 0} (needed : ℕ) (q : Reply A) (s t : List A) (n : ℕ) (made was : S) → Replied needed q s n t → n ≢ 0 →
+    ifDone (withRoom needed q s) made was ≡ was
+refusal-leaves-beside = answers.refusal-leaves-beside
 
 -- and a caller reads each answer as it is meant: 0 and the numbers, or a number that is taken apart into the refusal's number and
 -- its detail, where every refusal is small
@@ -394,6 +414,12 @@ curves-small = small-curves.curves-small
 pub ranges-small : (dim : ℕ) (s : List ℕ) (k room : ℕ) → SmallReply (rangesReply dim s k room)
 ranges-small = small-ranges.ranges-small
 
+pub plate-small : (dim : ℕ) (s : List ℕ) (at : ℕ) → SmallReply (plateReply (plateOf dim s at))
+plate-small = small-plates.plate-small
+
+pub plates-small : (dim : ℕ) (s : List ℕ) (k room : ℕ) → SmallReply (platesReply dim s k room)
+plates-small = small-plates.plates-small
+
 pub record-small : (journal : List ℕ) (used : ℕ) → SmallReply (recordReply journal used)
 record-small = small-record.record-small
 
@@ -443,6 +469,10 @@ all-curves = every-curve.all-curves
 -- and by dgn_ranges the place of each element of which the check answers no
 pub all-ranges : AllRanges
 all-ranges = every-range.all-ranges
+
+-- and of the plates of all cells by dgn_plates: of each its place, whether it is deleted, and the numbers that the call for it gives
+pub all-plates : AllPlates
+all-plates = every-plate.all-plates
 
 -- every number of a view is from -2,147,483,648 to 2,147,483,647
 pub view-within : (dim : ℕ) (s : List ℕ) (at : ℕ) (e : Element) → Below 256 s → viewOf dim s at ≡ view.Seen e → Within 2147483648 (viewGiven at e)
@@ -505,6 +535,11 @@ listing-is = listing.listing-is
 pub text-listing-is : (s : List ℕ) (e d m : ℕ) → length s ≤ 65536 → judgeOf 2 s ≡ Accepted e d m →
     textHeading ++ (walkTexts e s walkStart ++ endLine m) ≡ textListingOf s
 text-listing-is = listing.text-listing-is
+
+-- the lines along the same walk of what is found by extents alone are the listing of platelist: the plate of each live cell of the file,
+-- in file order, as the call for it gives it
+pub plate-listing-is : (s : List ℕ) (e d m : ℕ) → length s ≤ 65536 → judgeOf 2 s ≡ Accepted e d m → walkPlates e (words s) walkStart ≡ plateListingOf s
+plate-listing-is = listing.plate-listing-is
 
 -- whatever the characters are, a text's line is bytes that print, and a line feed
 pub text-one-line : TextOneLine
@@ -655,6 +690,10 @@ float-rounded = floats.float-rounded
 pub nearest-only : NearestOnly
 nearest-only = floats.nearest-only
 
+-- and where another is as near, it is even
+pub ties-even : TiesEven
+ties-even = floats.ties-even
+
 -- of all finite 64-bit floats none is nearer to the exact number
 pub float-nearest : FloatNearest
 float-nearest = floats.float-nearest
@@ -696,6 +735,45 @@ no-exactly = lying.no-exactly
 -- 6 at the element exactly where its type is another
 pub other-exactly : OtherExactly
 other-exactly = lying.other-exactly
+
+---- demand 2: the plates of cells
+
+-- the direct components of an element stand one behind another, each with its extent, from the end of its own words to the end of its
+-- extent, which holds its fixed part
+pub components-are : ComponentsAre
+components-are = library.components-are
+
+-- of an accepted file the call gives the plate of each cell, deleted or not, and 18 at 0 of any other element; going over extents alone
+-- gives the same
+pub plate-given : PlateGiven
+plate-given = plates.plate-given
+
+-- the six counts add up to the number of live direct components
+pub counts-add-up : CountsAddUp
+counts-add-up = plates.counts-add-up
+
+-- each live direct component is counted in exactly one kind
+pub counted-once : CountedOnce
+counted-once = plates.counted-once
+
+-- levels are at most 64, and every number of a plate is below 65,536
+pub levels-most : LevelsMost
+levels-most = plates.levels-most
+
+pub plate-within : PlateWithin
+plate-within = plates.plate-within
+
+-- a plate depends on nothing outside its cell's extent: cells whose extents have the same bytes have the same plate, in whatever files and at
+-- whatever places
+pub plate-local : PlateLocal
+plate-local = plates.plate-local
+
+-- marking a component deleted, which leaves every element where it is, lowers exactly one count of its cell by one
+pub mark-elements : MarkElements
+mark-elements = library.mark-elements
+
+pub mark-lowers : MarkLowers
+mark-lowers = plates.mark-lowers
 
 ---- demand 2: what is written reads back the same, and what was accepted rewrites to the same bytes
 

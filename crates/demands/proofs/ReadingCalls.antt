@@ -21,6 +21,7 @@ use Rattle.points_linkages.specs.Linkages.{linkageOf}
 use Rattle.range_checks.specs.InRange.{inRangeOf}
 use Rattle.text_views.specs.TextViews.{textOf, charactersOf, fieldOf}
 use Rattle.curve_views.specs.CurveViews.{curveOf}
+use Rattle.plates.specs.Plates.{plateOf}
 use Rattle.finder.specs.Finder.{findOf}
 use Rattle.lookup.specs.Live.{liveLookUpOf}
 use Rattle.kinds.specs.Kinds.{isCell}
@@ -32,7 +33,7 @@ use Rattle.edits.specs.Book.{wasRefused}
 use Rattle.demands.specs.ReadingCalls.{FileRefused, Found}
 
 pub file-refused : (dim : ℕ) (s : List ℕ) (n p : ℕ) → judgeOf dim s ≡ Refused n p → FileRefused dim s n p
-unfolding spottedAt extentAnswer viewOf pointOf linkageOf textOf charactersOf fieldOf curveOf inRangeOf findOf liveLookUpOf
+unfolding spottedAt extentAnswer viewOf pointOf linkageOf textOf charactersOf fieldOf curveOf inRangeOf plateOf findOf liveLookUpOf
 file-refused dim s n p e = record {
   extents = λ at. rw e refl;
   views = λ at. rw e refl;
@@ -43,6 +44,7 @@ file-refused dim s n p e = record {
   characters = λ at. rw e refl;
   fields = λ at k. rw e refl;
   curves = λ at. rw e refl;
+  plates = λ at. rw e refl;
   finder = λ w t. rw e refl;
   look-up = λ index used t ok. rw (ok, e) refl;
   cells = rw e refl;

@@ -47,6 +47,12 @@ use Rattle.indexing.specs.Indexing.{listed}
 use Rattle.finder.specs.Finder.{hasName, isHit, findOf}
 use Rattle.lookup.specs.LookUp.{halved, lookUp, lookUpOf}
 use Rattle.lookup.specs.Live.{liveCell, lookOn, liveLookUpOf}
+use lib.Count.{onesIn}
+use Rattle.listing.specs.Lines.{digitsFrom, decimal, refusedLine}
+use Rattle.listing.specs.Plates.{plateLine}
+use Rattle.plates.specs.Plates.{liveDirect, levelsAt, plateOf}
+use Rattle.plate_lines.specs.Plate.{lineWith}
+use Rattle.demands.specs.Listing.{listed as programListed}
 use Rattle.demands.specs.Starred.{allHold, starred}
 
 pub starred-hold : allHold starred ≡ true
@@ -61,4 +67,5 @@ unfolding over putWord codeOf letterOf wordFrom packed wordOk nameOk textIn text
     coordinate storedLong rangeOf displayOf nameWords elementView viewOf inRange inRangeIn inRangeOf
     handedOk pointsFit argumentsOk pointNumberOk writeFault firstWord symbology headerWords sizeOf elementWords
     numbersOk flatOk listsOk oddOk textArgumentsOk textFault textSize textWords fieldsGiven elementFault textGiven textFaultGiven
+    onesIn digitsFrom decimal refusedLine plateLine liveDirect levelsAt plateOf lineWith programListed
 starred-hold = refl

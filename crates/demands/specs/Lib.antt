@@ -8,6 +8,7 @@ pub mod IndexPromises
 pub mod FindCases
 pub mod CurveCases
 pub mod RangeCases
-pub mod Starred
 pub mod Listing
+pub mod PlateCases
+pub mod Starred
 pub mod ReadingCalls

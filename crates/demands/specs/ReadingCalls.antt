@@ -25,6 +25,8 @@ use Rattle.text_views.specs.declared.Characters.the-variants as characters
 use Rattle.text_views.specs.declared.FieldView.the-variants as fields
 use Rattle.curve_views.specs.CurveViews.{curveOf}
 use Rattle.curve_views.specs.declared.Curve.the-variants as curves
+use Rattle.plates.specs.Plates.{plateOf}
+use Rattle.plates.specs.declared.Plated.the-variants as plated
 use Rattle.finder.specs.Finder.{findOf}
 use Rattle.finder.specs.declared.Found.the-variants as found
 use Rattle.cells.specs.Cells.{cellsOf}
@@ -50,6 +52,7 @@ pub record FileRefused (dim : ℕ) (s : List ℕ) (n p : ℕ) : Type 0 where
   pub characters : (at : ℕ) → charactersOf dim s at ≡ characters.Refused n p
   pub fields : (at k : ℕ) → fieldOf dim s at k ≡ fields.Refused n p
   pub curves : (at : ℕ) → curveOf dim s at ≡ curves.Refused n p
+  pub plates : (at : ℕ) → plateOf dim s at ≡ plated.Refused n p
   pub finder : (w : Wanted) (t : List ℕ) → findOf w dim s t ≡ found.Refused n p 0
   pub look-up : (index : List ℕ) (used : ℕ) (t : List ℕ) → entriesOk (length index) used ≡ true → liveLookUpOf dim s index used t ≡ looked.Refused n p 0
   pub cells : cellsReply (judgeOf dim s) (length (cellsOf dim (words s))) ≡ refuse n p

@@ -39,6 +39,7 @@ use Rattle.demands.specs.IndexCases.{indexCases}
 use Rattle.demands.specs.FindCases.{deletedCases}
 use Rattle.demands.specs.CurveCases.{curveCases}
 use Rattle.demands.specs.RangeCases.{rangeCases}
+use Rattle.demands.specs.PlateCases.{plateCases}
 
 -- whether each case of a list holds
 abbrev pub allHold : List Case → Bool
@@ -469,4 +470,4 @@ abbrev pub starred : List Case
 starred =
     longCases ++ nameCases ++ fileCases ++ lineCases ++ pointCases ++ cellCases ++ tableCases ++ placeCases ++ ruleCases
     ++ lengthCases ++ givenCases ++ codeCases ++ depthCases ++ totalCases ++ countCases ++ attributeCases ++ textCases
-    ++ readCases ++ orderCases ++ sessionCases ++ blockCases ++ indexCases ++ deletedCases ++ curveCases ++ rangeCases
+    ++ readCases ++ orderCases ++ sessionCases ++ blockCases ++ indexCases ++ deletedCases ++ curveCases ++ rangeCases ++ plateCases

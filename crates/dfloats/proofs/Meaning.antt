@@ -12,10 +12,10 @@ use lib.Ieee.Fits.{round-fits}
 use Rattle.dfloats.specs.FirstWord.{negative, exponent}
 use Rattle.dfloats.specs.Fields.{fraction, digits, eighth, float}
 use Rattle.dfloats.specs.Reading.{nearestFloat, dFloat}
-use Rattle.dfloats.specs.Promises.{FloatRounded, NearestOnly, FloatNearest, FloatStandard, FloatExact, FloatZero, FloatHeld, FloatOne}
+use Rattle.dfloats.specs.Promises.{FloatRounded, NearestOnly, TiesEven, FloatNearest, FloatStandard, FloatExact, FloatZero, FloatHeld, FloatOne}
 use Rattle.dfloats.proofs.Rounding.{digits-from, digits-below, eighth-is, eighth-from, eighth-to}
 use Rattle.dfloats.proofs.Readings.{reads-zero, reads-nearest}
-use Rattle.dfloats.proofs.Distances.{eighth-nearest, nearest-eighth}
+use Rattle.dfloats.proofs.Distances.{eighth-nearest, nearest-eighth, sides}
 use Rattle.dfloats.proofs.Floats.{float-value, exact-float, no-float-nearer, read-finite}
 use Rattle.dfloats.proofs.Standard.{float-rounds}
 
@@ -32,6 +32,9 @@ float-rounded a b c d p q r n =
 
 pub nearest-only : NearestOnly
 nearest-only m q r h k = nearest-eighth m q h ∙ sym (nearest-eighth m r k)
+
+pub ties-even : TiesEven
+ties-even m q r n h d = n .even (sides m r q h (n .near) d)
 
 pub float-nearest : FloatNearest
 float-nearest a b c d p q r n = rw (reads-nearest a b c d n) (no-float-nearer (negative a) (digits a b c d) (exponent a) (digits-from a b c d))

@@ -12,7 +12,7 @@ use lib.Ieee.Scale.{finite}
 use Rattle.dfloats.specs.FirstWord.{negative, exponent}
 use Rattle.dfloats.specs.Fields.{fraction, digits}
 use Rattle.dfloats.specs.Reading.{dFloat}
-use Rattle.dfloats.specs.Nearest.{Nearest, NoFarther}
+use Rattle.dfloats.specs.Nearest.{gap, Nearest, NoFarther}
 
 -- of four words with E above 0
 abbrev pub Scaled : (ℕ → ℕ → ℕ → ℕ → Type 0) → Type 0
@@ -33,6 +33,10 @@ FloatRounded = Scaled Rounded
 -- only one number is the nearest
 abbrev pub NearestOnly : Type 0
 NearestOnly = (m q r : ℕ) → Nearest m q → Nearest m r → q ≡ r
+
+-- and where another number is as near, it is even
+abbrev pub TiesEven : Type 0
+TiesEven = (m q r : ℕ) → Nearest m q → gap m (8 * r) ≡ gap m (8 * q) → r ≢ q → q % 2 ≡ 0
 
 -- no finite 64-bit float is nearer to the exact number
 abbrev pub FloatNearest : Type 0

@@ -11,7 +11,7 @@ use Rattle.names.proofs.Texts.{length-kept}
 use Rattle.lines.specs.Element.{textLength, unpackedText, nameText, Named}
 
 -- at most six letters, in six bytes
-abbrev InSix : Unpacked → Type 0
+abbrev pub InSix : Unpacked → Type 0
 InSix u = (textLength (u .answer) ≤ 6) × (length (u .letters) ≡ 6)
 
 text-short : (a b : ℕ) → length (textOf a b) ≤ 6
@@ -25,7 +25,7 @@ answer-in-six : (t : List ℕ) → length t ≤ 6 → InSix (textAnswer t)
 unfolding textAnswer
 answer-in-six t h = (h, simp (length-append, length-replicate) (omega arith))
 
-in-six : (a b : ℕ) → InSix (unpacked a b)
+pub in-six : (a b : ℕ) → InSix (unpacked a b)
 unfolding unpacked
 in-six a b = go (nameOk a b)
   where

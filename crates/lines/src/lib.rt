@@ -34,7 +34,7 @@ fn name_of(file: &[u8], at: usize, kind: usize) -> names::Unpacked
 }
 
 // The number of letters of an unpacked text.
-fn text_length(answer: names::Answer) -> usize
+pub fn text_length(answer: names::Answer) -> usize
     ensures { λ r. ⌜ r ≡ textLength answer ⌝ }
 {
     match answer {

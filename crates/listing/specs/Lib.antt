@@ -1,4 +1,5 @@
 pub mod Lines
 pub mod Texts
+pub mod Plates
 pub mod Told
 pub mod Puts

@@ -1,11 +1,12 @@
-// The lines that celllist and textlist print, each from its fields, written to the front of a lent buffer. Defined in
-// specs/Lines and specs/Texts.
+// The lines that celllist, textlist and platelist print, each from its fields, written to the front of a lent buffer. Defined in
+// specs/Lines, specs/Texts and specs/Plates.
 ghost use Prim.Native.Nat.{_+_, _*_, _<_, _≤_};
 ghost use mathlib.Core.Path.{_≡_};
 ghost use mathlib.Core.List.{[], _∷_};
 ghost use lib.ListN.{length, take};
 ghost use Rattle.listing.specs.Lines.{decimal, field, state, lastField, elementLine, headingLine, refusedLine, endLine, WritesLine};
 ghost use Rattle.listing.specs.Texts.{hexadecimal, prints, escape, escaped, textLine, textRoom, textHeading};
+ghost use Rattle.listing.specs.Plates.{counts, plateLine};
 ghost use Rattle.listing.specs.Puts.{Puts};
 
 // One byte.
@@ -197,6 +198,54 @@ pub fn text_line(
     let at = put_field(buf, at, depth);
     let at = put_state(buf, at, deleted);
     let at = put_text(buf, at, characters);
+    put_line_feed(buf, at)
+}
+
+// The six counts of a plate, a space after each.
+fn put_counts(
+    buf: &mut [u8],
+    at: usize,
+    lines: usize,
+    pointed: usize,
+    texts: usize,
+    curves: usize,
+    headers: usize,
+    others: usize,
+) -> usize
+    requires { ⌜ at + 126 ≤ length (now buf) ⌝ }
+    ensures { λ r. ⌜ Puts (now (buf .entry)) at (counts lines pointed texts curves headers others) (now (buf .exit)) r ⌝ }
+    ensures { λ r. ⌜ r ≤ at + 126 ⌝ }
+{
+    let next = put_field(buf, at, lines);
+    let next = put_field(buf, next, pointed);
+    let next = put_field(buf, next, texts);
+    let next = put_field(buf, next, curves);
+    let next = put_field(buf, next, headers);
+    put_field(buf, next, others)
+}
+
+// One plate's line, and the number of its bytes. The buffer needs 175 bytes: with fewer nothing is written.
+pub fn plate_line(
+    buf: &mut [u8],
+    place: usize,
+    lines: usize,
+    pointed: usize,
+    texts: usize,
+    curves: usize,
+    headers: usize,
+    others: usize,
+    levels: usize,
+    code: &[u8],
+) -> usize
+    ensures { λ r. ⌜ WritesLine 175 (now (buf .entry)) (plateLine place lines pointed texts curves headers others levels (now (code .entry))) (now (buf .exit)) r ⌝ }
+{
+    if buf.len() < 175 {
+        return 0;
+    }
+    let at = put_field(buf, 0, place);
+    let at = put_counts(buf, at, lines, pointed, texts, curves, headers, others);
+    let at = put_number(buf, at, levels);
+    let at = put_name(buf, at, code);
     put_line_feed(buf, at)
 }
 

@@ -12,7 +12,7 @@ abbrev pub placeOf : List ℕ → ℕ → ℕ
 placeOf ws zero = 0
 placeOf ws (suc k) = placeOf ws k + sizeAt ws (placeOf ws k)
 
--- the same of a number that a file's element may have; 0 of a larger one
+-- the same of a number of at most 1,048,576, which no file has so many elements as; 0 of a larger one
 unfoldable pub startOf : List ℕ → ℕ → ℕ
 startOf ws k = cond (leb k 1048576) (placeOf ws k) 0
 

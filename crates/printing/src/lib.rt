@@ -1,7 +1,7 @@
-// The listing of a 2D file from standard input: a line for each element, or for each text, in file order, or the line of
-// its refusal. The lines are those of the crates listing, lines and text_lines, and the order is that of walking::next;
-// they are written some KiB at a time. Where a read or a write fails, standard error says so and the last line is missing:
-// a listing is whole where its last line is that of the end or of a refusal.
+// The listing of a 2D file from standard input: a line for each element, for each text or for each live cell, in file order, or
+// the line of its refusal. The lines are those of the crates listing, lines, text_lines and plate_lines, and the order is that of
+// walking::next; they are written some KiB at a time. Where a read or a write fails, standard error says so and lines are
+// missing: a listing of elements or texts is whole where its last line is that of the end or of a refusal.
 use libc::STDERR_FILENO;
 use libc::STDIN_FILENO;
 use libc::STDOUT_FILENO;
@@ -12,6 +12,7 @@ ghost use lib.ListN.{length};
 pub enum Listed {
     Elements,
     Texts,
+    Plates,
 }
 
 // The bytes that are written at a time, at most, and those that a line may need: 48 and four for each of 255 characters.
@@ -43,13 +44,14 @@ fn print_full(part: &[u8], n: usize, next: usize) -> bool
     true
 }
 
-// The heading, into a part: where it ends.
+// The heading, into a part: where it ends. Plates have none.
 fn put_heading(listed: Listed, part: &mut [u8]) -> usize
     ensures { λ r. ⌜ r ≤ length (now (part .exit)) ⌝ }
 {
     match listed {
         Listed::Elements => listing::heading(part),
         Listed::Texts => listing::text_heading(part),
+        Listed::Plates => 0,
     }
 }
 
@@ -68,15 +70,20 @@ fn put_line(
     match listed {
         Listed::Elements => n + lines::line(file, at, depth, &mut part[n..]),
         Listed::Texts => n + text_lines::line(file, at, depth, &mut part[n..]),
+        Listed::Plates => n + plate_lines::line(file, at, &mut part[n..]),
     }
 }
 
-// The last line of an accepted file, into a part from its byte n on: where it then ends.
-fn put_end(marker: usize, part: &mut [u8], n: usize) -> usize
+// The last line of an accepted file, into a part from its byte n on: where it then ends. Plates have none.
+fn put_end(listed: Listed, marker: usize, part: &mut [u8], n: usize) -> usize
     requires { ⌜ n ≤ length (now part) ⌝ }
     ensures { λ r. ⌜ r ≤ length (now (part .exit)) ⌝ }
 {
-    n + listing::end_line(&mut part[n..], marker)
+    match listed {
+        Listed::Elements => n + listing::end_line(&mut part[n..], marker),
+        Listed::Texts => n + listing::end_line(&mut part[n..], marker),
+        Listed::Plates => n,
+    }
 }
 
 // The line of a refused file; false where it is not written.
@@ -107,7 +114,7 @@ fn print_lines(listed: Listed, file: &[u8], elements: usize, marker: usize) -> b
     if !print_full(&part, n, next) {
         return false;
     }
-    let n = put_end(marker, &mut part, next);
+    let n = put_end(listed, marker, &mut part, next);
     print(&part, n)
 }
 

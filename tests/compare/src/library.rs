@@ -364,6 +364,21 @@ pub fn ranges(file: &[u8], dim: u64, k: u64, room: usize) -> Result<(u64, Vec<i6
     Ok((out[0] as u64, places))
 }
 
+/// The 9 numbers of a plate.
+pub fn plate(file: &[u8], dim: u64, place: u64) -> Result<[i64; 9], Refusal> {
+    Ok(of_file(file, |f, o| raw::plate(f, dim as usize, place as usize, o))?)
+}
+
+/// The next element number, and the 11 numbers of each plate from element number k on, in a slice of so many.
+pub fn plates(file: &[u8], dim: u64, k: u64, room: usize) -> Result<(u64, Vec<i64>), Refusal> {
+    let (out, numbers) = filled::<2>(
+        room,
+        |out| 11 * out[1],
+        |l, n| lent(l, &l.file, file, |f| answer(l, |o| raw::plates(f, dim as usize, k as usize, n, o))),
+    )?;
+    Ok((out[0] as u64, numbers))
+}
+
 /// Lends slices of so many marked numbers and floats. Gives the answer, the numbers and the bits of the floats; those behind the
 /// `written` ones must stay.
 fn filled_both<A>(
@@ -677,6 +692,9 @@ pub fn short_answers(file: &[u8]) {
                 }),
                 lent_to_write(l, &l.numbers, &mut [7; 64], |n| short::<_, 0>(l, |o| raw::views(f, 2, 0, n, o))),
                 short::<_, 0>(l, |o| raw::in_range(f, 2, 0, o)),
+                short::<_, 8>(l, |o| raw::plate(f, 2, 0, o)),
+                short::<_, 0>(l, |o| raw::plate(f, 2, 0, o)),
+                lent_to_write(l, &l.numbers, &mut [7; 64], |n| short::<_, 1>(l, |o| raw::plates(f, 2, 0, n, o))),
                 lent_to_write(l, &l.numbers, &mut [7; 64], |n| short::<_, 1>(l, |o| raw::ranges(f, 2, 0, n, o))),
                 lent_to_write(l, &l.numbers, &mut [7; 64], |n| short::<_, 0>(l, |o| raw::ranges(f, 2, 0, n, o))),
                 lent_to_write(l, &l.numbers, &mut [7; 64], |n| short::<_, 1>(l, |o| raw::points(f, 2, 0, n, o))),

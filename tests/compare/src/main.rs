@@ -11,6 +11,7 @@ mod history;
 mod indexes;
 mod library;
 mod limits;
+mod plates;
 mod program;
 mod ranges;
 mod real;
@@ -36,7 +37,7 @@ const STEPS: &[Step] = &[
     ("the same, damaged and cut", |random, runs, _| real::damaged_texts(random, runs)),
     ("real files with ellipses and arcs, each by its table", |_, runs, _| real::curves(runs)),
     ("the same, changed and cut", |random, runs, _| real::damaged_curves(random, runs)),
-    ("listings of celllist and textlist", |random, _, _| program::run(random, 100)),
+    ("listings of celllist, textlist and platelist", |random, _, _| program::run(random, 100)),
     ("answer slices that are too short stay", |_, _, _| library::short_answers(&[255, 255])),
     ("a stack of 256 KiB is enough", |_, _, _| damage::small_stack()),
     ("lengths from none to above the limit, between pages that may not be touched", |random, runs, _| {
@@ -53,6 +54,8 @@ const STEPS: &[Step] = &[
     ("each number at each depth, and two faults in one element", |random, runs, _| files::numbers(random, runs, 50)),
     ("ellipses and arcs, by floats of every kind", |random, runs, wanted| curves::directed(random, runs, wanted / 6)),
     ("points in their ranges or nearly so, every part", |random, runs, wanted| ranges::directed(random, runs, wanted / 10)),
+    ("plates of cells of every kind, every part", |random, runs, wanted| plates::directed(random, runs, wanted / 30)),
+    ("plates of the largest files in parts", |random, runs, _| plates::largest(random, runs)),
     ("ranges of the largest files in parts", |random, runs, _| ranges::largest(random, runs)),
     ("cuts, and every place", |random, runs, _| files::cuts(random, runs, 200)),
     ("every part of small files, views, points and texts", |random, runs, _| whole::small(random, runs, 100)),

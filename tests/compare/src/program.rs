@@ -1,7 +1,7 @@
-//! The programs celllist and textlist, as built, against the second reader's listings of the same bytes.
+//! The programs celllist, textlist and platelist, as built, against the second reader's listings of the same bytes.
 
 use reader::generate::text_writes::long_text;
-use reader::generate::{aimed, changes, large, valid, Random, ORDER};
+use reader::generate::{aimed, changes, large, plates, valid, Random, ORDER};
 use std::io::Write;
 use std::process::{Command, Stdio};
 
@@ -32,9 +32,10 @@ fn textlist(input: &[u8]) -> Vec<u8> {
     }
 }
 
-/// Both listings of the same bytes.
+/// All three listings of the same bytes.
 pub fn check(input: &[u8]) {
-    for (name, wanted) in [("celllist", reader::celllist(input)), ("textlist", textlist(input))] {
+    let wanted = [("celllist", reader::celllist(input)), ("textlist", textlist(input)), ("platelist", reader::platelist(input))];
+    for (name, wanted) in wanted {
         assert_eq!(
             String::from_utf8_lossy(&listed(name, input)),
             String::from_utf8_lossy(&wanted),
@@ -69,6 +70,8 @@ pub fn run(random: &mut Random, number: u64) {
     check(&vec![0; 65_536]);
     check(&vec![0; 65_537]);
     check(&large::longest_file().file);
+    check(&large::longest_file_of_cells().file);
+    check(&large::largest_extent_nested().file);
     let mut full = vec![0u8; 65_534];
     for i in (0..65_532).step_by(4) {
         full[i + 1] = 5;
@@ -86,5 +89,6 @@ pub fn run(random: &mut Random, number: u64) {
         let depth = random.below(9);
         check(&aimed(random, 2, number, depth).file);
         check(&changes::soup(random));
+        check(&plates(random, 2));
     }
 }

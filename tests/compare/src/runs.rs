@@ -238,6 +238,7 @@ impl Runs {
         self.calls += 4;
         self.curve(file, dim, p);
         let _ = self.in_range(file, dim, p);
+        self.plate(file, dim, p);
         self.numbered(file, dim, p, k);
     }
 

@@ -1,6 +1,7 @@
 //! Whole files: the views, points and texts of all elements, in parts of any size, against those of the second reader one
 //! by one.
 
+use crate::plates::Listed;
 use crate::ranges::Outside;
 use crate::runs::{point_numbers, small_or_huge, text_numbers, view_numbers, Runs};
 use crate::{bindings, library};
@@ -192,6 +193,9 @@ pub fn any_part(random: &mut Random, runs: &mut Runs, file: &[u8], dim: u64) {
     if file.len() < 10_000 {
         let outside = Outside::of(file, dim);
         runs.ranges(&outside, file, dim, k, random.index(4));
+    }
+    if file.len() < 2_000 {
+        runs.plates(&Listed::of(file, dim), file, dim, k, room);
     }
 }
 

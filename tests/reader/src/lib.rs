@@ -21,6 +21,7 @@ pub mod judge;
 pub mod layout;
 pub mod linkage;
 pub mod names;
+pub mod plate;
 pub mod range;
 pub mod record;
 pub mod refusal;
@@ -46,6 +47,7 @@ pub use indexed::{insert_indexed, mark_indexed, remove_indexed, rename_indexed, 
 pub use judge::{judge, Judged};
 pub use linkage::{linkage, Linkage, LinkageKind};
 pub use names::{pack, unpack};
+pub use plate::{plate, plate_lines, platelist, Plate};
 pub use range::points_in_range;
 pub use record::{last_record, Record};
 pub use refusal::{FindRefusal, Refusal};

@@ -12,6 +12,7 @@ fn read_all(random: &mut Random, file: &[u8], dim: u64) {
     let judged = judge(file, dim);
     let _ = celllist(file);
     let _ = textlist(file, dim);
+    let _ = platelist(file);
     assert_eq!(texts_from(file, dim, 0).err(), judged.clone().err());
     assert_eq!(ellipses_from(file, dim, 0).err(), judged.clone().err());
     let text = generate::texts::any_text(random);
@@ -25,6 +26,12 @@ fn read_all(random: &mut Random, file: &[u8], dim: u64) {
             extent(file, dim, place).err(),
             linkage(file, dim, place, k).err(),
         ];
+        let plate = plate(file, dim, place).err();
+        match (&judged, plate) {
+            (Ok(_), Some(other)) => assert!([13, 18].contains(&other.number)),
+            (Ok(_), None) => assert!(view(file, dim, place).unwrap().name.is_some()),
+            (Err(own), plate) => assert_eq!(plate.as_ref(), Some(own)),
+        }
         let texts = [
             read_text(file, dim, place).err(),
             text_characters(file, dim, place).err(),

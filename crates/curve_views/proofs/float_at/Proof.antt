@@ -1,8 +1,6 @@
 -- Each word is what its call answers.
 use mathlib.Core.Path.{refl}
 use Rattle.curve_views.specs.CurveViews.{floatAt}
-use mathlib.Core.Path.{refl}
-use Rattle.curve_views.specs.CurveViews.{floatAt}
 use borrow.Author.Needs.{needs}
 use Rattle.curve_views.proofs.float_at.Statement.{statement}
 use Rattle.curve_views.proofs.float_at.Tie as tie

@@ -2,7 +2,6 @@
 use native.Mathlib.Omega.{arith}
 use borrow.Author.Needs.{needs}
 use Rattle.dgn_all_views.proofs.Puts.{above-at, above-deep}
-use borrow.Author.Needs.{needs}
 use Rattle.dgn_all_views.proofs.above_in.Statement.{statement}
 use Rattle.dgn_all_views.proofs.above_in.Tie as tie
 

@@ -5,7 +5,6 @@ use borrow.Author.Needs.{needs}
 use Rattle.words.proofs.Laws.{lent-below}
 use Rattle.headers.proofs.Laws.{size-small}
 use Rattle.dgn_all_views.proofs.Puts.{on-top, on-inside}
-use borrow.Author.Needs.{needs}
 use Rattle.dgn_all_views.proofs.goes_on.Statement.{statement}
 use Rattle.dgn_all_views.proofs.goes_on.Tie as tie
 

@@ -5,7 +5,6 @@ use native.Mathlib.Omega.{arith}
 use borrow.Author.Needs.{needs}
 use Rattle.views.proofs.Known.{known-not}
 use Rattle.dgn_all_views.proofs.Puts.{one-before, one-put}
-use borrow.Author.Needs.{needs}
 use Rattle.dgn_all_views.proofs.put_one.Statement.{statement}
 use Rattle.dgn_all_views.proofs.put_one.Tie as tie
 

@@ -1,0 +1,13 @@
+pub mod OneKind
+pub mod Hops
+pub mod Levels
+pub mod Slots
+pub mod Here
+pub mod Fixed
+pub mod Calls
+pub mod Counts
+pub mod Given
+pub mod Within
+pub mod Local
+pub mod Marks
+pub mod Promises

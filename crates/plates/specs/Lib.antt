@@ -1,0 +1,4 @@
+pub mod Kinds
+pub mod Plates
+pub mod Hops
+pub mod Promises

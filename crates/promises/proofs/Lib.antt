@@ -1,0 +1,4 @@
+pub mod Words
+pub mod Components
+pub mod Marked
+pub mod Promises

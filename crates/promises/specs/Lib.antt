@@ -1,0 +1,3 @@
+pub mod Words
+pub mod Components
+pub mod Marked
