@@ -137,7 +137,8 @@ module _ (dim : ℕ) (ws : List ℕ) where
       other l = rw (before-other header at p b l) (direct-append (spots (suc depth) (some at) (at + length own) k) (spots depth header (at + weight own k) r) p)
 
       go : (c : Bool) → eqb at p ≡ c → (d : Bool) → ltb p (at + weight own k) ≡ d → at ≤ p →
-          (spotIn (spots (suc depth) (some at) (at + length own) k) p ≡ some x → Here p x (directPlaces (spots (suc depth) (some at) (at + length own) k) p)) → (spotIn (spots depth header (at + weight own k) r) p ≡ some x → Here p x (directPlaces (spots depth header (at + weight own k) r) p)) →
+          (spotIn (spots (suc depth) (some at) (at + length own) k) p ≡ some x → Here p x (directPlaces (spots (suc depth) (some at) (at + length own) k) p)) →
+          (spotIn (spots depth header (at + weight own k) r) p ≡ some x → Here p x (directPlaces (spots depth header (at + weight own k) r) p)) →
           Here p x (directPlaces (spots depth header at (node own k r)) p)
       go true q d i l f g =
           let a = eqb-true at p q in
