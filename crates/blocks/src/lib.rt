@@ -1,5 +1,8 @@
 // A journal's bytes in blocks of 512 bytes, each with a check, and back. The definitions are in specs/Blocks, what the two calls
 // answer and leave in specs/Calls.
+
+#![tactic(auto)]
+
 ghost use Rattle.std.specs.Prelude.{◌≡◌, ◌*◌, ◌%◌, ◌≤◌, length, take, drop};
 ghost use Rattle.words.specs.Words.{words, over};
 ghost use Rattle.blocks.specs.Blocks.{sum, zeros, sound, fewest, most, good, block, stored_from, stored, flat_from, flat_of, blocks_for, blocks_in, bad_from, first_bad};
@@ -119,7 +122,7 @@ fn fill(s: &mut [u8], j: &[u8], n: usize)
 }
 
 // How many bytes were written, or why none were.
-#[derive(Drop)]
+#[derive(Clone, Copy)]
 pub enum Moved {
     Written { bytes: usize },
     Refused { number: usize, place: usize },

@@ -1,6 +1,9 @@
 // The lent buffer of a file, changed in place: words put into its used part and taken out of it, by moves of bytes.
 // Lengths are in bytes, places in words. Where the numbers do not fit, the buffer stays as it was. Definitions:
 // specs/Files.
+
+#![tactic(auto)]
+
 ghost use Rattle.std.specs.Prelude.{◌≡◌, ◌+◌, ◌≤◌, length};
 ghost use Rattle.std.proofs.Math.Seq.{slice};
 ghost use Rattle.words.specs.Words.{over};

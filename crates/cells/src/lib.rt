@@ -1,4 +1,7 @@
 // The cells of a file, and their number by a walk over sizes alone. Definitions: specs/Cells; the index of a file: specs/Index.
+
+#![tactic(auto)]
+
 ghost use Rattle.std.specs.Prelude.{◌≡◌, length};
 ghost use Rattle.words.specs.Words.{words};
 ghost use Rattle.headers.specs.Header.{type_at};

@@ -4,6 +4,9 @@
 //
 // The name of the cell at a place of a file's used part: its two words read as bytes, and written over. Definitions:
 // specs/CellNames.
+
+#![tactic(auto)]
+
 ghost use Rattle.std.specs.Prelude.{◌≡◌, ◌<◌, length};
 ghost use Rattle.words.specs.Words.{words};
 ghost use Rattle.headers.specs.Header.{name_place};

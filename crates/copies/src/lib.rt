@@ -1,4 +1,7 @@
 // Bytes copied into a lent buffer, and cleared there. The definitions are in specs/Copies.
+
+#![tactic(auto)]
+
 ghost use Rattle.std.specs.Prelude.{◌≡◌};
 ghost use Rattle.copies.specs.Copies.{copied, cleared};
 

@@ -1,4 +1,7 @@
 // The numbers and floats of an ellipse or an arc in two lent slices. Definitions: specs/Numbers.
+
+#![tactic(auto)]
+
 ghost use Rattle.std.specs.Prelude.{◌≡◌, [], ◌∷◌, ◌+◌, ◌≤◌, ◌<◌, pos, length};
 ghost use Rattle.std.proofs.lemmas.List.Edits.{sets};
 ghost use Rattle.curve_numbers.specs.Numbers.{long_numbers, origin_floats, put_numbers, put_floats};

@@ -1,5 +1,8 @@
 // What is read of the ellipse or the arc at a place of an accepted file, its axes and origin as floats. Definitions:
 // specs/CurveViews.
+
+#![tactic(auto)]
+
 ghost use Rattle.std.specs.Prelude.{◌≡◌, true, cond, ◌+◌, ◌/◌, ◌≤◌, ◌<◌, eqb, length};
 ghost use Rattle.words.specs.Words.{words, word_at};
 ghost use Rattle.kinds.specs.Kinds.{is_curve};
@@ -9,7 +12,7 @@ ghost use Rattle.curve_views.specs.CurveViews.{float_at, origin_at, curve_at, cu
 use places::{Spotted, spotted_at};
 use turns::Turn;
 
-#[derive(Drop)]
+#[derive(Clone, Copy)]
 pub enum Origin {
     Flat { x: f64, y: f64 },
     Solid { x: f64, y: f64, z: f64 },
@@ -17,7 +20,7 @@ pub enum Origin {
 
 // An ellipse or an arc: its two axes, how it is turned, its origin; of an arc the angles where it starts and that it sweeps,
 // unsigned as they are stored.
-#[derive(Drop)]
+#[derive(Clone, Copy)]
 pub enum Curve {
     Ellipse {
         primary: f64,

@@ -1,5 +1,8 @@
 // The own rules of ellipses and arcs: where their words stand and whether their floats are numbers. Reads are total: what
 // stands beyond the slice is 0. The definitions are in specs/Curves.
+
+#![tactic(auto)]
+
 ghost use Rattle.std.specs.Prelude.{◌≡◌, not, [], ◌∷◌, ◌+◌, ◌<◌, ◌^◌};
 ghost use Rattle.words.specs.Words.{words, word_at};
 ghost use Rattle.dfloats.specs.FirstWord.{is_reserved};

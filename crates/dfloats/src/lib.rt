@@ -1,5 +1,8 @@
 // VAX D-floats of four words, read as the nearest 64-bit float. Definitions: specs/FirstWord (sign and exponent),
 // specs/Fields (fraction and rounding), specs/Reading (what is read), specs/Nearest (what nearest means).
+
+#![tactic(auto)]
+
 ghost use Rattle.std.specs.Prelude.{◌≡◌, ◌<◌, ◌^◌};
 ghost use Rattle.dfloats.specs.FirstWord.{is_reserved};
 ghost use Rattle.dfloats.specs.Fields.{digits, eighth};

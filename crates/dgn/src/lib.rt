@@ -1,6 +1,9 @@
 // The C interface of a file, as in include/dgn.h: judging it and finding a cell. No logic: each contract is the library's
 // own equation, put into numbers by specs/JudgeFind. The other functions of the header are in the crates whose names
 // begin with dgn_.
+
+#![tactic(auto)]
+
 ghost use Rattle.std.specs.Prelude.{◌≤◌, length};
 ghost use Rattle.files.specs.Judge.{judge_of};
 ghost use Rattle.finder.specs.declared.Wanted.TheVariants.{Live, WithDeleted};

@@ -1,5 +1,8 @@
 // The C interface of the views of a whole file, as in include/dgn.h: the file is judged once; then a hop finds an element at
 // the top from which one walk goes over the elements and keeps the header of each depth. Definitions: specs/Tour, specs/Views.
+
+#![tactic(auto)]
+
 ghost use Rattle.std.specs.Prelude.{◌≡◌, true, cond, not, ℕ, ◌+◌, ◌-◌, ◌*◌, ◌≤◌, ◌<◌, ◌^◌, length, ltb};
 ghost use Rattle.std.proofs.lemmas.List.Edits.{sets};
 ghost use Rattle.words.specs.Words.{words, word_at};
@@ -10,7 +13,7 @@ ghost use Rattle.dgn_all_views.specs.Views.{views_many, shown_at, views_from, Be
 ghost use Rattle.dgn_all_views.specs.Answers.{ViewsGiven};
 
 // An element's number and place.
-#[derive(Drop)]
+#[derive(Clone, Copy)]
 struct Numbered {
     number: usize,
     place: usize,

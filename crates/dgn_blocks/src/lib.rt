@@ -1,5 +1,8 @@
 // The C interface of stored journals, as in include/dgn.h: a journal to blocks, and blocks back to a journal. No logic: each
 // contract is the library's own answer, put into numbers by specs/Moves.
+
+#![tactic(auto)]
+
 ghost use Rattle.std.specs.Prelude.{◌≤◌, length};
 ghost use Rattle.blocks.specs.Blocks.{stored, flat_of};
 ghost use Rattle.blocks.specs.Calls.{to_blocks, from_blocks};

@@ -1,5 +1,8 @@
 // The C interface of the ellipse or the arc at a place, as in include/dgn.h. No logic: the contract is the library's own
 // equation, put into numbers and floats by specs/CurveReplies.
+
+#![tactic(auto)]
+
 ghost use Rattle.curve_views.specs.CurveViews.{curve_of};
 ghost use Rattle.dgn_curve.specs.CurveReplies.{CurveReplied};
 

@@ -1,5 +1,8 @@
 // The C interface of the ellipses and arcs of a whole file, as in include/dgn.h: the file is judged once, and then one pass goes
 // over its elements, each of which begins where the words of the one before end. Definitions: specs/Curves.
+
+#![tactic(auto)]
+
 ghost use Rattle.std.specs.Prelude.{◌-◌, ◌≤◌, ◌<◌, ◌^◌};
 ghost use Rattle.words.specs.Words.{words, word_at};
 ghost use Rattle.kinds.specs.FirstWord.{deleted_of};

@@ -1,5 +1,8 @@
 // The C interface of cells and an index of them, as in include/dgn.h: the cells of a file in file order, the index of a file, and
 // looking a name up in one. No logic: each contract is the library's own equation, put into numbers by specs/IndexNumbers.
+
+#![tactic(auto)]
+
 ghost use Rattle.std.specs.Prelude.{◌≤◌, length};
 ghost use Rattle.lookup.specs.LookUp.{look_up_of};
 ghost use Rattle.lookup.specs.Live.{live_look_up_of};

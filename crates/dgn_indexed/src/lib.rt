@@ -1,5 +1,8 @@
 // The C interface of a session with an index, as in include/dgn.h: the five calls that are lent it. No logic: what the calls are
 // handed and leave is in edit_answers' specs/Editing.
+
+#![tactic(auto)]
+
 ghost use Rattle.std.proofs.Math.Option.{some};
 ghost use Rattle.answers.specs.Answers.{Replied};
 ghost use Rattle.edits.specs.Calls.{rename_call, insert_call, remove_call, undo_call};

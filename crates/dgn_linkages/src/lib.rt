@@ -1,5 +1,8 @@
 // The C interface of an element's linkages, as in include/dgn.h. No logic: the contract is the library's own equation,
 // put into numbers by specs/LinkageNumbers.
+
+#![tactic(auto)]
+
 ghost use Rattle.points_linkages.specs.Linkages.{linkage_of};
 ghost use Rattle.answers.specs.Answers.{Replied};
 ghost use Rattle.dgn_linkages.specs.LinkageNumbers.{linkage_reply};

@@ -1,5 +1,8 @@
 // The C interface of a session, as in include/dgn.h: inserting and removing. No logic: what the calls are handed and
 // leave is in edit_answers' specs/Editing.
+
+#![tactic(auto)]
+
 ghost use Rattle.edits.specs.Calls.{insert_call, remove_call};
 ghost use Rattle.opening.specs.Opening.{session_of};
 ghost use Rattle.edit_answers.specs.Editing.{StepLeft, header_given};

@@ -1,5 +1,8 @@
 // The C interface of names, as in include/dgn.h: packing a text and unpacking two words. No logic: each contract is the
 // library's own equation, put into numbers by specs/PackUnpack.
+
+#![tactic(auto)]
+
 ghost use Rattle.std.specs.Prelude.{◌≡◌, [], ◌∷◌, ◌++◌, ◌≤◌, length};
 ghost use Rattle.std.proofs.lemmas.List.Edits.{sets};
 ghost use Rattle.names.specs.Names.{packed, unpacked};

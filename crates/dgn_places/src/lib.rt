@@ -1,5 +1,8 @@
 // The C interface of a place, as in include/dgn.h: an element's extent and its points. No logic: each contract is the
 // library's own equation, put into numbers by specs/ExtentPoint.
+
+#![tactic(auto)]
+
 ghost use Rattle.places.specs.Extents.{extent_answer};
 ghost use Rattle.points_linkages.specs.Points.{point_of};
 ghost use Rattle.answers.specs.Answers.{Replied};

@@ -1,6 +1,9 @@
 // The C interface of the plates of cells, as in include/dgn.h: of the one at a place, and of those of a whole file, which is
 // judged once and then gone over in one pass, each element beginning where the words of the one before end. Definitions:
 // specs/Plates, specs/Answers.
+
+#![tactic(auto)]
+
 ghost use Rattle.std.specs.Prelude.{◌≡◌, ◌+◌, ◌-◌, ◌≤◌, ◌<◌, ◌^◌, length};
 ghost use Rattle.std.proofs.lemmas.List.Edits.{sets};
 ghost use Rattle.words.specs.Words.{words, word_at, Below};

@@ -1,5 +1,8 @@
 // The C interface of the points of a whole file, as in include/dgn.h: the file is judged once, and then one pass goes over
 // its elements, each of which begins where the words of the one before end. Definitions: specs/Points.
+
+#![tactic(auto)]
+
 ghost use Rattle.std.specs.Prelude.{◌≡◌, ◌+◌, ◌-◌, ◌*◌, ◌≤◌, ◌<◌, ◌^◌, length};
 ghost use Rattle.std.proofs.lemmas.List.Edits.{sets};
 ghost use Rattle.words.specs.Words.{words};

@@ -1,6 +1,9 @@
 // The C interface of the check of ranges, as in include/dgn.h: of one element, and of a whole file. Of a file it is judged once,
 // and then one pass goes over its elements, each of which begins where the words of the one before end. Definitions: specs/Check,
 // specs/Ranges, specs/Answers.
+
+#![tactic(auto)]
+
 ghost use Rattle.std.specs.Prelude.{◌-◌, ◌≤◌, ◌<◌, ◌^◌, length};
 ghost use Rattle.words.specs.Words.{words};
 ghost use Rattle.answers.specs.Answers.{Replied};

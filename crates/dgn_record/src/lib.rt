@@ -1,5 +1,8 @@
 // The C interface of a journal's last record, as in include/dgn.h: what a host needs to show a history, newest first. No
 // logic: the contract is the definition of edits' specs/Records, put into numbers by specs/LastRecord.
+
+#![tactic(auto)]
+
 ghost use Rattle.std.specs.Prelude.{◌≡◌, [], ◌∷◌, ◌≤◌, length};
 ghost use Rattle.edits.specs.Records.{place_of};
 ghost use Rattle.answers.specs.Answers.{done, Replied};

@@ -1,5 +1,8 @@
 // The C interface of the text at a place, as in include/dgn.h: its numbers, where its characters stand, and its fields. No
 // logic: each contract is the library's own equation, put into numbers by specs/TextReplies.
+
+#![tactic(auto)]
+
 ghost use Rattle.text_views.specs.TextViews.{text_of, characters_of, field_of};
 ghost use Rattle.answers.specs.Answers.{Replied};
 ghost use Rattle.dgn_text.specs.TextReplies.{text_reply, characters_reply, field_reply};

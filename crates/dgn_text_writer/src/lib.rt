@@ -1,5 +1,8 @@
 // The C interface of the writer of texts, as in include/dgn.h. No logic: what the function is handed and leaves is in
 // specs/Writing.
+
+#![tactic(auto)]
+
 ghost use Rattle.std.specs.Prelude.{◌≡◌, true, eqb, ◌%◌};
 ghost use Rattle.dgn_text_writer.specs.Writing.{text_given, odd_by, text_of, WroteText};
 

@@ -1,5 +1,8 @@
 // The C interface of the texts of a whole file, as in include/dgn.h: the file is judged once, and then one walk goes over its
 // elements. Definitions: specs/Texts, specs/Answers.
+
+#![tactic(auto)]
+
 ghost use Rattle.std.specs.Prelude.{◌≡◌, ℕ, ◌+◌, ◌-◌, ◌/◌, ◌≤◌, ◌<◌, length};
 ghost use Rattle.std.proofs.lemmas.List.Edits.{sets};
 ghost use Rattle.words.specs.Words.{words};

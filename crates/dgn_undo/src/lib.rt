@@ -1,5 +1,8 @@
 // The C interface of a session, as in include/dgn.h: undoing. No logic: what the call is handed and leaves is in
 // edit_answers' specs/Editing.
+
+#![tactic(auto)]
+
 ghost use Rattle.edits.specs.Calls.{undo_call};
 ghost use Rattle.opening.specs.Opening.{session_of};
 ghost use Rattle.edit_answers.specs.Editing.{StepLeft};

@@ -1,5 +1,8 @@
 // The C interface of an element's view, as in include/dgn.h. No logic: the contract is the library's own equation, put
 // into numbers by specs/Views.
+
+#![tactic(auto)]
+
 ghost use Rattle.views.specs.Views.{view_of};
 ghost use Rattle.answers.specs.Answers.{Replied};
 ghost use Rattle.dgn_views.specs.Views.{view_reply};

@@ -1,5 +1,8 @@
 // The C interface of the writer, as in include/dgn.h. No logic: what the function is handed and leaves is in
 // specs/Writing.
+
+#![tactic(auto)]
+
 ghost use Rattle.dgn_writer.specs.Writing.{Wrote};
 
 #[unsafe(no_mangle)]

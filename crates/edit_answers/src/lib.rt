@@ -1,6 +1,9 @@
 // What the C interface's calls of a session have in common: their answer as numbers. What they are handed and leave is
 // in specs/Editing, the laws of it in proofs/Sessions; proofs/Results: a lent index stays; proofs/Places: the place of each
 // refusal fits.
+
+#![tactic(auto)]
+
 ghost use Rattle.std.specs.Prelude.{◌≡◌};
 ghost use Rattle.std.proofs.Math.Option.{none, some};
 ghost use Rattle.answers.specs.Answers.{Replied};

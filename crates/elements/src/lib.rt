@@ -1,5 +1,8 @@
 // One element alone: all rules that do not look at its components. The definitions are in specs/: Attributes, Rules (the
 // order of checks); those of its fields are in headers, those of the types in kinds.
+
+#![tactic(auto)]
+
 ghost use Rattle.std.specs.Prelude.{◌≡◌, true, false, not, ◌&&◌, ◌||◌, [], ◌∷◌, ℕ, ◌+◌, ◌<◌, ◌≤◌, ◌^◌, eqb, leb};
 ghost use Rattle.words.specs.Words.{words};
 ghost use Rattle.kinds.specs.Kinds.{is_header, is_curve, is_linked, is_unread, fixed_part, may_stand};
@@ -11,7 +14,7 @@ ghost use Rattle.elements.specs.Simple.{simple_checks};
 
 // What one element is read as: refused with a number; an element that its own words end; or a header, whose
 // components stand from `inner` to `end`.
-#[derive(Drop)]
+#[derive(Clone, Copy)]
 pub enum Head {
     Bad { number: usize },
     Plain { next: usize },

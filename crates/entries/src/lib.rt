@@ -1,5 +1,8 @@
 // The entries of an index in lent bytes, eight bytes each, read and stored as one number. Reads and stores are total.
 // The definitions are in specs/Entries.
+
+#![tactic(auto)]
+
 ghost use Rattle.std.specs.Prelude.{◌≡◌, ◌+◌, ◌*◌, ◌<◌, get_or};
 ghost use Rattle.entries.specs.Entries.{entries, entries_ok, Stored};
 

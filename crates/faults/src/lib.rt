@@ -3,6 +3,9 @@
 // room, with the place of the file's marker (specs/Inserting). A journal's record: whether its reversal is allowed
 // (specs/Reversing). proofs/ExactMarks, ExactInserts, ExactReversals: on an accepted file they are those of the crate
 // edits.
+
+#![tactic(auto)]
+
 ghost use Rattle.std.specs.Prelude.{◌≡◌, ◌||◌, eqb};
 ghost use Rattle.words.specs.Words.{words};
 ghost use Rattle.edits.specs.Allowed.{flag_differs, piece_refusal};
@@ -122,14 +125,14 @@ fn stands_under(found: Spotted, header: Above) -> bool
 }
 
 // What an insert is answered.
-#[derive(Drop)]
+#[derive(Clone, Copy)]
 pub enum Insertion {
     Allowed,
     Refused { number: usize, place: usize },
 }
 
 // The components under a header, or at the top: where their list ends, their depth and the type above them.
-#[derive(Drop)]
+#[derive(Clone, Copy)]
 enum Components {
     Absent,
     Listed {

@@ -1,5 +1,8 @@
 // The header fields of an element of type 3, 4, 6 or 11, and the checks of what is handed to the writer, in their
 // order. The definitions are in specs/: Words (an element's words), Faults (the checks).
+
+#![tactic(auto)]
+
 ghost use Rattle.std.specs.Prelude.{◌≡◌, ◌/◌, true, cond, length};
 ghost use Rattle.limits.specs.Limits.{dim_ok};
 ghost use Rattle.kinds.specs.Kinds.{fixed_part};
@@ -8,7 +11,7 @@ ghost use Rattle.fields.specs.Words.{range_coordinates, points_in, size_of, elem
 ghost use Rattle.fields.specs.Faults.{each_coordinate, is_written, words_ok, symbology_ok, fields_ok, points_fit, arguments_ok, point_number_ok, tail_ok, write_fault};
 
 // All header fields of an element; its size and N follow from its points and its tail.
-#[derive(Drop)]
+#[derive(Clone, Copy)]
 pub struct Fields {
     pub kind: usize,
     pub level: usize,

@@ -2,6 +2,9 @@
 // of one list are a loop, so that the depth of calls is that of nesting. The rules of one element's own words are
 // elements::head_at, where a list ends is ends::stop_at. Definitions: specs/Judge, specs/Reach; the inner contracts of
 // the two are in specs/Progress.
+
+#![tactic(auto)]
+
 ghost use Rattle.std.specs.Prelude.{◌≡◌, false, cond, ◌||◌, ℕ, ◌+◌, ◌/◌, ◌≤◌, ◌<◌, ◌^◌, max, length, ltb, leb};
 ghost use Rattle.words.specs.Words.{words};
 ghost use Rattle.headers.specs.Header.{type_at};
@@ -14,7 +17,7 @@ ghost use Rattle.files.specs.Progress.{depth_of, list_in, ElementJudged, ListJud
 mod ends;
 
 // What stands where an element of a list would begin.
-#[derive(Drop)]
+#[derive(Clone, Copy)]
 pub enum Stop {
     More,
     Done,
@@ -23,7 +26,7 @@ pub enum Stop {
 
 // What an element or a list of elements is judged to be: where it ends, its elements at all depths, the greatest
 // depth and how many of them stand in the list itself; or a number and a place.
-#[derive(Drop)]
+#[derive(Clone, Copy)]
 pub enum Verdict {
     Good {
         next: usize,
@@ -38,7 +41,7 @@ pub enum Verdict {
 }
 
 // What judging a file answers.
-#[derive(Drop)]
+#[derive(Clone, Copy)]
 pub enum Judged {
     Accepted {
         elements: usize,
@@ -77,7 +80,7 @@ fn stops(each: bool, until: usize, end: usize) -> bool
 
 // How far elements of a list were judged, one after another: up to one that ends after a place, or is a header (`last`); up
 // to a place where no head of an element stands; or to a fault beneath an element.
-#[derive(Drop)]
+#[derive(Clone, Copy)]
 enum Progress {
     Stopped {
         next: usize,
@@ -101,7 +104,7 @@ enum Progress {
 
 // What the elements at the top come to, one after another: the first that ends after a place, or is a header, with how many
 // stand before it; the end of all; or a fault.
-#[derive(Drop)]
+#[derive(Clone, Copy)]
 pub enum Reached {
     Element {
         start: usize,

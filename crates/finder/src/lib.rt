@@ -1,5 +1,8 @@
 // The finder: the first cell of an accepted file in file order that has a name, deleted cells passed over unless they are asked
 // for. Definitions: specs/Finder; of one look specs/Look.
+
+#![tactic(auto)]
+
 ghost use Rattle.std.specs.Prelude.{◌≡◌, ◌+◌, ◌<◌, ◌&&◌, length, eqb};
 ghost use Rattle.words.specs.Words.{words, word_at};
 ghost use Rattle.headers.specs.Header.{type_at};
@@ -8,7 +11,7 @@ ghost use Rattle.finder.specs.Finder.{has_name, is_live, is_wanted, is_hit, sear
 ghost use Rattle.finder.specs.Look.{MayLook, MayPass, passed_by, FirstFrom};
 
 // Which cells are found: live ones alone, or deleted ones too.
-#[derive(Drop)]
+#[derive(Clone, Copy)]
 pub enum Wanted {
     Live,
     WithDeleted,
@@ -16,7 +19,7 @@ pub enum Wanted {
 
 // The first cell with a name: its place and how many elements were looked at, itself counted; or the refusal, 13 with
 // the count of all elements.
-#[derive(Drop)]
+#[derive(Clone, Copy)]
 pub enum Found {
     At {
         place: usize,

@@ -1,13 +1,16 @@
 // The deleted flags of the elements of an extent, in a file's used part: counted, set alike with the old ones packed into
 // a journal's free part, and written back from a payload. The elements are found one after another by their sizes, up to
 // the place `end`. Definitions: specs/Extents; proofs/Walked: in an accepted file they are the extent's.
+
+#![tactic(auto)]
+
 ghost use Rattle.std.specs.Prelude.{◌≡◌, ◌/◌, ◌≤◌, ◌^◌, length, ltb};
 ghost use Rattle.words.specs.Words.{words};
 ghost use Rattle.edits.specs.Bits.{binary, flag_size, word_flags, flags_ok};
 ghost use Rattle.flags.specs.Extents.{places_by, behind_by, places_in, flag_put, flags_put, flags_read, all_put, old_put};
 
 // The flags of up to sixteen elements as the bits of a word, the first in the lowest, and the place behind them.
-#[derive(Drop)]
+#[derive(Clone, Copy)]
 pub struct Sixteen {
     pub next: usize,
     pub bits: usize,

@@ -1,5 +1,8 @@
 // The header of one element: its type, its size, its extent, and the checks of bits 6 and 7 of word 0 and of its depth.
 // Definitions: specs/Header, specs/Flags.
+
+#![tactic(auto)]
+
 ghost use Rattle.std.specs.Prelude.{◌≡◌, ◌&&◌};
 ghost use Rattle.words.specs.Words.{words};
 ghost use Rattle.headers.specs.Checks.{first_fault};

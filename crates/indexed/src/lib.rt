@@ -2,6 +2,9 @@
 // alone, and so knows whether their index will fit; then it makes the call without an index, and at last builds the index of
 // the file as it is now. Where the index will not fit, an edit is lent the used part of the journal alone: no record fits
 // there, so nothing changes, its own refusals are told, and 16 stands for 15. Contracts: one step of edits' specs/Calls.
+
+#![tactic(auto)]
+
 ghost use Rattle.std.specs.Prelude.{◌≡◌, cond, not, ◌&&◌, ◌+◌, ◌-◌, ◌*◌, ◌/◌, ◌≤◌, length, leb, ltb};
 ghost use Rattle.words.specs.Words.{words};
 ghost use Rattle.limits.specs.Limits.{used_ok};
@@ -20,7 +23,7 @@ use journals::Last;
 use places::Above;
 
 // The used lengths of file, journal and index after a call that is made, or the refusal's number and place.
-#[derive(Drop)]
+#[derive(Clone, Copy)]
 pub enum Indexed {
     Made {
         used: usize,

@@ -1,4 +1,7 @@
 // The index of a file's cells, built afresh in a lent buffer. Definitions: specs/Indexing.
+
+#![tactic(auto)]
+
 ghost use Rattle.std.specs.Prelude.{◌≡◌, ◌<◌, length};
 ghost use Rattle.words.specs.Words.{words};
 ghost use Rattle.headers.specs.Header.{name_first, name_second};
@@ -7,14 +10,14 @@ ghost use Rattle.cells.specs.Index.{cell_entry};
 ghost use Rattle.indexing.specs.Indexing.{MayBuild, MayMeet, Met, Gathered, Lists, Builds, Puts, BuildsFile};
 
 // What writing an index answers: its used length, or that the buffer is too short.
-#[derive(Drop)]
+#[derive(Clone, Copy)]
 pub enum Put {
     Index { used: usize },
     Short,
 }
 
 // What building the index of a file answers: its used length, or a number and a place.
-#[derive(Drop)]
+#[derive(Clone, Copy)]
 pub enum Built {
     Index { used: usize },
     Refused { number: usize, place: usize },

@@ -1,5 +1,8 @@
 // The records of a journal, in a lent buffer: one pushed behind the used part, and the last one read back. Lengths are
 // in bytes, places in words. Where a record does not fit, the buffer stays as it was. Definitions: specs/Journals.
+
+#![tactic(auto)]
+
 ghost use Rattle.std.specs.Prelude.{◌≡◌, ◌+◌, ◌*◌, ◌≤◌, ◌&&◌, length};
 ghost use Rattle.words.specs.Words.{bytes};
 ghost use Rattle.edits.specs.Records.{six, place_of, at_top};
@@ -79,7 +82,7 @@ pub fn push(
 // A record read back from a journal: its places and its payload, with the used length before it. `header` is the
 // number of the header place's long, TOP at the top; the old flags, or the words removed, are the `count` words from
 // byte `before` on.
-#[derive(Drop)]
+#[derive(Clone, Copy)]
 pub enum Last {
     Bad,
     Flag {

@@ -1,5 +1,8 @@
 // The types of elements: which are headers, which have a count, points, floats or attributes, how long their fixed parts are,
 // and where they may stand. The definitions are in specs/: FirstWord (where the type stands), Kinds (the types).
+
+#![tactic(auto)]
+
 ghost use Rattle.std.specs.Prelude.{◌≡◌, true, cond};
 ghost use Rattle.kinds.specs.FirstWord.{type_of};
 ghost use Rattle.kinds.specs.Kinds.{is_header, is_counted, is_pointed, is_curve, is_linked, is_unread, fixed_part, may_stand};

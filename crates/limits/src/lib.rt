@@ -1,4 +1,7 @@
 // What a call may be handed: the dimension and the lengths of lent bytes. Definitions: specs/Limits.
+
+#![tactic(auto)]
+
 ghost use Rattle.std.specs.Prelude.{◌≡◌};
 ghost use Rattle.limits.specs.Limits.{dim_ok, size_ok, used_ok, call_ok};
 

@@ -1,4 +1,7 @@
 // The line that celllist prints of an element, by its place in a file. The definitions are in specs/Element.
+
+#![tactic(auto)]
+
 ghost use Rattle.std.specs.Prelude.{◌≡◌, ◌+◌, ◌≤◌};
 ghost use Rattle.words.specs.Words.{words, WordRead};
 ghost use Rattle.headers.specs.Header.{type_at};

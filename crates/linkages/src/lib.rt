@@ -1,11 +1,14 @@
 // Attribute linkages in the words of a lent slice, from one place to another. Reads are total: what stands beyond the
 // slice is 0. The definitions are in specs/Linkages.
+
+#![tactic(auto)]
+
 ghost use Rattle.std.specs.Prelude.{◌≡◌, ◌+◌, ◌<◌, ◌^◌};
 ghost use Rattle.words.specs.Words.{words};
 ghost use Rattle.linkages.specs.Linkages.{linkage_words, fitting_words, linkages_fill, linkage_at, linkage_in};
 
 // What the walk gives: a linkage's kind, its place (a word's index in the slice), its size in words and its id.
-#[derive(Drop)]
+#[derive(Clone, Copy)]
 pub enum Linkage {
     At {
         user: bool,

@@ -1,5 +1,8 @@
 // The lines that celllist, textlist and platelist print, each from its fields, written to the front of a lent buffer. Defined in
 // specs/Lines, specs/Texts and specs/Plates.
+
+#![tactic(auto)]
+
 ghost use Rattle.std.specs.Prelude.{◌+◌, ◌*◌, ◌<◌, ◌≤◌, ◌≡◌, [], ◌∷◌, length, take};
 ghost use Rattle.listing.specs.Lines.{decimal, field, state, last_field, element_line, heading_line, refused_line, end_line, WritesLine};
 ghost use Rattle.listing.specs.Texts.{hexadecimal, prints, escape, escaped, text_line, text_room, text_heading};

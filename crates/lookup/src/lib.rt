@@ -1,5 +1,8 @@
 // Looking a name up in an index, by halving, with or without the deleted cells. Any bytes may be lent: the answer is that of the rule.
 // Definitions: specs/LookUp, specs/Live; of the table of live cells specs/Table.
+
+#![tactic(auto)]
+
 ghost use Rattle.std.specs.Prelude.{◌≡◌, false, cond, ◌+◌, ◌/◌, ◌%◌, ◌<◌, ◌≤◌, ◌^◌, length, get_or, set, drop};
 ghost use Rattle.words.specs.Words.{words};
 ghost use Rattle.entries.specs.Entries.{entries, name_of};
@@ -8,14 +11,14 @@ ghost use Rattle.lookup.specs.Live.{live_here, go_on, live_look_up_of};
 ghost use Rattle.lookup.specs.Table.{marked, named_at, MayFill, TableTo, LookedTo};
 
 // Where the rule ends, and how many entries it looked at.
-#[derive(Drop)]
+#[derive(Clone, Copy)]
 pub struct Halved {
     pub low: usize,
     pub looks: usize,
 }
 
 // The place that the entry found holds, or a refusal, and the number of looks.
-#[derive(Drop)]
+#[derive(Clone, Copy)]
 pub enum Found {
     At {
         place: usize,

@@ -1,6 +1,9 @@
 // Marking the elements of an extent deleted or live, and renaming a cell: calls of a session on its two lent buffers. Each
 // opens the session (1, the file's own refusals, 1 for an early marker) and so finds its place, then its own refusals and 16,
 // and changes the buffers last. Contracts: one step of edits' specs/Calls.
+
+#![tactic(auto)]
+
 ghost use Rattle.edits.specs.Calls.{mark_call, rename_call};
 ghost use Rattle.opening.specs.Opening.{session_of};
 ghost use Rattle.opening.specs.Steps.{Leaves, Stepped, Open};

@@ -1,6 +1,9 @@
 // Inserting a piece and removing an element: calls of a session on its two lent buffers. Each opens the session (1, the file's
 // own refusals, 1 for an early marker) and so finds its place, then its own refusals, 15 and 16, and changes the buffers
 // last. Contracts: one step of edits' specs/Calls.
+
+#![tactic(auto)]
+
 ghost use Rattle.std.specs.Prelude.{◌≡◌, true, length};
 ghost use Rattle.limits.specs.Limits.{size_ok};
 ghost use Rattle.edits.specs.Calls.{insert_call, remove_call};

@@ -1,4 +1,7 @@
 // Radix-50 names: texts of at most six letters, and the two words that store them. The definitions are in specs/Names.
+
+#![tactic(auto)]
+
 mod pairs;
 
 ghost use Rattle.std.specs.Prelude.{◌≡◌, ◌/◌, ◌<◌, ◌≤◌, true, cond, ltb, length};
@@ -6,28 +9,28 @@ ghost use Rattle.names.specs.Names.{code_of, letter_of, letters_of, all_letters,
 ghost use Rattle.names.specs.Pairs.{is_table};
 
 // What packing a text answers.
-#[derive(Drop)]
+#[derive(Clone, Copy)]
 pub enum Packed {
     Words { first: usize, second: usize },
     Refused { number: usize, place: usize },
 }
 
 // What unpacking two words answers, beside the letters.
-#[derive(Drop)]
+#[derive(Clone, Copy)]
 pub enum Answer {
     Text { length: usize },
     Refused { number: usize, place: usize },
 }
 
 // An answer and the letters of its text. The bytes after the text's length are zero, all six where refused.
-#[derive(Drop)]
+#[derive(Clone, Copy)]
 pub struct Unpacked {
     pub answer: Answer,
     pub letters: [u8; 6],
 }
 
 // The codes of the three letters of a word.
-#[derive(Drop)]
+#[derive(Clone, Copy)]
 struct Codes {
     a: usize,
     b: usize,

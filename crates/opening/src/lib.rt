@@ -4,6 +4,9 @@
 //
 // What the calls of a session share: a refusal, and header places as the journal's numbers. Definitions: specs/Steps; of
 // the ways out of a step the laws are in proofs/.
+
+#![tactic(auto)]
+
 ghost use Rattle.std.specs.Prelude.{◌≡◌, ◌&&◌, ◌-◌, ◌%◌, ◌≤◌, length};
 ghost use Rattle.words.specs.Words.{words};
 ghost use Rattle.limits.specs.Limits.{dim_ok, used_ok};
@@ -19,7 +22,7 @@ use journals::TOP;
 use places::{Above, Spotted};
 
 // What opening a session answers: the place of the file's marker and what starts at a place of it, or a refusal.
-#[derive(Drop)]
+#[derive(Clone, Copy)]
 pub enum Opened {
     Ready { marker: usize, found: Spotted },
     Refused { number: usize, place: usize },

@@ -1,26 +1,29 @@
 // The elements of an accepted file in file order, by places, and what the calls that go over them from some number on have in
 // common: how such a call begins, when no element fits, and what is taken. Definitions: specs/Order, specs/Calls, specs/Fitting.
+
+#![tactic(auto)]
+
 ghost use Rattle.std.specs.Prelude.{◌≡◌};
 ghost use Rattle.words.specs.Words.{words};
 ghost use Rattle.order.specs.Order.{start_of};
 ghost use Rattle.order.specs.Calls.{begun_of, none_fits};
 
 // How many elements the file has, or the number that the call returns at once.
-#[derive(Drop)]
+#[derive(Clone, Copy)]
 pub enum Begun {
     Elements { elements: usize },
     Refused { answer: usize },
 }
 
 // An element does not fit, or so many numbers are used with it.
-#[derive(Drop)]
+#[derive(Clone, Copy)]
 pub enum Taken {
     Full,
     Used { used: usize },
 }
 
 // The number of the next element, and how many numbers are used.
-#[derive(Drop)]
+#[derive(Clone, Copy)]
 pub struct Part {
     pub next: usize,
     pub used: usize,

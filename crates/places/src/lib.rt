@@ -3,6 +3,9 @@
 //
 // The extent of the element that starts at a place of an accepted file: where it starts and ends, and its bytes.
 // Definitions: specs/Extents.
+
+#![tactic(auto)]
+
 ghost use Rattle.std.specs.Prelude.{◌≡◌, ◌/◌, ◌<◌, length};
 ghost use Rattle.words.specs.Words.{words};
 ghost use Rattle.places.specs.declared.Above.TheVariants.{Top};
@@ -11,14 +14,14 @@ ghost use Rattle.places.specs.Descent.{IsLocated, locate_of};
 ghost use Rattle.places.specs.Extents.{extent_answer, extent_bytes};
 
 // The direct header of an element.
-#[derive(Drop)]
+#[derive(Clone, Copy)]
 pub enum Above {
     Top,
     Under { place: usize },
 }
 
 // The element that starts at a place: where its extent ends, its depth and its direct header; or the refusal.
-#[derive(Drop)]
+#[derive(Clone, Copy)]
 pub enum Spotted {
     At {
         end: usize,
@@ -32,7 +35,7 @@ pub enum Spotted {
 }
 
 // A file judged, with the place of its marker and what starts at a place.
-#[derive(Drop)]
+#[derive(Clone, Copy)]
 pub enum Placed {
     Refused { number: usize, place: usize },
     Accepted { marker: usize, found: Spotted },
@@ -167,7 +170,7 @@ pub fn spotted_at(file: &[u8], dim: usize, place: usize) -> Spotted
 }
 
 // An extent, from its first word to the word after its last.
-#[derive(Drop)]
+#[derive(Clone, Copy)]
 pub enum Extent {
     At { start: usize, end: usize },
     Refused { number: usize, place: usize },

@@ -1,4 +1,7 @@
 // The line that platelist prints of a cell, by its place in a file. The definitions are in specs/Plate.
+
+#![tactic(auto)]
+
 ghost use Rattle.words.specs.Words.{words};
 ghost use Rattle.listing.specs.Lines.{WritesLine};
 ghost use Rattle.plate_lines.specs.Plate.{line_with, line_in};

@@ -1,5 +1,8 @@
 // Program platelist: the plates of the live cells of a 2D file from standard input, a line for each in file order, or the line of
 // its refusal.
+
+#![tactic(auto)]
+
 fn main() {
     printing::list_input(printing::Listed::Plates, b"platelist");
 }

@@ -1,6 +1,9 @@
 // The plate of a cell: its code, how many live direct components it has of each kind, and how many levels its mask sets.
 // Definitions: specs/Plates. A crate above the library: its proofs cite the definitions of the crates below and the page
 // promises alone (docs/ARCHITECTURE.md, "A crate above the library").
+
+#![tactic(auto)]
+
 ghost use Rattle.std.specs.Prelude.{◌≡◌, ◌+◌, ◌/◌, ◌≤◌, ◌<◌, length};
 ghost use Rattle.std.specs.Int.Count.{ones_in};
 ghost use Rattle.words.specs.Words.{words, word_at};
@@ -11,7 +14,7 @@ use places::{Spotted, spotted_at};
 
 // A cell's plate: the two words of its name; how many of its direct components are live and lines, of types 4, 6, 11 or 21,
 // texts, ellipses or arcs, headers, and of other types; how many levels are set.
-#[derive(Drop)]
+#[derive(Clone, Copy)]
 pub struct Plate {
     pub first: usize,
     pub second: usize,
@@ -24,7 +27,7 @@ pub struct Plate {
     pub levels: usize,
 }
 
-#[derive(Drop)]
+#[derive(Clone, Copy)]
 pub enum Plated {
     Counted { plate: Plate },
     Refused { number: usize, place: usize },

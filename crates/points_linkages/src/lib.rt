@@ -1,5 +1,8 @@
 // Points and linkages of the element at a place of an accepted file, by number. Definitions: specs/Points,
 // specs/Linkages.
+
+#![tactic(auto)]
+
 pub mod attributes;
 pub mod points;
 
@@ -7,14 +10,14 @@ pub use attributes::linkage_at;
 pub use points::{before_points, point_at, point_count};
 
 // A point of a 2D or a 3D file.
-#[derive(Drop)]
+#[derive(Clone, Copy)]
 pub enum Point {
     Flat { x: i64, y: i64 },
     Solid { x: i64, y: i64, z: i64 },
     Refused { number: usize, place: usize },
 }
 
-#[derive(Drop)]
+#[derive(Clone, Copy)]
 pub enum Attribute {
     At {
         user: bool,

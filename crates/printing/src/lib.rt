@@ -2,12 +2,15 @@
 // the line of its refusal. The lines are those of the crates listing, lines, text_lines and plate_lines, and the order is that of
 // walking::next; they are written some KiB at a time. Where a read or a write fails, standard error says so and lines are
 // missing: a listing of elements or texts is whole where its last line is that of the end or of a refusal.
+
+#![tactic(auto)]
+
 ghost use Rattle.std.specs.Prelude.{◌≤◌, length};
 
 use libc::{STDERR_FILENO, STDIN_FILENO, STDOUT_FILENO};
 
 // What a listing has lines of.
-#[derive(Drop)]
+#[derive(Clone, Copy)]
 pub enum Listed {
     Elements,
     Texts,

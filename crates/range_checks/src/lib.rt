@@ -1,4 +1,7 @@
 // Whether all points of an element lie in its range. Definitions: specs/InRange.
+
+#![tactic(auto)]
+
 ghost use Rattle.std.specs.Prelude.{◌≡◌, true, ◌+◌, ◌*◌, ◌/◌, ◌<◌, ◌≤◌, ◌^◌, length};
 ghost use Rattle.words.specs.Words.{words, WordRead, long_at, signed};
 ghost use Rattle.points_linkages.specs.Points.{point_at};
@@ -7,7 +10,7 @@ ghost use Rattle.range_checks.specs.InRange.{is_range_checked, between, point_wo
 use places::{Spotted, spotted_at};
 use views::Range;
 
-#[derive(Drop)]
+#[derive(Clone, Copy)]
 pub enum InRange {
     Yes,
     No,

@@ -1,4 +1,7 @@
 // The longs of a range as coordinates, read and stored. Definitions: specs/Ranges.
+
+#![tactic(auto)]
+
 ghost use Rattle.std.specs.Prelude.{◌≡◌};
 ghost use Rattle.words.specs.Words.{words, long_at, put_long};
 ghost use Rattle.ranges.specs.Ranges.{coordinate, stored, is_coordinate};

@@ -1,5 +1,8 @@
 // The numbers of a text (type 17), and the checks of what is handed to the writer of a text, in their order. The definitions
 // are in specs/: Words (a text's words), Faults (the checks).
+
+#![tactic(auto)]
+
 ghost use Rattle.std.specs.Prelude.{◌≡◌, ◌+◌, ◌*◌, ◌/◌, ◌≤◌};
 ghost use Rattle.texts.specs.Texts.{text_part};
 ghost use Rattle.fields.specs.Faults.{each_at_most};
@@ -8,7 +11,7 @@ ghost use Rattle.text_fields.specs.Faults.{byte_numbers, long_numbers, numbers_o
 // All numbers of a text but those that follow from its characters and fields. The turn is the four longs `first` to `fourth` as
 // they are stored; in 2D `first` is the rotation, and the other three and z are 0. `odd` is the byte behind characters and
 // fields where they are odd in number, else 0.
-#[derive(Drop)]
+#[derive(Clone, Copy)]
 pub struct Text {
     pub font: usize,
     pub justification: usize,

@@ -1,4 +1,7 @@
 // The line that textlist prints of a text, by its place in a 2D file. The definitions are in specs/Text.
+
+#![tactic(auto)]
+
 ghost use Rattle.std.specs.Prelude.{◌≡◌, min, length};
 ghost use Rattle.listing.specs.Lines.{WritesLine};
 ghost use Rattle.listing.specs.Texts.{text_room};

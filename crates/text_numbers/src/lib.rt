@@ -1,4 +1,7 @@
 // The numbers of a text in a lent slice. Definitions: specs/Numbers.
+
+#![tactic(auto)]
+
 ghost use Rattle.std.specs.Prelude.{◌≡◌, ◌+◌, ◌≤◌, length};
 ghost use Rattle.std.proofs.lemmas.List.Edits.{sets};
 ghost use Rattle.text_numbers.specs.Numbers.{origin_numbers, odd_number, first_numbers, last_numbers, put_text};

@@ -1,5 +1,8 @@
 // What is read of the text at a place of an accepted file: its numbers, its characters as a part of the file, its
 // enter-data fields by number. Definitions: specs/TextViews.
+
+#![tactic(auto)]
+
 ghost use Rattle.std.specs.Prelude.{◌≡◌, ◌/◌, ◌<◌, length};
 ghost use Rattle.words.specs.Words.{words};
 ghost use Rattle.texts.specs.Texts.{counts_at};
@@ -8,14 +11,14 @@ ghost use Rattle.text_views.specs.TextViews.{origin_at, odd_at, text_at, field_j
 use places::{Spotted, spotted_at};
 use turns::Turn;
 
-#[derive(Drop)]
+#[derive(Clone, Copy)]
 pub enum Origin {
     Flat { x: i64, y: i64 },
     Solid { x: i64, y: i64, z: i64 },
 }
 
 // The byte behind characters and fields, where these have an odd number of bytes.
-#[derive(Drop)]
+#[derive(Clone, Copy)]
 pub enum Odd {
     Absent,
     Byte { value: u8 },
@@ -23,7 +26,7 @@ pub enum Odd {
 
 // The numbers of a text: font, justification, length and height multipliers, turn and origin; how many characters and
 // fields it has; the odd last byte.
-#[derive(Drop)]
+#[derive(Clone, Copy)]
 pub struct Text {
     pub font: u8,
     pub justification: u8,
@@ -36,21 +39,21 @@ pub struct Text {
     pub odd: Odd,
 }
 
-#[derive(Drop)]
+#[derive(Clone, Copy)]
 pub enum TextView {
     Read { text: Text },
     Refused { number: usize, place: usize },
 }
 
 // The characters of a text, from a byte of the file on.
-#[derive(Drop)]
+#[derive(Clone, Copy)]
 pub enum Characters {
     At { start: usize, length: usize },
     Refused { number: usize, place: usize },
 }
 
 // An enter-data field: the first of its characters, counted from 1, how many they are, and its justification.
-#[derive(Drop)]
+#[derive(Clone, Copy)]
 pub enum FieldView {
     Read {
         first: u8,

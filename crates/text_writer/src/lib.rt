@@ -1,5 +1,8 @@
 // Writing a text into a lent buffer: the checks, then the words one after another. The words and the checks are those of
 // the crate text_fields; specs/Writing has the answer and what the buffer then holds.
+
+#![tactic(auto)]
+
 ghost use Rattle.std.specs.Prelude.{◌≡◌, true, [], ◌∷◌, ◌++◌, map, ◌+◌, ◌*◌, ◌≤◌, length};
 ghost use Rattle.words.specs.Words.{over, unsigned};
 ghost use Rattle.limits.specs.Limits.{dim_ok};

@@ -1,4 +1,7 @@
 // Program textlist: the texts of a 2D file from standard input, a line for each in file order, or the line of its refusal.
+
+#![tactic(auto)]
+
 fn main() {
     printing::list_input(printing::Listed::Texts, b"textlist");
 }

@@ -1,5 +1,8 @@
 // The own rules of a text: how long its fixed part is and whether its enter-data fields are right. Reads are total: what
 // stands beyond the slice is 0. The definitions are in specs/Texts.
+
+#![tactic(auto)]
+
 ghost use Rattle.std.specs.Prelude.{◌≡◌, true, ◌+◌, ◌*◌, ◌/◌, ◌<◌, ◌^◌, length};
 ghost use Rattle.words.specs.Words.{words};
 ghost use Rattle.texts.specs.Texts.{byte_at, counts_word, text_part, characters_in, fields_in, field_byte, field_ok, each_field_ok, fields_ok};

@@ -1,4 +1,7 @@
 // A third of a number, without a divide.
+
+#![tactic(auto)]
+
 ghost use Rattle.std.specs.Prelude.{◌≡◌, ◌/◌};
 
 // 65536 · high + low is 3 · 21845 · high and high + low; what is left at last is small enough to be multiplied.

@@ -1,6 +1,9 @@
 // The totals on the path from the top down to a header, which are corrected where an element comes in under it or goes
 // out, and the room that they leave. A descent finds each enclosing header among its siblings by their extents. The
 // definitions are in specs/Totals; proofs/Totals and proofs/Rooms show that of an accepted file they are the book's.
+
+#![tactic(auto)]
+
 ghost use Rattle.std.specs.Prelude.{◌≡◌, ◌+◌, ◌<◌, ◌≤◌, ◌%◌, length, leb};
 ghost use Rattle.words.specs.Words.{words};
 ghost use Rattle.headers.specs.Header.{extent_at};
@@ -9,7 +12,7 @@ ghost use Rattle.totals.specs.Totals.{holder_at, holder_of, word_moved, header_p
 
 // Which element, of those that follow one another in a list, has a place in its extent: none; the one that starts
 // there; or a header around it, whose components start at `inner`.
-#[derive(Drop)]
+#[derive(Clone, Copy)]
 pub enum Holder {
     Nowhere,
     Itself,
@@ -17,7 +20,7 @@ pub enum Holder {
 }
 
 // Whether every header on the path has room for more words; `place` is the outermost that has not.
-#[derive(Drop)]
+#[derive(Clone, Copy)]
 pub enum Room {
     Fine,
     Full { place: usize },

@@ -1,10 +1,13 @@
 // How a text, an ellipse or an arc is turned. Reads are total: what stands beyond the slice is 0. Definitions: specs/Turns.
+
+#![tactic(auto)]
+
 ghost use Rattle.std.specs.Prelude.{◌≡◌};
 ghost use Rattle.words.specs.Words.{words};
 ghost use Rattle.turns.specs.Turns.{turn_at, turn_numbers};
 
 // In 2D the rotation, in 3D four longs, in their stored order. All are unsigned.
-#[derive(Drop)]
+#[derive(Clone, Copy)]
 pub enum Turn {
     Flat {
         rotation: u32,

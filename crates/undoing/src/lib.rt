@@ -2,6 +2,9 @@
 // refusals, 1 for an early marker) and so the record's place is found, then 17, 19 and 15, and the file is changed last.
 // Contract: one step of edits' specs/Calls. Whether the index of the file after it would not fit is told by the caller, `full`:
 // false where no index is lent.
+
+#![tactic(auto)]
+
 ghost use Rattle.std.specs.Prelude.{◌≡◌, ◌%◌, ◌≤◌, length, take};
 ghost use Rattle.words.specs.Words.{words};
 ghost use Rattle.edits.specs.Records.{flag, renamed, inserted, removed, place_of};

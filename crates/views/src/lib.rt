@@ -1,4 +1,7 @@
 // What a view gives of the element at a place of an accepted file. Definitions: specs/Views.
+
+#![tactic(auto)]
+
 ghost use Rattle.std.specs.Prelude.{◌≡◌, ◌/◌, ◌<◌, length};
 ghost use Rattle.words.specs.Words.{words};
 ghost use Rattle.views.specs.Views.{six_at, range_of, display_of, number_if, name_words, element_view, element_in, view_of};
@@ -6,14 +9,14 @@ ghost use Rattle.views.specs.Views.{six_at, range_of, display_of, number_if, nam
 use places::{Above, Spotted, spotted_at};
 
 // A number that only some types have.
-#[derive(Drop)]
+#[derive(Clone, Copy)]
 pub enum Number {
     Absent,
     Value { value: usize },
 }
 
 // The coordinates of the range.
-#[derive(Drop)]
+#[derive(Clone, Copy)]
 pub enum Range {
     Absent,
     Longs {
@@ -27,7 +30,7 @@ pub enum Range {
 }
 
 // Words 14 to 17 of known types other than 1.
-#[derive(Drop)]
+#[derive(Clone, Copy)]
 pub enum Display {
     Absent,
     Words {
@@ -41,13 +44,13 @@ pub enum Display {
 }
 
 // The two name words of types 1 and 2.
-#[derive(Drop)]
+#[derive(Clone, Copy)]
 pub enum Name {
     Absent,
     Words { first: usize, second: usize },
 }
 
-#[derive(Drop)]
+#[derive(Clone, Copy)]
 pub struct Element {
     pub level: usize,
     pub c: bool,
@@ -64,7 +67,7 @@ pub struct Element {
     pub count: Number,
 }
 
-#[derive(Drop)]
+#[derive(Clone, Copy)]
 pub enum View {
     Seen { element: Element },
     Refused { number: usize, place: usize },

@@ -1,11 +1,14 @@
 // The walk over an accepted file in file order: the next element with its depth. Definitions: specs/Walk.
+
+#![tactic(auto)]
+
 ghost use Rattle.std.specs.Prelude.{◌≡◌, ◌<◌, length, get_or};
 ghost use Rattle.words.specs.Words.{words};
 ghost use Rattle.headers.specs.Header.{extent_at};
 ghost use Rattle.walking.specs.Walk.{closed_to, opens, next_of, walk_start};
 
 // A place of the walk in file order: the element's place and depth, and for each depth where the list around it ends.
-#[derive(Drop)]
+#[derive(Clone, Copy)]
 pub struct Walk {
     pub place: usize,
     pub depth: usize,

@@ -1,5 +1,8 @@
 // What the C interface's functions that write an element have in common: the header fields as a slice of numbers, and the
 // answer as numbers. What they are handed and leave is in specs/Writing, the laws of it in proofs/Writing.
+
+#![tactic(auto)]
+
 ghost use Rattle.std.specs.Prelude.{◌≡◌, length};
 ghost use Rattle.answers.specs.Answers.{Replied};
 ghost use Rattle.write_answers.specs.Writing.{natural, natural_at, fields_given, fields_of, given_in, cut_reply};
@@ -7,7 +10,7 @@ ghost use Rattle.write_answers.specs.Writing.{natural, natural_at, fields_given,
 use writer::Written;
 
 // The header fields that a slice of numbers is, or that it is none.
-#[derive(Drop)]
+#[derive(Clone, Copy)]
 pub enum Given {
     Header { fields: fields::Fields },
     Nothing,

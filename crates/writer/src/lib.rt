@@ -1,5 +1,8 @@
 // Writing an element of type 3, 4, 6 or 11 into a lent buffer: the checks, then the words one after another. The words
 // and the checks are those of the crate fields; specs/Writing has the answer and what the buffer then holds.
+
+#![tactic(auto)]
+
 ghost use Rattle.std.specs.Prelude.{◌≡◌, true, cond, map, ◌+◌, ◌*◌, ◌/◌, ◌<◌, ◌≤◌, length};
 ghost use Rattle.words.specs.Words.{unsigned};
 ghost use Rattle.kinds.specs.Kinds.{is_pointed};
@@ -9,7 +12,7 @@ ghost use Rattle.fields.specs.Faults.{fields_ok, write_fault};
 ghost use Rattle.writer.specs.Writing.{laid, Writes, header_fits, header_laid};
 
 // What the writer answers: how many words it wrote, or a number and a place.
-#[derive(Drop)]
+#[derive(Clone, Copy)]
 pub enum Written {
     Made { words: usize },
     Refused { number: usize, place: usize },

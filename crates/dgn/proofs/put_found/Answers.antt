@@ -1,0 +1,24 @@
+-- The slice takes the answer of each case.
+use native.Mathlib.Omega.{arith}
+use mathlib.Core.Path.{ap}
+use Rattle.answers.proofs.Laws.{answered}
+use Rattle.dgn.specs.JudgeFind.{find_reply}
+use Rattle.dgn.proofs.put_found.Goals as goal
+
+pub overflow_mul-result : goal.overflow_mul-result
+overflow_mul-result c =
+    let small = rw c.in-Refused.is at c.requires.0 in
+    omega (arith, c.pick.ensures, small.2)
+
+pub overflow_add-result : goal.overflow_add-result
+overflow_add-result c =
+    let small = rw c.in-Refused.is at c.requires.0 in
+    omega (arith, c.pick.ensures, small.1, small.2)
+
+pub returns-in-At : goal.returns-in-At
+returns-in-At c =
+    answered 2 _ _ c.args.out.now (ap find_reply c.in-At.is) c.requires.1
+
+pub returns-in-Refused : goal.returns-in-Refused
+returns-in-Refused c =
+    rw c.pick.ensures (answered 2 _ _ c.args.out.now (ap find_reply c.in-Refused.is) c.requires.1)

@@ -1,0 +1,132 @@
+-- The loop's invariant: the walk stands at element number i, and what was put so far stands before what the rest of the room takes.
+use Prim.Native.Nat.{ℕ, ◌+◌, ◌-◌, ◌≤◌, ◌<◌}
+use mathlib.Core.Path.{◌≡◌, sym, ap, ◌∙◌, subst}
+use mathlib.Core.List.{List}
+use native.Mathlib.Omega.{arith}
+use lib.IntN.{ℤ}
+use lib.ListN.{length}
+use Rattle.words.specs.Words.{words}
+use Rattle.words.proofs.Laws.{lent_below, length_words}
+use Rattle.headers.specs.Header.{size_at}
+use Rattle.headers.proofs.Laws.{size_small, words_small}
+use Rattle.walking.proofs.Steps.{opens_shallow}
+use Rattle.order.specs.Fitting.{in_numbers, part_of}
+use Rattle.order.proofs.Fitting.{lays_numbers, Going, going_start, going_done, now_room, turn_full, turn_more}
+use Rattle.dgn_texts.specs.Texts.{walk_of, entry_at, texts_from, from_number}
+use Rattle.dgn_texts.proofs.Walks.{walking_start, walk_in, walk_out, walk_on}
+use Rattle.dgn_texts.proofs.Places.{from_first}
+use Rattle.dgn_texts.proofs.put_texts.Goals as goal
+
+-- the numbers that are taken of element number i
+abbrev numbers_of : ℕ → List ℕ → ℕ → ℕ → List ℤ
+numbers_of dim file k i = from_number k i (entry_at dim (words file) (walk_of (words file) i))
+
+-- the element lies in the file
+inside : (c : goal.In-loop-i) → (c.loop-i.place < length (words c.args.file.now)) × (length (words c.args.file.now) ≤ 524288) × (c.loop-i.place < length c.args.file.now)
+inside c =
+    let i = c.requires.1 c.loop-i.i c.loop-i-test.true in
+    let p = ap (λ w. w.place) c.loop-i.invariant.1.is in
+    let l = length_words c.args.file.now in
+    (omega arith, c.requires.0, omega arith)
+
+-- its numbers are those of the walk
+here : (c : goal.In-loop-i) → let a = c.args in let l = c.loop-i in from_number a.k l.i (entry_at a.dim (words a.file.now) (record { place = l.place; depth = l.depth; ends = l.ends })) ≡ numbers_of a.dim a.file.now a.k l.i
+here c =
+    let a = c.args in
+    ap (λ w. from_number a.k c.loop-i.i (entry_at a.dim (words a.file.now) w)) c.loop-i.invariant.1.is
+
+-- the next element begins behind it
+next_is : (c : goal.After-size_at) → c.loop-i.place + c.size_at.result ≡ c.loop-i.place + size_at (words c.args.file.now) c.loop-i.place
+next_is c =
+    ap (λ n. c.loop-i.place + n) c.size_at.ensures
+
+-- and what was put with it stands before what the rest takes
+went : (c : goal.After-size_at) → let a = c.args in Going in_numbers lays_numbers (part_of (length a.numbers.now) a.k (texts_from (a.elements - a.k) a.dim (words a.file.now) a.k)) a.numbers.now (numbers_of a.dim a.file.now a.k) a.elements (c.loop-i.i + 1) c.in-Used.more c.put_from.new.dim.1.1.1.1.1.0
+went c =
+    turn_more in_numbers lays_numbers c.loop-i.invariant.2 _ (here c.TODO-In-loop-i) c.loop-i-test.true _ _ _ c.in-Used.is c.put_from.ensures
+
+pub returns-then-elements-k : goal.returns-then-elements-k
+returns-then-elements-k c =
+    let a = c.args in
+    going_done in_numbers lays_numbers (going_start in_numbers lays_numbers a.numbers.now (λ i. entry_at a.dim (words a.file.now) (walk_of (words a.file.now) i)) a.elements a.k) c.if-elements-k.true
+
+pub loop-i-init : goal.loop-i-init
+loop-i-init c =
+    let a = c.args in
+    let ws = words a.file.now in
+    let numbers = a.numbers.now in
+    let from = numbers_of a.dim a.file.now a.k in
+    let first = from_first a.k (length numbers) (λ i. entry_at a.dim ws (walk_of ws i)) a.elements (omega (arith, c.if-elements-k.false)) in
+    (omega arith, walking_start ws, subst (λ p. Going in_numbers lays_numbers p numbers from a.elements 0 0 numbers) first (going_start in_numbers lays_numbers numbers from a.elements 0))
+
+pub put_from-requires : goal.put_from-requires
+put_from-requires c =
+    let in_file = inside (goal.at.put_from-requires c).In-loop-i in
+    let deep = c.loop-i.invariant.1.deep in
+    let l = now_room in_numbers lays_numbers c.loop-i.invariant.2 in
+    (omega arith, (omega arith, omega (arith, c.loop-i.invariant.2.room)))
+
+pub shape_of-numbers-in-Full : goal.shape_of-numbers-in-Full
+shape_of-numbers-in-Full c =
+    c.put_from.auto.1.1.1.1.1.1.0 ∙ now_room in_numbers lays_numbers c.loop-i.invariant.2
+
+pub returns-in-Full : goal.returns-in-Full
+returns-in-Full c =
+    turn_full in_numbers lays_numbers c.loop-i.invariant.2 _ (here (goal.at.returns-in-Full c).In-loop-i) c.loop-i-test.true _ _ c.in-Full.is c.put_from.ensures
+
+pub overflow_add-i : goal.overflow_add-i
+overflow_add-i c =
+    omega (arith, c.loop-i-test.true, c.ranges)
+
+pub overflow_add-next : goal.overflow_add-next
+overflow_add-next c =
+    let s = c.args.file.now in
+    omega (arith, c.size_at.ensures, size_small s (lent_below s c.type_inv.file) c.loop-i.place, inside (goal.at.overflow_add-next c).In-loop-i)
+
+-- a list that opens is not the deepest
+shallow : (c : goal.Then-opens_list) → c.loop-i.depth < 8
+shallow c = opens_shallow _ _ _ (sym c.opens_list.ensures ∙ c.if-opens_list.true)
+
+pub overflow_add-depth : goal.overflow_add-depth
+overflow_add-depth c = omega (arith, shallow (goal.at.overflow_add-depth c).Then-opens_list)
+
+pub overflow_add-end : goal.overflow_add-end
+overflow_add-end c =
+    let s = c.args.file.now in
+    omega (arith, c.extent_words.ensures, words_small s (lent_below s c.type_inv.file) c.loop-i.place, inside (goal.at.overflow_add-end c).In-loop-i)
+
+pub offset_bounds-ends-depth : goal.offset_bounds-ends-depth
+offset_bounds-ends-depth c = omega (arith, shallow (goal.at.offset_bounds-ends-depth c).Then-opens_list)
+
+pub bounds-ends-depth : goal.bounds-ends-depth
+bounds-ends-depth c = omega (arith, shallow (goal.at.bounds-ends-depth c).Then-opens_list)
+
+pub loop-i-smaller-then-opens_list : goal.loop-i-smaller-then-opens_list
+loop-i-smaller-then-opens_list c =
+    omega (arith, c.loop-i-test.true)
+
+pub loop-i-preserved-then-opens_list : goal.loop-i-preserved-then-opens_list
+loop-i-preserved-then-opens_list c =
+    (omega (arith, c.loop-i-test.true), walk_in c.loop-i.invariant.1 (inside (goal.at.loop-i-preserved-then-opens_list c).In-loop-i).0 _ (next_is (goal.at.loop-i-preserved-then-opens_list c).After-size_at) (sym c.opens_list.ensures ∙ c.if-opens_list.true) _ c.extent_words.ensures, went (goal.at.loop-i-preserved-then-opens_list c).After-size_at)
+
+pub loop-i-smaller-then-next-end : goal.loop-i-smaller-then-next-end
+loop-i-smaller-then-next-end c =
+    omega (arith, c.loop-i-test.true)
+
+pub loop-i-preserved-then-next-end : goal.loop-i-preserved-then-next-end
+loop-i-preserved-then-next-end c =
+    (omega (arith, c.loop-i-test.true), walk_out c.loop-i.invariant.1 (inside (goal.at.loop-i-preserved-then-next-end c).In-loop-i).0 _ (next_is (goal.at.loop-i-preserved-then-next-end c).After-size_at) (sym c.opens_list.ensures ∙ c.if-opens_list.false) _ c.closed_to-depth.ensures _ c.end_in-end.ensures, went (goal.at.loop-i-preserved-then-next-end c).After-size_at)
+
+pub loop-i-smaller : goal.loop-i-smaller
+loop-i-smaller c =
+    omega (arith, c.loop-i-test.true)
+
+pub loop-i-preserved : goal.loop-i-preserved
+loop-i-preserved c =
+    (omega (arith, c.loop-i-test.true), walk_on c.loop-i.invariant.1 (inside (goal.at.loop-i-preserved c).In-loop-i).0 _ (next_is (goal.at.loop-i-preserved c).After-size_at) (sym c.opens_list.ensures ∙ c.if-opens_list.false) c.if-next-end.false, went (goal.at.loop-i-preserved c).After-size_at)
+
+pub shape_of-numbers : goal.shape_of-numbers
+shape_of-numbers c = now_room in_numbers lays_numbers c.loop-i.invariant.2
+
+pub returns : goal.returns
+returns c = going_done in_numbers lays_numbers c.loop-i.invariant.2 c.loop-i-test.false

@@ -1,0 +1,38 @@
+-- The kinds are tested in the definition's order, and each reversal has its own call.
+use mathlib.Core.Path.{sym, ◌∙◌}
+use borrow.Author.Tests.{eq-eqb, ne_eqb}
+use Rattle.faults.specs.Reversing.{reverses_at}
+use Rattle.faults.proofs.Inserting.{insert_fine, insert_refused}
+use Rattle.faults.proofs.reversible.Goals as goal
+
+pub returns-then-kind-eq1 : goal.returns-then-kind-eq1
+unfolding reverses_at
+returns-then-kind-eq1 c = rw (eq-eqb _ _ c.if-kind-eq1.true) c.flags_fit.ensures
+
+pub returns-then-kind-eq2 : goal.returns-then-kind-eq2
+unfolding reverses_at
+returns-then-kind-eq2 c =
+    rw (
+      ne_eqb _ _ c.if-kind-eq1.false,
+      eq-eqb _ _ c.if-kind-eq2.true,
+      c.rename_fault.ensures,
+      c.name_ok-named.ensures,
+      c.word.ensures.is,
+      c.word-then-kind-eq2.ensures.is,
+    )
+
+pub returns-then-kind-eq3 : goal.returns-then-kind-eq3
+unfolding reverses_at
+returns-then-kind-eq3 c = rw (ne_eqb _ _ c.if-kind-eq1.false, ne_eqb _ _ c.if-kind-eq2.false, eq-eqb _ _ c.if-kind-eq3.true) c.stands_under.ensures
+
+pub returns-in-Allowed : goal.returns-in-Allowed
+unfolding reverses_at
+returns-in-Allowed c =
+    rw (ne_eqb _ _ c.if-kind-eq1.false, ne_eqb _ _ c.if-kind-eq2.false, ne_eqb _ _ c.if-kind-eq3.false)
+    (insert_fine _ _ _ _ _ _ _ (sym c.insert_fault.ensures ∙ c.in-Allowed.is))
+
+pub returns-in-Refused : goal.returns-in-Refused
+unfolding reverses_at
+returns-in-Refused c =
+    rw (ne_eqb _ _ c.if-kind-eq1.false, ne_eqb _ _ c.if-kind-eq2.false, ne_eqb _ _ c.if-kind-eq3.false)
+    (insert_refused _ _ _ _ _ _ _ _ _ (sym c.insert_fault.ensures ∙ c.in-Refused.is))

@@ -1,0 +1,9 @@
+-- The comparison is that of the definition, and each of its answers picks the number that is returned.
+use borrow.Author.Tests.{le-leb, lt-leb}
+use Rattle.files.proofs.smaller.Goals as goal
+
+pub returns-then-a-b : goal.returns-then-a-b
+returns-then-a-b c = rw (le-leb _ _ c.if-a-b.true)
+
+pub returns-else-a-b : goal.returns-else-a-b
+returns-else-a-b c = rw (lt-leb _ _ c.if-a-b.false)

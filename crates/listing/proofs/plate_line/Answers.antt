@@ -1,0 +1,19 @@
+-- `listing::plate_line` meets its contract: each call puts its part behind those before it, and together they are the line.
+use native.Mathlib.Omega.{arith}
+use Rattle.listing.specs.Plates.{plate_line}
+use Rattle.listing.proofs.Laws.{puts_then, line_written, no_line}
+use Rattle.listing.proofs.plate_line.Goals as goal
+
+pub returns-then-buf-lt175 : goal.returns-then-buf-lt175
+returns-then-buf-lt175 c = no_line _ _ _ c.if-buf-lt175.true
+
+pub returns : goal.returns
+unfolding plate_line
+returns c =
+    line_written _ _ _ _ _
+    (puts_then c.put_field-at.ensures.0
+    (puts_then c.put_counts-at.ensures.0
+    (puts_then c.put_number-at.ensures.0
+    (puts_then c.put_name-at.ensures.0 c.put_line_feed.ensures))))
+    (omega arith)
+    c.if-buf-lt175.false

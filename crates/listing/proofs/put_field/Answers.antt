@@ -1,0 +1,8 @@
+-- `listing::put_field` meets its contract: a number and the space behind it.
+use native.Mathlib.Omega.{arith}
+use Rattle.listing.proofs.Laws.{puts_then}
+use Rattle.listing.proofs.put_field.Goals as goal
+
+pub returns : goal.returns
+returns c =
+    (puts_then c.put_number-next.ensures.0 c.put_byte.ensures, omega arith)

@@ -1,0 +1,11 @@
+-- `listing::put_state` meets its contract: each way puts the four letters that the flag says.
+use native.Mathlib.Omega.{arith}
+use Rattle.listing.proofs.put_state.Goals as goal
+
+pub returns-then-deleted : goal.returns-then-deleted
+returns-then-deleted c =
+    rw c.if-deleted.true (c.put_bytes.ensures, omega arith)
+
+pub returns : goal.returns
+returns c =
+    rw c.if-deleted.false (c.put_bytes-2.ensures, omega arith)

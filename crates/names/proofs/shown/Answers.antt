@@ -1,0 +1,9 @@
+-- `names::shown` meets its contract: its test is that of the contract.
+use borrow.Author.Tests.{lt-ltb, le-ltb}
+use Rattle.names.proofs.shown.Goals as goal
+
+pub returns-then-i-n : goal.returns-then-i-n
+returns-then-i-n c = simp (lt-ltb _ _ c.if-i-n.true) c.letter_of.ensures
+
+pub returns-else-i-n : goal.returns-else-i-n
+returns-else-i-n c = simp (le-ltb _ _ c.if-i-n.false)

@@ -1,0 +1,29 @@
+-- The room, then what the file is judged; the place of a refused file is small.
+use mathlib.Core.Path.{◌≡◌, refl, sym, ◌∙◌}
+use native.Mathlib.Omega.{arith}
+use borrow.Author.Tests.{le-leb, lt-leb}
+use Rattle.files.specs.declared.Judged.{Judged}
+use Rattle.answers.proofs.Refusals.{file_small}
+use Rattle.order.specs.Calls.{begun_by, begun_of}
+use Rattle.order.proofs.begin.Goals as goal
+
+pub returns-then-room-needed : goal.returns-then-room-needed
+unfolding begun_of
+returns-then-room-needed c = rw (lt-leb _ _ c.if-room-needed.true)
+
+pub overflow_mul-result : goal.overflow_mul-result
+overflow_mul-result c = omega (arith, file_small _ _ _ _ (sym c.judge.ensures ∙ c.in-Refused.is))
+
+pub overflow_add-result : goal.overflow_add-result
+overflow_add-result c = omega (arith, file_small _ _ _ _ (sym c.judge.ensures ∙ c.in-Refused.is))
+
+-- by what the file is judged
+judged : (c : goal.After-judge) (v : Judged) → c.judge.result ≡ v → begun_by v ≡ begun_of c.args.dim c.args.file.now c.args.needed c.args.room
+unfolding begun_of
+judged c v e = rw (le-leb _ _ c.if-room-needed.false, sym c.judge.ensures, e) refl
+
+pub returns-in-Refused : goal.returns-in-Refused
+returns-in-Refused c = judged (goal.at.returns-in-Refused c).After-judge _ c.in-Refused.is
+
+pub returns-in-Accepted : goal.returns-in-Accepted
+returns-in-Accepted c = judged (goal.at.returns-in-Accepted c).After-judge _ c.in-Accepted.is

@@ -1,0 +1,33 @@
+-- The extent of an element that is found lies in the file (`spotted_inside`), so it is a part of the slice.
+use mathlib.Core.Path.{sym, ◌∙◌}
+use native.Mathlib.Omega.{arith}
+use Rattle.places.specs.Extents.{extent_answer, extent_bytes}
+use Rattle.places.proofs.Places.{Inside, spotted_inside}
+use Rattle.places.proofs.extent_at.Goals as goal
+
+-- the extent lies in the file
+inside : (c : goal.In-At) → Inside c.args.dim c.args.file.now c.args.place c.in-At.end
+inside c = spotted_inside _ _ _ _ _ _ (sym c.spotted_at.ensures ∙ c.in-At.is)
+
+pub overflow_mul-a : goal.overflow_mul-a
+overflow_mul-a c = omega (arith, inside (goal.at.overflow_mul-a c).In-At)
+
+pub overflow_mul-e : goal.overflow_mul-e
+overflow_mul-e c = omega (arith, inside (goal.at.overflow_mul-e c).In-At)
+
+pub slice_bounds-result-count : goal.slice_bounds-result-count
+slice_bounds-result-count c = omega (arith, inside (goal.at.slice_bounds-result-count c).In-At)
+
+pub slice_bounds-result-start : goal.slice_bounds-result-start
+slice_bounds-result-start c = omega (arith, inside (goal.at.slice_bounds-result-start c).In-At)
+
+pub slice_bounds-result-end : goal.slice_bounds-result-end
+slice_bounds-result-end c = omega (arith, inside (goal.at.slice_bounds-result-end c).In-At)
+
+pub returns-in-At : goal.returns-in-At
+unfolding extent_answer extent_bytes
+returns-in-At c = rw (sym c.spotted_at.ensures ∙ c.in-At.is)
+
+pub returns-in-Refused : goal.returns-in-Refused
+unfolding extent_answer extent_bytes
+returns-in-Refused c = rw (sym c.spotted_at.ensures ∙ c.in-Refused.is)

@@ -1,0 +1,12 @@
+-- The invariant: the triples from number k on decide (`triple_next`); at the end none is left (`triples_end`).
+use Prim.Native.Nat.{◌-◌, ◌*◌, ◌≤◌}
+use mathlib.Core.Path.{◌≡◌}
+use lib.ListN.{drop}
+use Rattle.text_fields.specs.Faults.{triples_ok}
+use Rattle.text_fields.proofs.triples_ok.Given as goal
+
+abbrev pub invariant-loop-k : goal.invariant-loop-k
+invariant-loop-k l = (l.k ≤ l.n) × (triples_ok l.c l.triples ≡ triples_ok l.c (drop (3 * l.k) l.triples))
+
+abbrev pub decreases-loop-k : goal.decreases-loop-k
+decreases-loop-k l = l.n - l.k

@@ -1,0 +1,12 @@
+-- What is found at the place, then what stands there.
+use mathlib.Core.Path.{sym, ◌∙◌}
+use Rattle.text_views.specs.TextViews.{text_of}
+use Rattle.text_views.proofs.text_at.Goals as goal
+
+pub returns-in-At : goal.returns-in-At
+unfolding text_of
+returns-in-At c = rw (sym c.spotted_at.ensures ∙ c.in-At.is) c.text_in.ensures
+
+pub returns-in-Refused : goal.returns-in-Refused
+unfolding text_of
+returns-in-Refused c = rw (sym c.spotted_at.ensures ∙ c.in-Refused.is)

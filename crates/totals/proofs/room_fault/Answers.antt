@@ -1,0 +1,52 @@
+-- The invariant: the search from here, with the depth left, answers what the search from the top does.
+use mathlib.Core.Path.{sym, ◌∙◌}
+use native.Mathlib.Omega.{arith}
+use Rattle.totals.proofs.Holders.{holder_around}
+use Rattle.totals.proofs.Descent.{room_none, room_nowhere, room_itself, room_inside, room_fine, room_full, room_here, room_out}
+use Rattle.totals.proofs.room_fault.Goals as goal
+
+pub returns-then-file-header : goal.returns-then-file-header
+returns-then-file-header c = sym (room_out _ _ _ c.if-file-header.true)
+
+pub loop-left-init : goal.loop-left-init
+loop-left-init c = room_here _ _ _ c.if-file-header.false
+
+pub returns-in-Nowhere : goal.returns-in-Nowhere
+returns-in-Nowhere c =
+    sym (c.loop-left.invariant
+    ∙ room_nowhere _ _ _ _ _ c.loop-left-test.true (sym c.find_holder.ensures ∙ c.in-Nowhere.is))
+
+pub returns-then-has_room : goal.returns-then-has_room
+returns-then-has_room c =
+    sym
+    (c.loop-left.invariant ∙ room_itself _ _ _ _ _ c.loop-left-test.true
+    (sym c.find_holder.ensures ∙ c.in-Itself.is) ∙ room_fine _ _ _ _
+    (sym c.has_room.ensures ∙ c.if-has_room.true))
+
+pub returns-in-Itself : goal.returns-in-Itself
+returns-in-Itself c =
+    sym
+    (c.loop-left.invariant ∙ room_itself _ _ _ _ _ c.loop-left-test.true
+    (sym c.find_holder.ensures ∙ c.in-Itself.is) ∙ room_full _ _ _ _
+    (sym c.has_room.ensures ∙ c.if-has_room.false))
+
+pub has_room-requires-in-Inside : goal.has_room-requires-in-Inside
+has_room-requires-in-Inside c =
+    let w = holder_around _ _ _ _ (sym c.in-Inside.is ∙ c.find_holder.ensures) in
+    omega arith
+
+pub loop-left-preserved : goal.loop-left-preserved
+loop-left-preserved c =
+    c.loop-left.invariant ∙ room_inside _ _ _ _ _ c.loop-left-test.true _ _
+    (sym c.find_holder.ensures ∙ c.in-Inside.is) ∙ room_fine _ _ _ _
+    (sym c.has_room-in-Inside.ensures ∙ c.if-has_room-2.true)
+
+pub returns-else-has_room-2 : goal.returns-else-has_room-2
+returns-else-has_room-2 c =
+    sym
+    (c.loop-left.invariant ∙ room_inside _ _ _ _ _ c.loop-left-test.true _ _
+    (sym c.find_holder.ensures ∙ c.in-Inside.is) ∙ room_full _ _ _ _
+    (sym c.has_room-in-Inside.ensures ∙ c.if-has_room-2.false))
+
+pub returns : goal.returns
+returns c = sym (c.loop-left.invariant ∙ room_none _ _ _ _ _ (omega arith))

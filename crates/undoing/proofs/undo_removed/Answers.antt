@@ -1,0 +1,43 @@
+-- Three ways out, each a law of Reversals: refused by the number found, a file buffer without room for the removed words is 15,
+-- else they go in again.
+use mathlib.Core.Path.{sym, ap, ◌∙◌}
+use lib.Seq.{length-take-le}
+use Rattle.words.specs.Words.{Below}
+use Rattle.words.proofs.Laws.{lent_below}
+use Rattle.undoing.specs.Undoing.{back_number}
+use Rattle.undoing.proofs.Ways.{answered_back}
+use Rattle.undoing.proofs.Reversals.{out_refused, out_room, out_done}
+use Rattle.undoing.proofs.undo_removed.Goals as goal
+
+pub slice_bounds-reversible-end-2 : goal.slice_bounds-reversible-end-2
+slice_bounds-reversible-end-2 c = sym (length-take-le _ _ (c.requires.0.within))
+
+-- the file's bytes
+below : (c : goal.After-header_at-above) → Below 256 c.args.file.now
+below c = lent_below c.args.file.now c.slice_known-1.given
+
+pub returns-then-number-ne0 : goal.returns-then-number-ne0
+returns-then-number-ne0 c =
+    answered_back c.refused.ensures
+    (out_refused _ _ _ _ _ c.requires.0 (below (goal.at.returns-then-number-ne0 c).After-header_at-above) _ _ _ c.requires.1.0
+    c.args.header c.args.piece.now c.requires.1.1 _
+    c.header_at-above.ensures _
+    (c.back_fault-number.ensures ∙ ap (λ b. back_number b c.args.full) c.reversible-reverses.ensures) c.if-number-ne0.true)
+
+pub returns-then-file-used : goal.returns-then-file-used
+returns-then-file-used c =
+    answered_back c.refused-then-file-used.ensures
+    (out_room _ _ _ _ _ c.requires.0 (below (goal.at.returns-then-file-used c).After-header_at-above) _ _ _ c.requires.1.0
+    c.args.header c.args.piece.now c.requires.1.1 _
+    c.header_at-above.ensures _
+    (c.back_fault-number.ensures ∙ ap (λ b. back_number b c.args.full) c.reversible-reverses.ensures)
+    c.if-number-ne0.false c.if-file-used.true)
+
+pub returns : goal.returns
+returns c =
+    out_done _ _ _ _ _ c.requires.0 (below (goal.at.returns c).After-header_at-above) _ _ _ c.requires.1.0
+    c.args.header c.args.piece.now c.requires.1.1 _
+    c.header_at-above.ensures _
+    (c.back_fault-number.ensures ∙ ap (λ b. back_number b c.args.full) c.reversible-reverses.ensures)
+    c.if-number-ne0.false
+    c.if-file-used.false _ c.insert_piece.ensures

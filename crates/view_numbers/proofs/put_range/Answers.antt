@@ -1,0 +1,50 @@
+-- Without a range zeros are put, else each coordinate at its place.
+use mathlib.Core.Path.{refl, sym, ap, ◌∙◌}
+use native.Mathlib.Omega.{arith}
+use lib.ListN.{length-set}
+use lib.Seq.{sets}
+use mir.Syntax.{w64}
+use mir.ValLaws.{to_z-of_z}
+use Rattle.view_numbers.specs.Numbers.{range_numbers}
+use Rattle.view_numbers.proofs.Laws.{range_put}
+use Rattle.view_numbers.proofs.put_range.Goals as goal
+
+pub bounds-out-at : goal.bounds-out-at
+bounds-out-at c = simp length-set (omega (arith, c.requires))
+
+pub bounds-out-at-in-Longs : goal.bounds-out-at-in-Longs
+bounds-out-at-in-Longs c = simp length-set (omega (arith, c.requires))
+
+pub bounds-out-at-in-Longs-2 : goal.bounds-out-at-in-Longs-2
+bounds-out-at-in-Longs-2 c = simp length-set (omega (arith, c.requires))
+
+pub bounds-out-at-in-Longs-3 : goal.bounds-out-at-in-Longs-3
+bounds-out-at-in-Longs-3 c = simp length-set (omega (arith, c.requires))
+
+pub bounds-out-at-in-Longs-4 : goal.bounds-out-at-in-Longs-4
+bounds-out-at-in-Longs-4 c = simp length-set (omega (arith, c.requires))
+
+pub bounds-out-at-in-Longs-5 : goal.bounds-out-at-in-Longs-5
+bounds-out-at-in-Longs-5 c = simp length-set (omega (arith, c.requires))
+
+pub returns-in-Absent : goal.returns-in-Absent
+returns-in-Absent c =
+    c.put_signed.ensures ∙ ap (λ r. sets c.args.out.now c.args.at (range_numbers r)) (sym c.in-Absent.is)
+
+pub shape_of-out-in-Longs : goal.shape_of-out-in-Longs
+shape_of-out-in-Longs c = simp length-set refl
+
+pub returns-in-Longs : goal.returns-in-Longs
+returns-in-Longs c =
+    let v = c.range-1.given.0 in
+    let fits = c.known_told-1.given in
+    rw (
+      to_z-of_z w64 v.0 (record { sfits = fits.0.1 }),
+      to_z-of_z w64 v.1.0 (record { sfits = fits.1.0.1 }),
+      to_z-of_z w64 v.1.1.0 (record { sfits = fits.1.1.0.1 }),
+      to_z-of_z w64 v.1.1.1.0 (record { sfits = fits.1.1.1.0.1 }),
+      to_z-of_z w64 v.1.1.1.1.0 (record { sfits = fits.1.1.1.1.0.1 }),
+      to_z-of_z w64 v.1.1.1.1.1.0 (record { sfits = fits.1.1.1.1.1.0.1 }),
+    )
+    (range_put c.args.out.now c.args.at v.0 v.1.0 v.1.1.0 v.1.1.1.0 v.1.1.1.1.0 v.1.1.1.1.1.0
+    ∙ ap (λ r. sets c.args.out.now c.args.at (range_numbers r)) (sym c.in-Longs.is))
