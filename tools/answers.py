@@ -65,8 +65,8 @@ class Names:
     def field(self, place, rest, problems):
         """The new path behind `c` for the old path rest (a list of fields) at a place."""
         f = rest[0]
-        if f in ("args", "requires", "pre", "lifetimes", "ranges"):
-            return ["requires" if f == "pre" else f] + rest[1:]
+        if f in ("args", "requires", "pre", "lifetimes", "ranges", "fits"):
+            return [{"pre": "requires", "fits": "ranges"}.get(f, f)] + rest[1:]
         # the place whose field it is
         for p in self.up(place):
             v = self.places[p]
@@ -205,6 +205,13 @@ def convert(text, names, crate, fn):
     def paths(body, root, place, need):
         """The body with the paths from places turned to fields of c."""
         roots = {root: place}
+        # what only names a part of what a step gives
+        while True:
+            m = re.search(r"(?<![\w'-])let (" + ID + r") = (" + ID + r"(?:\.[^\s(){}.;,@\"«»]+)*\.given(?:\.\d+)*) in[ \n]\s*", body)
+            if not m:
+                break
+            after = re.sub(r"(?<![^\s({,;])" + re.escape(m[1]) + r"(?![^\s(){}.;,])", lambda _: m[2], body[m.end():])
+            body = body[: m.start()] + after
         # what only names a place
         extra = 0
         while wheres:
@@ -274,7 +281,9 @@ def convert(text, names, crate, fn):
                 return f"(goal.at.{need} c).{names.places[p]['by']}"
             return m[2]
 
-        return re.sub(r"\0([^\0]*)\0([^\0]*)\0", bare, body)
+        body = re.sub(r"\0([^\0]*)\0([^\0]*)\0", bare, body)
+        # a test of `!x` says what the other outcome says of `x`
+        return re.sub(r"not-(?:true|false) _ (?:\((c\.if-not-[\w-]+\.(?:true|false))\)|(c\.if-not-[\w-]+\.(?:true|false)))", lambda m: m[1] or m[2], body)
 
     stem = names.data.get("stem", "")
     seen = set()
@@ -326,7 +335,7 @@ def convert(text, names, crate, fn):
                 continue
             params = m[1].split()
             body = d[m.end():]
-            if body.strip() == "search rules":
+            if body.strip() == "search rules" and not unfold:
                 continue
             root = params[0] if params else "c"
             if re.search(r"κs", body):
@@ -359,6 +368,9 @@ def convert(text, names, crate, fn):
                 else:
                     answers.append("\n".join(comment + ls))
     module = f"Rattle.{crate}.proofs.{fn}"
+    answers = [re.sub(r"\((" + ID + r") : goal\.([A-Z]" + ID + r")\)", r"(\1 : \2)", a) for a in answers]
+    text = "\n".join(answers)
+    named = sorted(set(re.findall(r"\(goal\.at\." + ID + r" c\)\.([A-Z]" + ID + ")", text)) | {v["by"] for v in names.places.values() if re.search(r" : " + re.escape(v["by"]) + r"\)", text) or re.search(r": " + re.escape(v["by"]) + r" →", text)})
     kept = [u for u in uses if not u.startswith(f"use {module}.Statement") and not u.startswith(f"use {module}.Tie")]
 
     def imports(text, more):
@@ -391,7 +403,8 @@ def convert(text, names, crate, fn):
         t = "\n\n".join(answers)
         real = re.sub(r"(?m)^--.*$", "", t).strip()
         if real or problems:
-            result["Answers"] = "\n".join(header + imports(t, [f"use {module}.Goals as goal"])) + "\n\n" + t + "\n"
+            goals = [f"use {module}.Goals as goal"] + ([f"use {module}.Goals.{{{', '.join(named)}}}"] if named else [])
+            result["Answers"] = "\n".join(header + imports(t, goals)) + "\n\n" + t + "\n"
     return result, problems
 
 

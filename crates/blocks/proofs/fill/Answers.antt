@@ -4,12 +4,13 @@ use Rattle.words.proofs.Over.{over_nil}
 use Rattle.blocks.specs.Blocks.{stored_from}
 use Rattle.blocks.proofs.Loops.{for_room, fill_turn, turns_end, mid_length}
 use Rattle.blocks.proofs.fill.Goals as goal
+use Rattle.blocks.proofs.fill.Goals.{In-loop-k}
 
 pub loop-k-init : goal.loop-k-init
 loop-k-init c = (omega arith, refl, sym (over_nil _ _))
 
 -- the k-th chunk begins in the journal, and its block fits behind the k that stand
-room : (c : goal.In-loop-k) → (508 * c.loop-k.k ≤ length c.args.j.now) × (512 * c.loop-k.k + 512 ≤ length c.loop-k.s)
+room : (c : In-loop-k) → (508 * c.loop-k.k ≤ length c.args.j.now) × (512 * c.loop-k.k + 512 ≤ length c.loop-k.s)
 room c =
     (for_room _ _ _ c.requires.0 c.loop-k-test.true, omega (arith, c.requires.1, c.loop-k.invariant.1, c.loop-k-test.true))
 

@@ -3,14 +3,15 @@ use Rattle.std.proofs.Common.{◌-◌, ◌*◌, ◌≤◌, length, refl, add-one
 use Rattle.blocks.proofs.Loops.{in_room}
 use Rattle.blocks.proofs.Flat.{Here, here, flat_le, flat_turn, flat_end}
 use Rattle.blocks.proofs.flat_size.Goals as goal
+use Rattle.blocks.proofs.flat_size.Goals.{After-word-t, In-loop-k}
 
 pub loop-k-init : goal.loop-k-init
 loop-k-init c = (omega arith, refl)
 
-inside : (c : goal.In-loop-k) → 512 * c.loop-k.k ≤ length c.args.s.now
+inside : (c : In-loop-k) → 512 * c.loop-k.k ≤ length c.args.s.now
 inside c = in_room _ _ _ c.requires.0 c.loop-k-test.true
 
-counted : (c : goal.After-word-t) → Here c.loop-k.k c.word-t.result c.args.s.now
+counted : (c : After-word-t) → Here c.loop-k.k c.word-t.result c.args.s.now
 counted c =
     here c.args.n c.loop-k.k _ c.args.s.now c.requires.1 c.loop-k-test.true c.word-t.ensures.is
 

@@ -5,15 +5,16 @@ use Rattle.blocks.specs.Blocks.{flat_from}
 use Rattle.blocks.proofs.Loops.{in_room, turns_end}
 use Rattle.blocks.proofs.Flat.{Here, here, flat_le, flat_turn, gather_turn}
 use Rattle.blocks.proofs.gather.Goals as goal
+use Rattle.blocks.proofs.gather.Goals.{After-word-u, In-loop-k}
 
 pub loop-k-init : goal.loop-k-init
 loop-k-init c = (omega arith, refl, refl, sym (over_nil _ _))
 
 -- block k is there, and its chunk where its count says
-inside : (c : goal.In-loop-k) → 512 * c.loop-k.k ≤ length c.args.s.now
+inside : (c : In-loop-k) → 512 * c.loop-k.k ≤ length c.args.s.now
 inside c = in_room _ _ _ c.requires.0 c.loop-k-test.true
 
-counted : (c : goal.After-word-u) → Here c.loop-k.k c.word-u.result c.args.s.now
+counted : (c : After-word-u) → Here c.loop-k.k c.word-u.result c.args.s.now
 counted c =
     here c.args.n c.loop-k.k _ c.args.s.now c.requires.1 c.loop-k-test.true c.word-u.ensures.is
 

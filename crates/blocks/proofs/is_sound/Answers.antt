@@ -1,5 +1,4 @@
 -- A way out for each test.
-use borrow.Author.Tests.{not-true, not-false}
 use Rattle.blocks.proofs.Turns.{sound_size, sound_low, sound_high, sound_odd, sound_rest, sound_sum}
 use Rattle.blocks.proofs.is_sound.Goals as goal
 
@@ -17,9 +16,9 @@ returns-then-u-ne0 c = sound_odd _ _ _ _ c.word-u.ensures.is c.if-u-ne0.true
 
 pub returns-then-not-all_zero : goal.returns-then-not-all_zero
 returns-then-not-all_zero c =
-    sound_rest _ _ _ _ _ c.word-u.ensures.is c.all_zero.ensures (not-true _ c.if-not-all_zero.true)
+    sound_rest _ _ _ _ _ c.word-u.ensures.is c.all_zero.ensures (c.if-not-all_zero.true)
 
 pub returns : goal.returns
 returns c =
     sound_sum _ _ _ _ _ _ c.if-b-ne512.false c.word-u.ensures.is c.if-u-least.false c.if-most-u.false c.if-u-ne0.false
-    c.all_zero.ensures (not-false _ c.if-not-all_zero.false) c.sum_words.ensures
+    c.all_zero.ensures (c.if-not-all_zero.false) c.sum_words.ensures

@@ -1,17 +1,17 @@
 -- A way out for each answer.
 use Rattle.std.proofs.Common.{◌≡◌, true, length, sym, ◌∙◌, arith}
-use borrow.Author.Tests.{not-true, not-false}
 use Rattle.limits.specs.Limits.{size_ok}
 use Rattle.blocks.proofs.Journal.{for_high, flat_parts}
 use Rattle.blocks.proofs.Ways.{to_call, to_full, to_done}
 use Rattle.blocks.proofs.to_blocks.Goals as goal
+use Rattle.blocks.proofs.to_blocks.Goals.{Else-not-size_ok}
 
 -- past the first test the length is right
-lent : (c : goal.Else-not-size_ok) → size_ok (length c.args.journal.now) ≡ true
-lent c = sym c.size_ok.ensures ∙ not-false _ c.if-not-size_ok.false
+lent : (c : Else-not-size_ok) → size_ok (length c.args.journal.now) ≡ true
+lent c = sym c.size_ok.ensures ∙ c.if-not-size_ok.false
 
 pub returns-then-not-size_ok : goal.returns-then-not-size_ok
-returns-then-not-size_ok c = to_call c.args.journal.now _ (sym c.size_ok.ensures ∙ not-true _ c.if-not-size_ok.true)
+returns-then-not-size_ok c = to_call c.args.journal.now _ (sym c.size_ok.ensures ∙ c.if-not-size_ok.true)
 
 pub blocks_for-n-requires : goal.blocks_for-n-requires
 blocks_for-n-requires c = (flat_parts (length c.args.journal.now) (lent (goal.at.blocks_for-n-requires c).Else-not-size_ok)).1

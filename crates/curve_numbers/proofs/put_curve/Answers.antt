@@ -5,6 +5,7 @@ use lib.Seq.{sets}
 use Rattle.curve_numbers.specs.Numbers.{curve_numbers, curve_floats}
 use Rattle.curve_numbers.proofs.Laws.{no_numbers, no_floats, both_put}
 use Rattle.curve_numbers.proofs.put_curve.Goals as goal
+use Rattle.curve_numbers.proofs.put_curve.Goals.{After-slice_known-in-Arc-1, After-slice_known-in-Ellipse-1, In-Refused}
 
 pub returns-then-numbers-lt7 : goal.returns-then-numbers-lt7
 returns-then-numbers-lt7 c = let a = c.args in no_numbers a.numbers.now a.at a.floats.now a.from a.curve (omega arith)

@@ -3,7 +3,6 @@ use Prim.Native.Nat.{ℕ, ◌+◌, ◌≤◌}
 use mathlib.Core.Path.{◌≡◌, sym, ◌∙◌}
 use mathlib.Core.Bool.{true}
 use native.Mathlib.Omega.{arith}
-use borrow.Author.Tests.{not-true, not-false}
 use Rattle.words.specs.Words.{words}
 use Rattle.kinds.specs.Kinds.{is_curve, fixed_part}
 use Rattle.curve_views.proofs.Laws.{Inside, curve_few, curve_room, curve_cut, curve_reserved, curve_ellipse, curve_arc}
@@ -36,7 +35,7 @@ pub returns-then-not-floats_ok : goal.returns-then-not-floats_ok
 returns-then-not-floats_ok c =
     let a = c.args in
     sym (curve_reserved a.dim (words a.file.now) a.at a.t c.requires.0 (whole a.file.now _ _ c.fixed_part.ensures a.at c.if-file-at.false)
-    (sym c.floats_ok.ensures ∙ not-true _ c.if-not-floats_ok.true))
+    (sym c.floats_ok.ensures ∙ c.if-not-floats_ok.true))
 
 pub overflow_add-axes : goal.overflow_add-axes
 overflow_add-axes c =
@@ -78,7 +77,7 @@ returns-then-t-eq15 c =
     let a = c.args in
     rw (c.float_at-primary.ensures, c.float_at-secondary.ensures, c.turn_at-turn.ensures, c.origin_at-origin.ensures, c.axes_word.ensures, c.origin_word.ensures)
     (sym (curve_ellipse a.dim (words a.file.now) a.at a.t c.requires.0 (whole a.file.now _ _ c.fixed_part.ensures a.at c.if-file-at.false)
-    (sym c.floats_ok.ensures ∙ not-false _ c.if-not-floats_ok.false) c.if-t-eq15.true))
+    (sym c.floats_ok.ensures ∙ c.if-not-floats_ok.false) c.if-t-eq15.true))
 
 pub returns : goal.returns
 returns c =
@@ -94,4 +93,4 @@ returns c =
       c.long-2.ensures.is,
     )
     (sym (curve_arc a.dim (words a.file.now) a.at a.t c.requires.0 (whole a.file.now _ _ c.fixed_part.ensures a.at c.if-file-at.false)
-    (sym c.floats_ok.ensures ∙ not-false _ c.if-not-floats_ok.false) c.if-t-eq15.false))
+    (sym c.floats_ok.ensures ∙ c.if-not-floats_ok.false) c.if-t-eq15.false))

@@ -9,19 +9,20 @@ use Rattle.dfloats.proofs.Rounding.{digits_from, digits_below, eighth_from, eigh
 use Rattle.dfloats.proofs.Patterns.{pattern_is, pattern_number}
 use Rattle.dfloats.proofs.Readings.{reads_zero, reads_nearest, sum_is}
 use Rattle.dfloats.proofs.d_float.Goals as goal
+use Rattle.dfloats.proofs.d_float.Goals.{After-digits_of, After-eighth_of-q}
 
 -- m and q are as large as they must be
-m_below : (c : goal.After-digits_of) → c.digits_of.result < 2 ^ 56
+m_below : (c : After-digits_of) → c.digits_of.result < 2 ^ 56
 m_below c =
     let w = c.args in
     rw c.digits_of.ensures (digits_below w.a w.b w.c w.d (omega arith) (omega arith) (omega arith))
 
-q_from : (c : goal.After-eighth_of-q) → 2 ^ 52 ≤ c.eighth_of-q.result
+q_from : (c : After-eighth_of-q) → 2 ^ 52 ≤ c.eighth_of-q.result
 q_from c =
     let w = c.args in
     rw (c.eighth_of-q.ensures, c.digits_of.ensures) (eighth_from _ (digits_from w.a w.b w.c w.d))
 
-q_to : (c : goal.After-eighth_of-q) → c.eighth_of-q.result ≤ 2 ^ 53
+q_to : (c : After-eighth_of-q) → c.eighth_of-q.result ≤ 2 ^ 53
 q_to c = rw c.eighth_of-q.ensures (eighth_to _ (m_below c.TODO-After-digits_of))
 
 pub returns-then-exponent-eq0 : goal.returns-then-exponent-eq0

@@ -6,9 +6,10 @@ use Rattle.words.proofs.Laws.{lent_below}
 use Rattle.order.proofs.Calls.{GoesOn, goes_on}
 use Rattle.dgn_all_views.proofs.Replies.{views_refused, views_fit, views_full, views_done}
 use Rattle.dgn_all_views.proofs.dgn_views.Goals as goal
+use Rattle.dgn_all_views.proofs.dgn_views.Goals.{In-Elements-2}
 
 -- the file is accepted, and the slice has room for the answer
-goes : (c : goal.In-Elements-2) → GoesOn c.args.dim c.args.file.now 1 (length c.args.out.now) c.in-Elements.elements
+goes : (c : In-Elements-2) → GoesOn c.args.dim c.args.file.now 1 (length c.args.out.now) c.in-Elements.elements
 goes c = goes_on _ _ _ _ _ (sym c.begin.ensures ∙ c.in-Elements.is)
 
 pub returns-then-none_fits : goal.returns-then-none_fits

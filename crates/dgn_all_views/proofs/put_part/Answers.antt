@@ -3,12 +3,13 @@ use Prim.Native.Nat.{◌<◌}
 use native.Mathlib.Omega.{arith}
 use Rattle.dgn_all_views.proofs.Puts.{nothing_put}
 use Rattle.dgn_all_views.proofs.put_part.Goals as goal
+use Rattle.dgn_all_views.proofs.put_part.Goals.{Else-n-eq0}
 
 pub returns-then-n-eq0 : goal.returns-then-n-eq0
 returns-then-n-eq0 c = nothing_put _ _ _ _ c.if-n-eq0.true
 
 -- an element is to be put
-some_left : (c : goal.Else-n-eq0) → 0 < c.args.n
+some_left : (c : Else-n-eq0) → 0 < c.args.n
 some_left c = omega (arith, c.if-n-eq0.false)
 
 pub top_before-top-requires : goal.top_before-top-requires

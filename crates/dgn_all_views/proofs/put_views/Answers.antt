@@ -12,11 +12,12 @@ use Rattle.walking.proofs.Steps.{opens_shallow}
 use Rattle.dgn_all_views.specs.Views.{views_from}
 use Rattle.dgn_all_views.proofs.Puts.{walk_turn, walk_inside, tour_on, tour_in, tour_over, end_opened, above_opened}
 use Rattle.dgn_all_views.proofs.put_views.Goals as goal
+use Rattle.dgn_all_views.proofs.put_views.Goals.{After-extent_words, After-size_at-size, At-loop-i, In-loop-i}
 
-bytes : (c : goal.At-loop-i) → Below 256 c.args.file.now
+bytes : (c : At-loop-i) → Below 256 c.args.file.now
 bytes c = lent_below c.args.file.now c.type_inv.file
 
-inside : (c : goal.In-loop-i) → (c.loop-i.place < length (words c.args.file.now)) × (c.loop-i.place < length c.args.file.now)
+inside : (c : In-loop-i) → (c.loop-i.place < length (words c.args.file.now)) × (c.loop-i.place < length c.args.file.now)
 inside c =
     let l = c.loop-i in
     walk_inside c.args.file.now l.place l.depth l.ends l.headers c.args.top l.i l.invariant.2
@@ -43,7 +44,7 @@ overflow_add-i c =
     omega (arith, c.loop-i-test.true, c.requires.1.0)
 
 -- the place of the next element is small
-next_small : (c : goal.After-size_at-size) → (c.loop-i.place + c.size_at-size.result < c.loop-i.place + 65538)
+next_small : (c : After-size_at-size) → (c.loop-i.place + c.size_at-size.result < c.loop-i.place + 65538)
 next_small c = omega (arith, c.size_at-size.ensures, size_small c.args.file.now (bytes c.TODO-At-loop-i) c.loop-i.place)
 
 pub overflow_add-place : goal.overflow_add-place
@@ -67,7 +68,7 @@ loop-i-preserved-then-goes_on c =
       l.inv.7,
     )
 
-shallow : (c : goal.After-extent_words) → c.loop-i.depth < 8
+shallow : (c : After-extent_words) → c.loop-i.depth < 8
 shallow c =
     opens_shallow _ _ _ (sym c.opens_list.ensures ∙ c.if-opens_list.true)
 

@@ -6,6 +6,7 @@ use Rattle.dgn_curve.specs.CurveReplies.{curve_reply}
 use Rattle.dgn_curve.proofs.Done.{few_numbers, few_floats, replied_as, put_there}
 use Rattle.dgn_curve.proofs.Small.{curve_refused_small}
 use Rattle.dgn_curve.proofs.dgn_curve.Goals as goal
+use Rattle.dgn_curve.proofs.dgn_curve.Goals.{After-curve_at-curve}
 
 pub returns-then-numbers-lt7 : goal.returns-then-numbers-lt7
 returns-then-numbers-lt7 c = let a = c.args in few_numbers _ a.numbers.now a.floats.now c.if-numbers-lt7.true

@@ -6,9 +6,10 @@ use Rattle.order.proofs.Calls.{GoesOn, goes_on, goes_few}
 use Rattle.dgn_curves.specs.Curves.{both}
 use Rattle.dgn_curves.proofs.Replies.{curves_refused, curves_full, curves_done}
 use Rattle.dgn_curves.proofs.dgn_curves.Goals as goal
+use Rattle.dgn_curves.proofs.dgn_curves.Goals.{In-Elements-2}
 
 -- the file is accepted, and the slice has room for the answer
-goes : (c : goal.In-Elements-2) → GoesOn c.args.dim c.args.file.now 2 (length c.args.out.now) c.in-Elements.elements
+goes : (c : In-Elements-2) → GoesOn c.args.dim c.args.file.now 2 (length c.args.out.now) c.in-Elements.elements
 goes c = goes_on _ _ _ _ _ (sym c.begin.ensures ∙ c.in-Elements.is)
 
 pub put_curves-part-requires : goal.put_curves-part-requires

@@ -18,6 +18,7 @@ use Rattle.dgn_curves.specs.Curves.{Entry, entry_by, both, in_both, curve_items,
 use Rattle.dgn_curves.proofs.Slices.{lays_both, same_numbers, same_floats}
 use Rattle.dgn_curves.proofs.Places.{items_here}
 use Rattle.dgn_curves.proofs.put_curves.Goals as goal
+use Rattle.dgn_curves.proofs.put_curves.Goals.{After-put_curve, At-loop-i}
 
 -- the curves of element number i
 abbrev items_of : ℕ → List ℕ → ℕ → List Entry
@@ -29,12 +30,12 @@ So-far file dim elements k numbers₀ floats₀ numbers floats i used =
     Going in_both lays_both (part_of (in_both.room (both numbers₀ floats₀)) k (curves_from (elements - k) dim (words file) k)) (both numbers₀ floats₀) (items_of dim file) elements i used (both numbers floats)
 
 -- the slices keep their lengths
-kept_numbers : (c : goal.At-loop-i) → length c.loop-i.numbers ≡ length c.args.numbers.now
+kept_numbers : (c : At-loop-i) → length c.loop-i.numbers ≡ length c.args.numbers.now
 kept_numbers c =
     let a = c.args in
     same_numbers (both a.numbers.now a.floats.now) (both c.loop-i.numbers c.loop-i.floats) c.loop-i.invariant.2.given c.loop-i.invariant.2.stands
 
-kept_floats : (c : goal.At-loop-i) → length c.loop-i.floats ≡ length c.args.floats.now
+kept_floats : (c : At-loop-i) → length c.loop-i.floats ≡ length c.args.floats.now
 kept_floats c =
     let a = c.args in
     same_floats (both a.numbers.now a.floats.now) (both c.loop-i.numbers c.loop-i.floats) c.loop-i.invariant.2.given c.loop-i.invariant.2.stands
@@ -66,7 +67,7 @@ shape_of-floats-in-Full c =
     c.put_curve.auto.1.1.1.1.0 ∙ kept_floats (goal.at.shape_of-floats-in-Full c).At-loop-i
 
 -- the items of this turn
-here : (c : goal.After-put_curve) → let ws = words c.args.file.now in let at = c.loop-i.at in entry_by c.curve_in-curve.result at (deleted_of (word_at ws at)) ≡ items_of c.args.dim c.args.file.now c.loop-i.i
+here : (c : After-put_curve) → let ws = words c.args.file.now in let at = c.loop-i.at in entry_by c.curve_in-curve.result at (deleted_of (word_at ws at)) ≡ items_of c.args.dim c.args.file.now c.loop-i.i
 here c =
     let a = c.args in
     items_here a.dim (words a.file.now) c.curve_in-curve.result c.loop-i.at (place_of (words a.file.now) c.loop-i.i)

@@ -7,8 +7,9 @@ use Rattle.cells.proofs.Counts.{picked}
 use Rattle.answers.proofs.Laws.{answered}
 use Rattle.dgn_index.specs.IndexNumbers.{look_detail, look_reply}
 use Rattle.dgn_index.proofs.put_looked.Goals as goal
+use Rattle.dgn_index.proofs.put_looked.Goals.{After-pick}
 
-told : (c : goal.After-pick) → c.pick.result ≡ look_detail c.in-Refused.number c.in-Refused.place c.in-Refused.looks
+told : (c : After-pick) → c.pick.result ≡ look_detail c.in-Refused.number c.in-Refused.place c.in-Refused.looks
 told c = c.pick.ensures ∙ ap (λ k. cond (eqb c.in-Refused.number 13) k c.in-Refused.place) (c.pick-most.ensures ∙ picked c.in-Refused.looks 524288)
 
 pub overflow_mul-result : goal.overflow_mul-result

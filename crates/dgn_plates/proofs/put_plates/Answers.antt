@@ -15,6 +15,7 @@ use Rattle.order.proofs.Fitting.{Going, going_start, going_done, now_room, turn_
 use Rattle.dgn_plates.specs.Plates.{Entry, in_plates, plate_items, plates_from}
 use Rattle.dgn_plates.proofs.Slices.{lays_plates, same_numbers}
 use Rattle.dgn_plates.proofs.put_plates.Goals as goal
+use Rattle.dgn_plates.proofs.put_plates.Goals.{After-put_element, At-loop-i}
 
 -- the plate of element number i
 abbrev items_of : List ℕ → ℕ → List Entry
@@ -26,11 +27,11 @@ So-far file elements k numbers₀ numbers i used =
     Going in_plates lays_plates (part_of (in_plates.room numbers₀) k (plates_from (elements - k) (words file) k)) numbers₀ (items_of file) elements i used numbers
 
 -- the slice keeps its length
-kept_numbers : (c : goal.At-loop-i) → length c.loop-i.numbers ≡ length c.args.numbers.now
+kept_numbers : (c : At-loop-i) → length c.loop-i.numbers ≡ length c.args.numbers.now
 kept_numbers c = same_numbers c.args.numbers.now c.loop-i.numbers c.loop-i.invariant.2.given c.loop-i.invariant.2.stands
 
 -- the items of this turn
-here : (c : goal.After-put_element) → plate_items (words c.args.file.now) c.loop-i.at ≡ items_of c.args.file.now c.loop-i.i
+here : (c : After-put_element) → plate_items (words c.args.file.now) c.loop-i.at ≡ items_of c.args.file.now c.loop-i.i
 here c = ap (plate_items (words c.args.file.now)) c.loop-i.invariant.1
 
 pub returns-then-elements-k : goal.returns-then-elements-k

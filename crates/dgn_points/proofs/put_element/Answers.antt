@@ -10,12 +10,13 @@ use Rattle.words.proofs.Laws.{lent_below}
 use Rattle.points_linkages.proofs.Numbered.{before_few}
 use Rattle.dgn_points.proofs.Fits.{numbers_few, element_none, element_full, element_put}
 use Rattle.dgn_points.proofs.put_element.Goals as goal
+use Rattle.dgn_points.proofs.put_element.Goals.{After-point_count-n}
 
 pub returns-then-n-eq0 : goal.returns-then-n-eq0
 returns-then-n-eq0 c = element_none c.args.dim (words c.args.file.now) c.args.at _ c.args.numbers.now c.args.used c.point_count-n.ensures c.if-n-eq0.true
 
 -- an element has few points
-few : (c : goal.After-point_count-n) → (c.point_count-n.result < 65536) × (c.point_count-n.result * c.args.dim ≤ 196608)
+few : (c : After-point_count-n) → (c.point_count-n.result < 65536) × (c.point_count-n.result * c.args.dim ≤ 196608)
 few c =
     numbers_few c.args.file.now (lent_below c.args.file.now c.type_inv.file)
     c.args.dim c.args.at _ c.requires.0 c.point_count-n.ensures

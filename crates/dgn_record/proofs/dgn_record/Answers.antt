@@ -1,7 +1,6 @@
 -- Too short a slice, each refusal in its order, or the last record of the used bytes.
 use mathlib.Core.Path.{sym, ◌∙◌}
 use lib.Seq.{length-take-le}
-use borrow.Author.Tests.{not-true, not-false}
 use Rattle.edits.proofs.Tested.{used_parts}
 use Rattle.answers.proofs.Laws.{too_short, answered}
 use Rattle.dgn_record.proofs.LastRecord.{not_lent, nothing_used, record_read}
@@ -12,18 +11,18 @@ returns-then-out-lt5 c = too_short 5 _ c.args.out.now c.if-out-lt5.true
 
 pub returns-then-not-used_ok : goal.returns-then-not-used_ok
 returns-then-not-used_ok c =
-    answered 5 _ _ c.args.out.now (not_lent c.args.journal.now _ (sym c.used_ok.ensures ∙ not-true _ c.if-not-used_ok.true)) c.if-out-lt5.false
+    answered 5 _ _ c.args.out.now (not_lent c.args.journal.now _ (sym c.used_ok.ensures ∙ c.if-not-used_ok.true)) c.if-out-lt5.false
 
 pub returns-then-jused-eq0 : goal.returns-then-jused-eq0
 returns-then-jused-eq0 c =
     answered 5 _ _ c.args.out.now
-    (nothing_used c.args.journal.now _ (sym c.used_ok.ensures ∙ not-false _ c.if-not-used_ok.false) c.if-jused-eq0.true) c.if-out-lt5.false
+    (nothing_used c.args.journal.now _ (sym c.used_ok.ensures ∙ c.if-not-used_ok.false) c.if-jused-eq0.true) c.if-out-lt5.false
 
 pub slice_bounds-last_record-end : goal.slice_bounds-last_record-end
 slice_bounds-last_record-end c =
-    sym (length-take-le _ _ (used_parts _ _ (sym c.used_ok.ensures ∙ not-false _ c.if-not-used_ok.false)).within)
+    sym (length-take-le _ _ (used_parts _ _ (sym c.used_ok.ensures ∙ c.if-not-used_ok.false)).within)
 
 pub returns : goal.returns
 returns c =
-    rw (record_read c.args.journal.now _ _ (sym c.used_ok.ensures ∙ not-false _ c.if-not-used_ok.false) c.if-jused-eq0.false c.last_record-last.ensures)
+    rw (record_read c.args.journal.now _ _ (sym c.used_ok.ensures ∙ c.if-not-used_ok.false) c.if-jused-eq0.false c.last_record-last.ensures)
     c.put_last.ensures

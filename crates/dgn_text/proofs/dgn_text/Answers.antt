@@ -8,9 +8,10 @@ use Rattle.dgn_text.specs.TextReplies.{text_reply}
 use Rattle.dgn_text.proofs.Small.{text_small, text_refused_small}
 use Rattle.dgn_text.proofs.Done.{text_done}
 use Rattle.dgn_text.proofs.dgn_text.Goals as goal
+use Rattle.dgn_text.proofs.dgn_text.Goals.{After-counts_word}
 
 -- the text begins at a small place, and the word of its counts is near
-near : (c : goal.After-counts_word) → (c.counts_word.result ≤ 37) × (c.args.place < 524288)
+near : (c : After-counts_word) → (c.counts_word.result ≤ 37) × (c.args.place < 524288)
 near c =
     let early = counts_early c.args.dim in
     let is = c.counts_word.ensures in

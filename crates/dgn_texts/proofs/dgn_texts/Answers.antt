@@ -5,9 +5,10 @@ use lib.ListN.{length, length-set}
 use Rattle.order.proofs.Calls.{GoesOn, goes_on}
 use Rattle.dgn_texts.proofs.Replies.{texts_refused, texts_full, texts_done, texts_walk}
 use Rattle.dgn_texts.proofs.dgn_texts.Goals as goal
+use Rattle.dgn_texts.proofs.dgn_texts.Goals.{In-Elements-2}
 
 -- the file is accepted, and the slice has room for the answer
-goes : (c : goal.In-Elements-2) → GoesOn c.args.dim c.args.file.now 2 (length c.args.out.now) c.in-Elements.elements
+goes : (c : In-Elements-2) → GoesOn c.args.dim c.args.file.now 2 (length c.args.out.now) c.in-Elements.elements
 goes c = goes_on _ _ _ _ _ (sym c.begin.ensures ∙ c.in-Elements.is)
 
 pub put_texts-part-requires : goal.put_texts-part-requires

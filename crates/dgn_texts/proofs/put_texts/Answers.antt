@@ -16,13 +16,14 @@ use Rattle.dgn_texts.specs.Texts.{walk_of, entry_at, texts_from, from_number}
 use Rattle.dgn_texts.proofs.Walks.{walking_start, walk_in, walk_out, walk_on}
 use Rattle.dgn_texts.proofs.Places.{from_first}
 use Rattle.dgn_texts.proofs.put_texts.Goals as goal
+use Rattle.dgn_texts.proofs.put_texts.Goals.{After-size_at, In-loop-i, Then-opens_list}
 
 -- the numbers that are taken of element number i
 abbrev numbers_of : ℕ → List ℕ → ℕ → ℕ → List ℤ
 numbers_of dim file k i = from_number k i (entry_at dim (words file) (walk_of (words file) i))
 
 -- the element lies in the file
-inside : (c : goal.In-loop-i) → (c.loop-i.place < length (words c.args.file.now)) × (length (words c.args.file.now) ≤ 524288) × (c.loop-i.place < length c.args.file.now)
+inside : (c : In-loop-i) → (c.loop-i.place < length (words c.args.file.now)) × (length (words c.args.file.now) ≤ 524288) × (c.loop-i.place < length c.args.file.now)
 inside c =
     let i = c.requires.1 c.loop-i.i c.loop-i-test.true in
     let p = ap (λ w. w.place) c.loop-i.invariant.1.is in
@@ -30,18 +31,18 @@ inside c =
     (omega arith, c.requires.0, omega arith)
 
 -- its numbers are those of the walk
-here : (c : goal.In-loop-i) → let a = c.args in let l = c.loop-i in from_number a.k l.i (entry_at a.dim (words a.file.now) (record { place = l.place; depth = l.depth; ends = l.ends })) ≡ numbers_of a.dim a.file.now a.k l.i
+here : (c : In-loop-i) → let a = c.args in let l = c.loop-i in from_number a.k l.i (entry_at a.dim (words a.file.now) (record { place = l.place; depth = l.depth; ends = l.ends })) ≡ numbers_of a.dim a.file.now a.k l.i
 here c =
     let a = c.args in
     ap (λ w. from_number a.k c.loop-i.i (entry_at a.dim (words a.file.now) w)) c.loop-i.invariant.1.is
 
 -- the next element begins behind it
-next_is : (c : goal.After-size_at) → c.loop-i.place + c.size_at.result ≡ c.loop-i.place + size_at (words c.args.file.now) c.loop-i.place
+next_is : (c : After-size_at) → c.loop-i.place + c.size_at.result ≡ c.loop-i.place + size_at (words c.args.file.now) c.loop-i.place
 next_is c =
     ap (λ n. c.loop-i.place + n) c.size_at.ensures
 
 -- and what was put with it stands before what the rest takes
-went : (c : goal.After-size_at) → let a = c.args in Going in_numbers lays_numbers (part_of (length a.numbers.now) a.k (texts_from (a.elements - a.k) a.dim (words a.file.now) a.k)) a.numbers.now (numbers_of a.dim a.file.now a.k) a.elements (c.loop-i.i + 1) c.in-Used.more c.put_from.new.dim.1.1.1.1.1.0
+went : (c : After-size_at) → let a = c.args in Going in_numbers lays_numbers (part_of (length a.numbers.now) a.k (texts_from (a.elements - a.k) a.dim (words a.file.now) a.k)) a.numbers.now (numbers_of a.dim a.file.now a.k) a.elements (c.loop-i.i + 1) c.in-Used.more c.put_from.new.dim.1.1.1.1.1.0
 went c =
     turn_more in_numbers lays_numbers c.loop-i.invariant.2 _ (here c.TODO-In-loop-i) c.loop-i-test.true _ _ _ c.in-Used.is c.put_from.ensures
 
@@ -84,7 +85,7 @@ overflow_add-next c =
     omega (arith, c.size_at.ensures, size_small s (lent_below s c.type_inv.file) c.loop-i.place, inside (goal.at.overflow_add-next c).In-loop-i)
 
 -- a list that opens is not the deepest
-shallow : (c : goal.Then-opens_list) → c.loop-i.depth < 8
+shallow : (c : Then-opens_list) → c.loop-i.depth < 8
 shallow c = opens_shallow _ _ _ (sym c.opens_list.ensures ∙ c.if-opens_list.true)
 
 pub overflow_add-depth : goal.overflow_add-depth

@@ -16,6 +16,7 @@ use Rattle.elements.specs.Attributes.{linkages_ok}
 use Rattle.elements.specs.Rules.{fixed_ok, curve_floats_ok}
 use Rattle.elements.proofs.Laws.{linked_size, linkages_linked, curve_fixed, curve_fields, curve_floats}
 use Rattle.elements.proofs.curve_fault.Goals as goal
+use Rattle.elements.proofs.curve_fault.Goals.{After-attributes_ok, After-curve_part-fixed, After-floats_ok, Else-not-attributes_ok, Else-not-size_ok, Else-size-fixed, Start}
 
 -- the checks of the call
 -- left:
@@ -23,38 +24,38 @@ use Rattle.elements.proofs.curve_fault.Goals as goal
 -- of a = simple_checks a.args.dim (words a.args.s.now) a.args.at a.args.size
 
 -- the type
-kind : (a : goal.Start) → CurveType c.args.t
+kind : (a : Start) → CurveType c.args.t
 kind c = curve_type c.args.t c.requires.1.0
 
 -- the check of the size by the fixed part
-fixed : (c : goal.After-curve_part-fixed) → fixed_ok c.args.dim (words c.args.s.now) c.args.at ≡ leb c.curve_part-fixed.result c.args.size
+fixed : (c : After-curve_part-fixed) → fixed_ok c.args.dim (words c.args.s.now) c.args.at ≡ leb c.curve_part-fixed.result c.args.size
 fixed c =
     curve_fixed c.args.dim (words c.args.s.now) c.args.at c.args.t c.args.size c.requires.0.0 c.requires.0.1 _ c.curve_part-fixed.ensures c.requires.1.0
 
 -- the size is right
-long : (c : goal.Else-size-fixed) → fixed_ok c.args.dim (words c.args.s.now) c.args.at ≡ true
+long : (c : Else-size-fixed) → fixed_ok c.args.dim (words c.args.s.now) c.args.at ≡ true
 long c = fixed c.TODO-After-curve_part-fixed ∙ le-leb _ _ c.if-size-fixed.false
 
 -- to-k: the first fault is that of the checks after the first k, once these passed; only a text has fields
-to_2 : (c : goal.Else-size-fixed) {n : ℕ} → First (drop 2 (of here§1)) n → First (of here§2) n
+to_2 : (c : Else-size-fixed) {n : ℕ} → First (drop 2 (of here§1)) n → First (of here§2) n
 to_2 c p =
     pass (long c) (pass (curve_fields c.args.dim (words c.args.s.now) c.args.at c.args.t c.args.size c.requires.0.0 c.requires.0.1 c.requires.1.0) p)
 
-to_3 : (c : goal.Else-not-size_ok) {n : ℕ} → First (drop 3 (of here§1)) n → First (of here§2) n
+to_3 : (c : Else-not-size_ok) {n : ℕ} → First (drop 3 (of here§1)) n → First (of here§2) n
 to_3 c p = to_2 c.TODO-Else-size-fixed (pass (accepted c.size_ok.ensures c.if-not-size_ok.false) p)
 
 -- what attributes_ok and floats_ok answer are the checks 11 and 21
-linked : (c : goal.After-attributes_ok) → c.attributes_ok.result ≡ linkages_ok c.args.dim (words c.args.s.now) c.args.at
+linked : (c : After-attributes_ok) → c.attributes_ok.result ≡ linkages_ok c.args.dim (words c.args.s.now) c.args.at
 linked c =
     let ws = words c.args.s.now in
     let n = sizing_at c.args.dim ws c.args.at in
     c.attributes_ok.ensures c.args.dim (c.curve_part-fixed.ensures n ∙ ap (λ (t : ℕ). fixed_part c.args.dim t n) c.requires.0.0)
     ∙ sym (linkages_linked c.args.dim ws c.args.at (rw c.requires.0.0 at (kind c.TODO-Start).linked))
 
-to_4 : (c : goal.Else-not-attributes_ok) {n : ℕ} → First (drop 4 (of here§1)) n → First (of here§2) n
+to_4 : (c : Else-not-attributes_ok) {n : ℕ} → First (drop 4 (of here§1)) n → First (of here§2) n
 to_4 c p = to_3 c.TODO-Else-not-size_ok (pass (accepted (linked c.TODO-After-attributes_ok) c.if-not-attributes_ok.false) p)
 
-floats : (c : goal.After-floats_ok) → c.floats_ok.result ≡ curve_floats_ok c.args.dim (words c.args.s.now) c.args.at
+floats : (c : After-floats_ok) → c.floats_ok.result ≡ curve_floats_ok c.args.dim (words c.args.s.now) c.args.at
 floats c =
     c.floats_ok.ensures
     ∙ sym (curve_floats c.args.dim (words c.args.s.now) c.args.at c.args.t c.args.size c.requires.0.0 c.requires.0.1 c.requires.1.0)

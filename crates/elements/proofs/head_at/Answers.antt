@@ -17,6 +17,7 @@ use Rattle.elements.specs.declared.Head.TheVariants.{Bad}
 use Rattle.headers.proofs.Checks.{pass, stop, tail, first, fault_here, fault_later}
 use Rattle.elements.proofs.Laws.{simple_same, element_within, header_within, read_bad, read_plain, read_complex}
 use Rattle.elements.proofs.head_at.Goals as goal
+use Rattle.elements.proofs.head_at.Goals.{After-flag_fault-flagged, After-header_fault-wrong, After-is_header, After-simple_fault-wrong, After-type_of-t, Else-bound-at, Else-room-size, Else-wrong-ne0, Start}
 
 -- the checks of the call, its fault, and whether the element is a header
 -- left:
@@ -56,15 +57,15 @@ use Rattle.elements.proofs.head_at.Goals as goal
 -- header a = is_header (type_at (words a.args.s.now) a.args.at)
 
 -- a refusal with a number
-refuse : (a : goal.Start) (n : ℕ) → n ≡ number a → (n ≡ 0 → ⊥) → HeadRead c.args.dim c.args.depth c.args.under c.args.s.now c.args.at c.args.bound (Bad n)
+refuse : (a : Start) (n : ℕ) → n ≡ number a → (n ≡ 0 → ⊥) → HeadRead c.args.dim c.args.depth c.args.under c.args.s.now c.args.at c.args.bound (Bad n)
 refuse c = read_bad c.args.dim c.args.depth c.args.under c.args.s.now c.args.at c.args.bound
 
 -- two words stand before the bound
-roomy : (c : goal.Else-bound-at) → leb 2 (c.args.bound - c.args.at) ≡ true
+roomy : (c : Else-bound-at) → leb 2 (c.args.bound - c.args.at) ≡ true
 roomy c = le-leb 2 (c.args.bound - c.args.at) (omega (arith, c.if-bound-at.false, c.if-bound-lt2.false))
 
 -- where the two checks 3 passed, those after them decide
-decide : (c : goal.Else-room-size) {n : ℕ} → n ≡ first_fault (flags here§1 ++ rest here§2) → n ≡ number here§3
+decide : (c : Else-room-size) {n : ℕ} → n ≡ first_fault (flags here§1 ++ rest here§2) → n ≡ number here§3
 unfolding fault_of
 decide c e =
     first (all here§1)
@@ -73,41 +74,41 @@ decide c e =
     (tail _ e)))
 
 -- what flag_fault answers; where that is 0, the checks after it decide
-flagged : (c : goal.After-flag_fault-flagged) → c.flag_fault-flagged.result ≡ first_fault (flags here§1)
+flagged : (c : After-flag_fault-flagged) → c.flag_fault-flagged.result ≡ first_fault (flags here§1)
 flagged c = rw c.word-w.ensures.is at c.flag_fault-flagged.ensures
 
-settle : (c : goal.After-type_of-t) {n : ℕ} → n ≡ first_fault (rest here§1) → n ≡ number here§2
+settle : (c : After-type_of-t) {n : ℕ} → n ≡ first_fault (rest here§1) → n ≡ number here§2
 settle c e =
     decide c.TODO-Else-room-size
     (fault_later (flags here§1) (rest here§2) _ refl (sym c.if-flagged-ne0.false ∙ flagged c.TODO-After-flag_fault-flagged) e)
 
 -- the type and the size that were read
-typed : (c : goal.After-type_of-t) → c.type_of-t.result ≡ type_at (words c.args.s.now) c.args.at
+typed : (c : After-type_of-t) → c.type_of-t.result ≡ type_at (words c.args.s.now) c.args.at
 typed c =
     rw c.word-w.ensures.is at c.type_of-t.ensures
 
-sized : (c : goal.After-type_of-t) → c.word-size.result + 2 ≡ size_at (words c.args.s.now) c.args.at
+sized : (c : After-type_of-t) → c.word-size.result + 2 ≡ size_at (words c.args.s.now) c.args.at
 sized c = ap (λ (n : ℕ). n + 2) c.word-size.ensures.is
 
 -- what is_header answers, of the element
-kind : (c : goal.After-is_header) → c.is_header.result ≡ header here§1
+kind : (c : After-is_header) → c.is_header.result ≡ header here§1
 kind c = rw (typed c.TODO-After-type_of-t) at c.is_header.ensures
 
 -- what header_fault and simple_fault answer
-headed : (c : goal.After-header_fault-wrong) → c.header_fault-wrong.result ≡ first_fault (rest here§1)
+headed : (c : After-header_fault-wrong) → c.header_fault-wrong.result ≡ first_fault (rest here§1)
 headed c = rw (typed c.TODO-After-type_of-t) at c.header_fault-wrong.ensures
 
-simple : (c : goal.After-simple_fault-wrong) → c.simple_fault-wrong.result ≡ first_fault (rest here§1)
+simple : (c : After-simple_fault-wrong) → c.simple_fault-wrong.result ≡ first_fault (rest here§1)
 simple c =
     let ws = words c.args.s.now in
     rw (typed c.TODO-After-type_of-t, sized c.TODO-After-type_of-t) at c.simple_fault-wrong.ensures
     ∙ simple_same ws c.args.at (c.args.bound - c.args.at) (before_size a) (linkages_ok c.args.dim ws c.args.at) (curve_floats_ok c.args.dim ws c.args.at) (sym (kind c.TODO-After-is_header) ∙ c.if-is_header.false)
 
 -- a header without a fault
-none : (c : goal.Else-wrong-ne0) → number here§1 ≡ 0
+none : (c : Else-wrong-ne0) → number here§1 ≡ 0
 none c = sym (settle c.TODO-After-type_of-t (sym c.if-wrong-ne0.false ∙ headed c.TODO-After-header_fault-wrong))
 
-is_complex : (c : goal.Else-wrong-ne0) → header here§1 ≡ true
+is_complex : (c : Else-wrong-ne0) → header here§1 ≡ true
 is_complex c = sym (kind c.TODO-After-is_header) ∙ c.if-is_header.true
 
 pub returns-then-bound-lt2 : goal.returns-then-bound-lt2

@@ -13,6 +13,7 @@ use Rattle.kinds.proofs.Types.{header_long}
 use Rattle.headers.proofs.Checks.{refused, accepted, First, pass, stop, tail, first}
 use Rattle.elements.proofs.Laws.{header_short, header_fixed, header_part, header_fields, header_floats, extent_header}
 use Rattle.elements.proofs.header_fault.Goals as goal
+use Rattle.elements.proofs.header_fault.Goals.{After-extent_ok, After-linkages_ok, Else-not-extent_ok, Else-not-linkages_ok, Else-not-may_stand, Else-size-fixed, Start}
 
 -- the checks of the call
 -- left:
@@ -20,34 +21,34 @@ use Rattle.elements.proofs.header_fault.Goals as goal
 -- of a = check (may_stand a.args.dim a.args.under a.args.t) 6 ∷ content_checks a.args.dim (words a.args.s.now) a.args.at a.args.room
 
 -- the size is right
-sized : (c : goal.Else-size-fixed) → fixed_ok c.args.dim (words c.args.s.now) c.args.at ≡ true
+sized : (c : Else-size-fixed) → fixed_ok c.args.dim (words c.args.s.now) c.args.at ≡ true
 sized c =
     header_fixed c.args.dim (words c.args.s.now) c.args.at c.args.t c.args.size c.requires.0.0 c.requires.0.1 _ c.header_part-fixed.ensures c.requires.1.0 c.if-size-fixed.false
 
 -- what extent_ok and linkages_ok answer are the checks 8 and 11
-extended : (c : goal.After-extent_ok) → c.extent_ok.result ≡ extent_ok (words c.args.s.now) c.args.at c.args.room
+extended : (c : After-extent_ok) → c.extent_ok.result ≡ extent_ok (words c.args.s.now) c.args.at c.args.room
 extended c =
     rw c.requires.0.1 at c.extent_ok.ensures
     ∙ sym (extent_header (words c.args.s.now) c.args.at c.args.room (rw c.requires.0.0 at c.requires.1.0))
 
-linked : (c : goal.After-linkages_ok) → c.linkages_ok.result ≡ linkages_ok c.args.dim (words c.args.s.now) c.args.at
+linked : (c : After-linkages_ok) → c.linkages_ok.result ≡ linkages_ok c.args.dim (words c.args.s.now) c.args.at
 linked c =
     c.linkages_ok.ensures c.args.dim
     (header_part c.args.dim (words c.args.s.now) c.args.at c.args.t c.args.size c.requires.0.0 c.requires.0.1 _ c.header_part-fixed.ensures c.requires.1.0)
 
 -- to-k: the first fault is that of the checks after the first k, once these passed
-to_1 : (c : goal.Else-not-may_stand) {n : ℕ} → First (drop 1 (of here§1)) n → First (of here§2) n
+to_1 : (c : Else-not-may_stand) {n : ℕ} → First (drop 1 (of here§1)) n → First (of here§2) n
 to_1 c p = pass (accepted c.may_stand.ensures c.if-not-may_stand.false) p
 
-to_3 : (c : goal.Else-size-fixed) {n : ℕ} → First (drop 3 (of here§1)) n → First (of here§2) n
+to_3 : (c : Else-size-fixed) {n : ℕ} → First (drop 3 (of here§1)) n → First (of here§2) n
 to_3 c p =
     let fields = header_fields c.args.dim (words c.args.s.now) c.args.at c.args.t c.args.size c.requires.0.0 c.requires.0.1 c.requires.1.0 in
     to_1 c.TODO-Else-not-may_stand (pass (sized c) (pass fields p))
 
-to_4 : (c : goal.Else-not-extent_ok) {n : ℕ} → First (drop 4 (of here§1)) n → First (of here§2) n
+to_4 : (c : Else-not-extent_ok) {n : ℕ} → First (drop 4 (of here§1)) n → First (of here§2) n
 to_4 c p = to_3 c.TODO-Else-size-fixed (pass (accepted (extended c.TODO-After-extent_ok) c.if-not-extent_ok.false) p)
 
-to_6 : (c : goal.Else-not-linkages_ok) {n : ℕ} → First (drop 6 (of here§1)) n → First (of here§2) n
+to_6 : (c : Else-not-linkages_ok) {n : ℕ} → First (drop 6 (of here§1)) n → First (of here§2) n
 to_6 c p =
     let floats = header_floats c.args.dim (words c.args.s.now) c.args.at c.args.t c.args.size c.requires.0.0 c.requires.0.1 c.requires.1.0 in
     to_4 c.TODO-Else-not-extent_ok (pass (accepted (linked c.TODO-After-linkages_ok) c.if-not-linkages_ok.false) (pass floats p))

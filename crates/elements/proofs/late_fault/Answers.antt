@@ -5,6 +5,7 @@ use lib.Dec.{eqb}
 use borrow.Author.Tests.{ne_eqb}
 use Rattle.headers.proofs.Checks.{pass, stop, tail, first}
 use Rattle.elements.proofs.late_fault.Goals as goal
+use Rattle.elements.proofs.late_fault.Goals.{Start}
 
 -- the checks of the call
 -- left:

@@ -14,6 +14,7 @@ use Rattle.elements.specs.Rules.{fixed_ok, curve_floats_ok}
 use Rattle.headers.proofs.Checks.{refused, accepted, First, pass, stop, tail, first}
 use Rattle.elements.proofs.Laws.{linked_size, linkages_linked, fields_none, floats_none}
 use Rattle.elements.proofs.plain_fault.Goals as goal
+use Rattle.elements.proofs.plain_fault.Goals.{After-attributes_ok, Else-is_late, Else-not-size_ok, Else-size-fixed, Else-under-eq7, Start}
 
 -- the checks of the call
 -- left:
@@ -23,7 +24,7 @@ use Rattle.elements.proofs.plain_fault.Goals as goal
 --     ∷ simple_checks a.args.dim (words a.args.s.now) a.args.at a.args.size
 
 -- it is no curve, and no text
-other : (c : goal.Else-is_late) → (is_curve c.args.t ≡ false) × (eqb c.args.t 17 ≡ false)
+other : (c : Else-is_late) → (is_curve c.args.t ≡ false) × (eqb c.args.t 17 ≡ false)
 other c = neither (is_curve c.args.t) (eqb c.args.t 17) (sym c.is_late.ensures ∙ c.if-is_late.false)
   where
     neither : (a b : Bool) → (a || b) ≡ false → (a ≡ false) × (b ≡ false)
@@ -32,28 +33,28 @@ other c = neither (is_curve c.args.t) (eqb c.args.t 17) (sym c.is_late.ensures �
     neither true b e = absurd (false≢true (sym e))
 
 -- the size is right
-long : (c : goal.Else-size-fixed) → fixed_ok c.args.dim (words c.args.s.now) c.args.at ≡ true
+long : (c : Else-size-fixed) → fixed_ok c.args.dim (words c.args.s.now) c.args.at ≡ true
 long c = sym c.plain_part-fixed.ensures.0 ∙ le-leb _ _ c.if-size-fixed.false
 
 -- to-k: the first fault is that of the checks after the first k, once these passed; only a text has fields
-to_1 : (c : goal.Else-under-eq7) {n : ℕ} → First (drop 1 (of here§1)) n → First (of here§2) n
+to_1 : (c : Else-under-eq7) {n : ℕ} → First (drop 1 (of here§1)) n → First (of here§2) n
 to_1 c p = pass (ap (λ (b : Bool). not b || eqb c.args.t 17) (ne_eqb c.args.under 7 c.if-under-eq7.false)) p
 
-to_3 : (c : goal.Else-size-fixed) {n : ℕ} → First (drop 3 (of here§1)) n → First (of here§2) n
+to_3 : (c : Else-size-fixed) {n : ℕ} → First (drop 3 (of here§1)) n → First (of here§2) n
 to_3 c p =
     let fields = fields_none c.args.dim (words c.args.s.now) c.args.at (rw c.requires.0.0 at (other c.TODO-Else-is_late).1) in
     to_1 c.TODO-Else-under-eq7 (pass (long c) (pass fields p))
 
-to_4 : (c : goal.Else-not-size_ok) {n : ℕ} → First (drop 4 (of here§1)) n → First (of here§2) n
+to_4 : (c : Else-not-size_ok) {n : ℕ} → First (drop 4 (of here§1)) n → First (of here§2) n
 to_4 c p = to_3 c.TODO-Else-size-fixed (pass (accepted c.size_ok.ensures c.if-not-size_ok.false) p)
 
 -- what attributes_ok answers is check 11; it has no floats
-linked : (c : goal.After-attributes_ok) → c.attributes_ok.result ≡ linkages_ok c.args.dim (words c.args.s.now) c.args.at
+linked : (c : After-attributes_ok) → c.attributes_ok.result ≡ linkages_ok c.args.dim (words c.args.s.now) c.args.at
 linked c =
     c.attributes_ok.ensures c.args.dim (rw c.requires.0.0 at (c.plain_part-fixed.ensures.1 (long c.TODO-Else-size-fixed)))
     ∙ sym (linkages_linked c.args.dim (words c.args.s.now) c.args.at (rw c.requires.0.0 at c.requires.1.0))
 
-unfloated : (c : goal.Else-not-size_ok) → curve_floats_ok c.args.dim (words c.args.s.now) c.args.at ≡ true
+unfloated : (c : Else-not-size_ok) → curve_floats_ok c.args.dim (words c.args.s.now) c.args.at ≡ true
 unfloated c =
     floats_none c.args.dim (words c.args.s.now) c.args.at (rw c.requires.0.0 at (other c.TODO-Else-is_late).0)
 

@@ -13,6 +13,7 @@ use Rattle.headers.specs.Header.{sizing_at}
 use Rattle.elements.specs.Rules.{sized_ok}
 use Rattle.elements.proofs.Laws.{plain_fixed, fixed_sized}
 use Rattle.elements.proofs.plain_part.Goals as goal
+use Rattle.elements.proofs.plain_part.Goals.{After-shared_slice_known-1, After-word-n, Else-t-eq3, Start}
 
 -- the fixed part and its check, of the call
 -- left:
@@ -33,10 +34,10 @@ use Rattle.elements.proofs.plain_part.Goals as goal
 -- abbrev Post : tie.Start → ℕ → Type 0
 -- Post a r = (leb r a.args.size ≡ fixed a) × (fixed a ≡ true → r ≡ part a)
 
-right : (a : goal.Start) (r : ℕ) → r ≡ part a → points a ≡ true → Post a r
+right : (a : Start) (r : ℕ) → r ≡ part a → points a ≡ true → Post a r
 right c r e p = (sym (plain_fixed c.args.dim (words c.args.s.now) c.args.at c.args.t c.args.size c.requires.0.0 c.requires.0.1 r e p), λ _. e)
 
-wrong : (c : goal.After-shared_slice_known-1) → points c.before ≡ false → Post c.before 65540
+wrong : (c : After-shared_slice_known-1) → points c.before ≡ false → Post c.before 65540
 wrong c p =
     let s = c.args.s.now in
     let z = c.requires.0.1 in
@@ -45,24 +46,24 @@ wrong c p =
     (lt-leb 65540 c.args.size (omega arith) ∙ sym f, λ e. absurd (false≢true (sym f ∙ e)))
 
 -- what is left after type 3 has points, and word 18 sizes it
-pointed : (c : goal.Else-t-eq3) → is_pointed c.args.t ≡ true
+pointed : (c : Else-t-eq3) → is_pointed c.args.t ≡ true
 pointed c =
     plain_pointed c.args.t c.requires.1.0 c.requires.1.1.0 (ne_eqb _ _ c.if-t-eq3.false) c.requires.1.1.1.0 c.requires.1.1.1.1.0
 
-at_18 : (c : goal.Else-t-eq3) → (is_sized c.args.t ≡ true) × (sizing_word c.args.dim c.args.t ≡ 18)
+at_18 : (c : Else-t-eq3) → (is_sized c.args.t ≡ true) × (sizing_word c.args.dim c.args.t ≡ 18)
 at_18 c = pointed_sized c.args.dim c.args.t (pointed c)
 
 -- the size, and N that was read, decide
-sized : (c : goal.Else-t-eq3) → sized_ok c.args.dim (words c.args.s.now) c.args.at ≡ leb 19 c.args.size
+sized : (c : Else-t-eq3) → sized_ok c.args.dim (words c.args.s.now) c.args.at ≡ leb 19 c.args.size
 sized c =
     simp (sym c.requires.0.0, sym c.requires.0.1, (at_18 c).0, (at_18 c).1)
 
-counted : (c : goal.After-word-n) → points c.before.before.before.before ≡ (leb 2 c.word-n.result && leb c.word-n.result 101)
+counted : (c : After-word-n) → points c.before.before.before.before ≡ (leb 2 c.word-n.result && leb c.word-n.result 101)
 counted c =
     rw (sized c.TODO-Else-t-eq3, le-leb 19 c.args.size c.if-size-lt19.false, sym c.requires.0.0, pointed c.TODO-Else-t-eq3, sym c.word-n.ensures.is)
 
 -- N is the word that sizes the fixed part
-sizing : (c : goal.After-word-n) → sizing_at c.args.dim (words c.args.s.now) c.args.at ≡ c.word-n.result
+sizing : (c : After-word-n) → sizing_at c.args.dim (words c.args.s.now) c.args.at ≡ c.word-n.result
 sizing c =
     rw (sym c.requires.0.0, (at_18 c.TODO-Else-t-eq3).1) (sym c.word-n.ensures.is)
 

@@ -8,6 +8,7 @@ use Rattle.kinds.specs.Kinds.{is_unread}
 use Rattle.headers.specs.Checks.{check, first_fault}
 use Rattle.headers.proofs.Checks.{refused, accepted, pass, stop, tail, first}
 use Rattle.elements.proofs.raw_fault.Goals as goal
+use Rattle.elements.proofs.raw_fault.Goals.{After-size_ok, Start}
 
 -- the checks of the call
 -- left:
@@ -27,7 +28,7 @@ pub size_ok-requires : goal.size_ok-requires
 size_ok-requires c = tt
 
 -- past the first two, by the third
-by : (c : goal.After-size_ok) (b : Bool) → leb c.args.size 65535 ≡ b → first_fault (check b 8 ∷ []) ≡ first_fault (of here§2)
+by : (c : After-size_ok) (b : Bool) → leb c.args.size 65535 ≡ b → first_fault (check b 8 ∷ []) ≡ first_fault (of here§2)
 by c b e =
     first (of here§1)
     (pass (simp (ne_eqb _ _ c.if-under-eq7.false))

@@ -15,6 +15,7 @@ use Rattle.elements.specs.Attributes.{linkages_ok}
 use Rattle.elements.specs.Rules.{fixed_ok, text_fields_ok, curve_floats_ok}
 use Rattle.elements.proofs.Laws.{linked_size, linkages_linked, floats_none, text_part_is, text_fixed, text_fields}
 use Rattle.elements.proofs.text_fault.Goals as goal
+use Rattle.elements.proofs.text_fault.Goals.{After-attributes_ok, After-counted_fields_ok, After-text_part-fixed, After-word-counts, Else-not-counted_fields_ok, Else-not-size_ok, Else-size-fixed, Start}
 
 -- the checks of the call
 -- left:
@@ -26,46 +27,46 @@ use Rattle.elements.proofs.text_fault.Goals as goal
 -- abbrev part : tie.Start → ℕ
 -- part a = text_part a.args.dim (counts_at a.args.dim (words a.args.s.now) a.args.at)
 
-fixed : (a : goal.Start) → fixed_ok c.args.dim (words c.args.s.now) c.args.at ≡ leb (part a) c.args.size
+fixed : (a : Start) → fixed_ok c.args.dim (words c.args.s.now) c.args.at ≡ leb (part a) c.args.size
 fixed c = rw c.requires.1.0 (text_fixed c.args.dim (words c.args.s.now) c.args.at c.requires.0)
 
 -- the counts that were read
-counts : (c : goal.After-word-counts) → c.word-counts.result ≡ counts_at c.args.dim (words c.args.s.now) c.args.at
+counts : (c : After-word-counts) → c.word-counts.result ≡ counts_at c.args.dim (words c.args.s.now) c.args.at
 counts c = rw c.counts_word-place.ensures at c.word-counts.ensures.is
 
-sized : (c : goal.After-text_part-fixed) → c.text_part-fixed.result ≡ part here§1
+sized : (c : After-text_part-fixed) → c.text_part-fixed.result ≡ part here§1
 sized c = c.text_part-fixed.ensures ∙ ap (text_part c.args.dim) (counts c.TODO-After-word-counts)
 
 -- the size is right
-long : (c : goal.Else-size-fixed) → fixed_ok c.args.dim (words c.args.s.now) c.args.at ≡ true
+long : (c : Else-size-fixed) → fixed_ok c.args.dim (words c.args.s.now) c.args.at ≡ true
 long c = fixed c.TODO-Start ∙ rw (sym (sized c.TODO-After-text_part-fixed)) (le-leb _ _ c.if-size-fixed.false)
 
 -- what counted_fields_ok answers is check 20
-fielded : (c : goal.After-counted_fields_ok) → c.counted_fields_ok.result ≡ text_fields_ok c.args.dim (words c.args.s.now) c.args.at
+fielded : (c : After-counted_fields_ok) → c.counted_fields_ok.result ≡ text_fields_ok c.args.dim (words c.args.s.now) c.args.at
 unfolding fields_ok
 fielded c =
     rw (counts c.TODO-After-word-counts) at c.counted_fields_ok.ensures
     ∙ sym (text_fields c.args.dim (words c.args.s.now) c.args.at c.requires.0)
 
 -- to-k: the first fault is that of the checks after the first k, once these passed
-to_1 : (c : goal.Else-size-fixed) {n : ℕ} → First (drop 1 (of here§1)) n → First (of here§2) n
+to_1 : (c : Else-size-fixed) {n : ℕ} → First (drop 1 (of here§1)) n → First (of here§2) n
 to_1 c p = pass (long c) p
 
-to_2 : (c : goal.Else-not-counted_fields_ok) {n : ℕ} → First (drop 2 (of here§1)) n → First (of here§2) n
+to_2 : (c : Else-not-counted_fields_ok) {n : ℕ} → First (drop 2 (of here§1)) n → First (of here§2) n
 to_2 c p = to_1 c.TODO-Else-size-fixed (pass (accepted (fielded c.TODO-After-counted_fields_ok) c.if-not-counted_fields_ok.false) p)
 
-to_3 : (c : goal.Else-not-size_ok) {n : ℕ} → First (drop 3 (of here§1)) n → First (of here§2) n
+to_3 : (c : Else-not-size_ok) {n : ℕ} → First (drop 3 (of here§1)) n → First (of here§2) n
 to_3 c p = to_2 c.TODO-Else-not-counted_fields_ok (pass (accepted c.size_ok.ensures c.if-not-size_ok.false) p)
 
 -- what attributes_ok answers is check 11
-linked : (c : goal.After-attributes_ok) → c.attributes_ok.result ≡ linkages_ok c.args.dim (words c.args.s.now) c.args.at
+linked : (c : After-attributes_ok) → c.attributes_ok.result ≡ linkages_ok c.args.dim (words c.args.s.now) c.args.at
 linked c =
     let ws = words c.args.s.now in
     c.attributes_ok.ensures c.args.dim (sized c.TODO-After-text_part-fixed ∙ sym (text_part_is c.args.dim ws c.args.at c.requires.0))
     ∙ sym (linkages_linked c.args.dim ws c.args.at (rw (sym c.requires.0) refl))
 
 -- a text has no floats of its own
-unfloated : (a : goal.Start) → curve_floats_ok c.args.dim (words c.args.s.now) c.args.at ≡ true
+unfloated : (a : Start) → curve_floats_ok c.args.dim (words c.args.s.now) c.args.at ≡ true
 unfloated c = floats_none c.args.dim (words c.args.s.now) c.args.at (rw (sym c.requires.0) refl)
 
 pub counts_word-place-requires : goal.counts_word-place-requires

@@ -6,9 +6,10 @@ use Rattle.places.specs.Descent.{locate_of}
 use Rattle.places.specs.declared.Spotted.TheVariants.{At}
 use Rattle.faults.proofs.Depths.{locate_depth}
 use Rattle.faults.proofs.components_under.Goals as goal
+use Rattle.faults.proofs.components_under.Goals.{In-At-2}
 
 -- what the descent finds
-found : (c : goal.In-At-2) → locate_of (words c.args.used.now) c.args.header c.args.marker ≡ At c.in-At.end c.in-At.depth c.in-At.above
+found : (c : In-At-2) → locate_of (words c.args.used.now) c.args.header c.args.marker ≡ At c.in-At.end c.in-At.depth c.in-At.above
 found c = sym c.locate.ensures ∙ c.in-At.is
 
 pub overflow_add-result : goal.overflow_add-result

@@ -7,9 +7,10 @@ use Rattle.headers.specs.Checks.{check, first_fault}
 use Rattle.edits.specs.Allowed.{flag_differs}
 use Rattle.faults.specs.Faults.{mark_number}
 use Rattle.faults.proofs.mark_fault.Goals as goal
+use Rattle.faults.proofs.mark_fault.Goals.{After-flag_differs}
 
 -- at an element, by whether its flag differs
-by : (c : goal.After-flag_differs) (b : Bool) → c.flag_differs.result ≡ b → first_fault (check b 14 ∷ []) ≡ mark_number (words c.args.used.now) c.args.found c.args.place c.args.deleted
+by : (c : After-flag_differs) (b : Bool) → c.flag_differs.result ≡ b → first_fault (check b 14 ∷ []) ≡ mark_number (words c.args.used.now) c.args.found c.args.place c.args.deleted
 unfolding mark_number
 by c b e =
     rw (

@@ -7,6 +7,7 @@ use Rattle.headers.proofs.Checks.{refused, accepted}
 use Rattle.fields.specs.Faults.{fields_ok, points_fit, arguments_ok}
 use Rattle.fields.proofs.Bounds.{and_no, and_on}
 use Rattle.fields.proofs.arguments_ok.Goals as goal
+use Rattle.fields.proofs.arguments_ok.Goals.{Else-not-dim_ok, Else-not-fields_ok, Else-not-kind_ok}
 
 -- the tests, and the answer where it is that of the tests from number k on
 -- left:
@@ -17,14 +18,14 @@ use Rattle.fields.proofs.arguments_ok.Goals as goal
 -- abbrev Past : tie.Start → ℕ → Bool → Type 0
 -- Past a k r = r ≡ all_of (drop k (tests a)) → r ≡ arguments_ok a.args.dim a.args.fields a.args.points a.args.tail
 
-past_1 : (c : goal.Else-not-dim_ok) {r : Bool} → Past here§1 1 r
+past_1 : (c : Else-not-dim_ok) {r : Bool} → Past here§1 1 r
 unfolding arguments_ok
 past_1 c = and_on (accepted c.dim_ok.ensures c.if-not-dim_ok.false)
 
-past_2 : (c : goal.Else-not-kind_ok) {r : Bool} → Past here§1 2 r
+past_2 : (c : Else-not-kind_ok) {r : Bool} → Past here§1 2 r
 past_2 c q = past_1 c.TODO-Else-not-dim_ok (and_on (accepted c.kind_ok.ensures c.if-not-kind_ok.false) q)
 
-past_3 : (c : goal.Else-not-fields_ok) {r : Bool} → Past here§1 3 r
+past_3 : (c : Else-not-fields_ok) {r : Bool} → Past here§1 3 r
 past_3 c q = past_2 c.TODO-Else-not-kind_ok (and_on (accepted c.fields_ok.ensures c.if-not-fields_ok.false) q)
 
 pub returns-then-not-dim_ok : goal.returns-then-not-dim_ok

@@ -8,13 +8,14 @@ use Rattle.headers.proofs.Checks.{refused, accepted}
 use Rattle.fields.specs.Faults.{point_number_ok}
 use Rattle.fields.proofs.Bounds.{counted}
 use Rattle.fields.proofs.point_number_ok.Goals as goal
+use Rattle.fields.proofs.point_number_ok.Goals.{After-point_count-n}
 
 pub returns-then-not-is_pointed : goal.returns-then-not-is_pointed
 unfolding point_number_ok
 returns-then-not-is_pointed c = simp (refused (c.is_pointed.ensures) (c.if-not-is_pointed.true))
 
 -- the number compared is N
-number : (c : goal.After-point_count-n) → c.point_count-n.result ≡ c.args.points / c.args.dim
+number : (c : After-point_count-n) → c.point_count-n.result ≡ c.args.points / c.args.dim
 number c = counted _ _ c.requires c.point_count-n.ensures
 
 pub returns-then-n-lt2 : goal.returns-then-n-lt2

@@ -7,6 +7,7 @@ use Rattle.headers.proofs.Checks.{refused, accepted, pass, stop, tail, first}
 use Rattle.fields.specs.Faults.{write_fault}
 use Rattle.fields.proofs.Bounds.{called}
 use Rattle.fields.proofs.write_fault.Goals as goal
+use Rattle.fields.proofs.write_fault.Goals.{Start}
 
 -- the checks of the call
 -- left:

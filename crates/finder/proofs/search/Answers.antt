@@ -2,7 +2,6 @@
 -- there (Looks). A refused file is answered as it is judged.
 use mathlib.Core.Path.{◌≡◌, sym, ◌∙◌}
 use mathlib.Core.Bool.{true}
-use borrow.Author.Tests.{not-true, not-false}
 use Rattle.words.specs.Words.{words}
 use Rattle.limits.specs.Limits.{call_ok}
 use Rattle.files.specs.Reach.{reached_of}
@@ -12,19 +11,20 @@ use Rattle.finder.proofs.Looks.{searched_none, search_refused, arrived_fault, en
 use Prim.Native.Nat.{◌-◌, ◌/◌}
 use lib.ListN.{length}
 use Rattle.finder.proofs.search.Goals as goal
+use Rattle.finder.proofs.search.Goals.{At-loop-number, In-Element-2}
 
 pub returns-then-not-call_ok : goal.returns-then-not-call_ok
-returns-then-not-call_ok c = (c.refused.ensures) ∙ search_refused _ _ _ _ _ 1 0 (sym (judge_call _ _ (sym (c.call_ok.ensures) ∙ not-true _ (c.if-not-call_ok.true))))
+returns-then-not-call_ok c = (c.refused.ensures) ∙ search_refused _ _ _ _ _ 1 0 (sym (judge_call _ _ (sym (c.call_ok.ensures) ∙ c.if-not-call_ok.true)))
 
 pub loop-number-init : goal.loop-number-init
 loop-number-init c = searched_none (c.refused-answer.ensures)
 
 -- the call is one that may be made
-call : (c : goal.At-loop-number) → call_ok c.args.dim c.args.file.now ≡ true
+call : (c : At-loop-number) → call_ok c.args.dim c.args.file.now ≡ true
 call c =
-    sym c.call_ok.ensures ∙ not-false _ c.if-not-call_ok.false
+    sym c.call_ok.ensures ∙ c.if-not-call_ok.false
 
-element : (c : goal.In-Element-2) → Element c.in-Element.header c.in-Element.end c.in-Element.before ≡ reached_of c.args.dim (words c.args.file.now) c.loop-number.here (length c.args.file.now / 2) (length c.args.file.now / 2) true
+element : (c : In-Element-2) → Element c.in-Element.header c.in-Element.end c.in-Element.before ≡ reached_of c.args.dim (words c.args.file.now) c.loop-number.here (length c.args.file.now / 2) (length c.args.file.now / 2) true
 element c = sym c.in-Element.is ∙ c.reach.ensures
 
 pub returns-in-Refused : goal.returns-in-Refused

@@ -6,6 +6,7 @@ use Rattle.headers.specs.Flags.{reserved_ok, place_ok}
 use Rattle.headers.proofs.Checks.{refused, accepted, both_true, pass, stop, tail, first}
 use Rattle.headers.proofs.Laws.{flags_stop}
 use Rattle.headers.proofs.flag_fault.Goals as goal
+use Rattle.headers.proofs.flag_fault.Goals.{Start}
 
 -- the checks of the call
 -- left:

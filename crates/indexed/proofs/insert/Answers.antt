@@ -4,7 +4,6 @@ use mathlib.Core.Path.{refl, sym, ◌∙◌}
 use native.Mathlib.Omega.{arith}
 use lib.ListN.{length}
 use lib.Seq.{length-take-le}
-use borrow.Author.Tests.{not-true}
 use Rattle.words.specs.Words.{Below}
 use Rattle.words.proofs.Laws.{lent_below}
 use Rattle.edits.specs.Calls.{insert_call}
@@ -13,6 +12,7 @@ use Rattle.indexed.proofs.Back.{sum_few}
 use Rattle.indexed.proofs.Ways.{lengths_wrong}
 use Rattle.indexed.proofs.Calls.{may_count, room_fits, finishes, insert_done}
 use Rattle.indexed.proofs.insert.Goals as goal
+use Rattle.indexed.proofs.insert.Goals.{After-cells_used, After-lent_ok, After-shared_slice_known-1, Else-not-lent_ok}
 
 -- what is lent, once the lengths are right
 -- left:
@@ -31,17 +31,17 @@ use Rattle.indexed.proofs.insert.Goals as goal
 --       journal_below = lent_below (start e).args.journal.now e.before.before.before.before.slice_known2.given;
 --     }
 
-piece_below : (e : goal.Else-not-lent_ok) → Below 256 c.args.piece.now
+piece_below : (e : Else-not-lent_ok) → Below 256 c.args.piece.now
 piece_below c = lent_below c.args.piece.now c.type_inv.piece
 
 -- the cells of the file and of the piece
-sum_of : (c : goal.After-cells_used) → c.cells_used.result + c.count_cells-more.result ≤ 1048576 + (length c.args.piece.now / 2 + 1)
+sum_of : (c : After-cells_used) → c.cells_used.result + c.count_cells-more.result ≤ 1048576 + (length c.args.piece.now / 2 + 1)
 sum_of c =
     sum_few c.args.file.now c.args.used (may_count (lent c.before.before.before)).small c.cells_used.result
     c.cells_used.ensures c.args.piece.now _ c.count_cells-more.result c.count_cells-more.ensures
 
 pub returns-then-not-lent_ok : goal.returns-then-not-lent_ok
-returns-then-not-lent_ok c = lengths_wrong _ _ _ _ _ _ _ (sym (c.lent_ok.ensures) ∙ not-true _ (c.if-not-lent_ok.true)) _
+returns-then-not-lent_ok c = lengths_wrong _ _ _ _ _ _ _ (sym (c.lent_ok.ensures) ∙ c.if-not-lent_ok.true) _
 
 pub cells_used-requires : goal.cells_used-requires
 cells_used-requires c = (may_count (lent (goal.at.cells_used-requires c).After-lent_ok)).used_within

@@ -1,11 +1,11 @@
 -- Wrong lengths are 1 (`lengths_wrong`); else the extent is removed with the room that the counts of cells leave, and all is completed by the index (`remove_done`).
 use mathlib.Core.Path.{sym, ◌∙◌}
 use lib.Seq.{length-take-le}
-use borrow.Author.Tests.{not-true}
 use Rattle.edits.specs.Calls.{remove_call}
 use Rattle.indexed.proofs.Ways.{lengths_wrong}
 use Rattle.indexed.proofs.Calls.{may_count, room_fits, finishes, remove_done}
 use Rattle.indexed.proofs.remove.Goals as goal
+use Rattle.indexed.proofs.remove.Goals.{After-lent_ok, After-slice_known-2-1, After-slice_known-3-1}
 
 -- what is lent, once the lengths are right
 -- left:
@@ -25,7 +25,7 @@ use Rattle.indexed.proofs.remove.Goals as goal
 --     }
 
 pub returns-then-not-lent_ok : goal.returns-then-not-lent_ok
-returns-then-not-lent_ok c = lengths_wrong _ _ _ _ _ _ _ (sym (c.lent_ok.ensures) ∙ not-true _ (c.if-not-lent_ok.true)) _
+returns-then-not-lent_ok c = lengths_wrong _ _ _ _ _ _ _ (sym (c.lent_ok.ensures) ∙ c.if-not-lent_ok.true) _
 
 pub cells_used-requires : goal.cells_used-requires
 cells_used-requires c = (may_count (lent (goal.at.cells_used-requires c).After-lent_ok)).used_within

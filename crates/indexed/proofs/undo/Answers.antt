@@ -1,9 +1,9 @@
 -- Wrong lengths are 1 (`lengths_wrong`); else the undo is told whether the index will fit (`fullness`), and completed by it (`undo_done`).
 use mathlib.Core.Path.{sym, ◌∙◌}
-use borrow.Author.Tests.{not-true}
 use Rattle.indexed.proofs.Ways.{lengths_wrong}
 use Rattle.indexed.proofs.Calls.{may_count, undo_finishes, undo_done}
 use Rattle.indexed.proofs.undo.Goals as goal
+use Rattle.indexed.proofs.undo.Goals.{After-lent_ok, After-slice_known-2-1}
 
 -- what is lent, once the lengths are right
 -- left:
@@ -23,7 +23,7 @@ use Rattle.indexed.proofs.undo.Goals as goal
 --     }
 
 pub returns-then-not-lent_ok : goal.returns-then-not-lent_ok
-returns-then-not-lent_ok c = lengths_wrong _ _ _ _ _ _ _ (sym (c.lent_ok.ensures) ∙ not-true _ (c.if-not-lent_ok.true)) _
+returns-then-not-lent_ok c = lengths_wrong _ _ _ _ _ _ _ (sym (c.lent_ok.ensures) ∙ c.if-not-lent_ok.true) _
 
 pub cells_back-requires : goal.cells_back-requires
 cells_back-requires c = may_count (lent (goal.at.cells_back-requires c).After-lent_ok)

@@ -6,6 +6,7 @@ use borrow.Author.Tests.{ne_eqb, lt-ltb, le-ltb}
 use Rattle.kinds.specs.Kinds.{may_stand}
 use Rattle.kinds.proofs.Types.{stands_header, header_solid, twice}
 use Rattle.kinds.proofs.header_stands.Goals as goal
+use Rattle.kinds.proofs.header_stands.Goals.{Else-t-eq1}
 
 pub is_counted-requires : goal.is_counted-requires
 is_counted-requires c = tt
@@ -20,7 +21,7 @@ returns-then-t-eq1 c =
     (c.if-t-eq1.true, sym c.is_counted.ensures, c.if-is_counted.false, and-false, and-true, twice))
 
 -- under no header with a count, any but type 1
-by : (c : goal.Else-t-eq1) → may_stand c.args.dim c.args.under c.args.t ≡ not (eqb c.args.dim 2 && ltb 17 c.args.t)
+by : (c : Else-t-eq1) → may_stand c.args.dim c.args.under c.args.t ≡ not (eqb c.args.dim 2 && ltb 17 c.args.t)
 by c =
     simp (
       stands_header c.args.dim c.args.under c.args.t c.requires,

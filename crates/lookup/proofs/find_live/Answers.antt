@@ -3,7 +3,6 @@ use Prim.Native.Nat.{ℕ}
 use mathlib.Core.Path.{sym, ◌∙◌}
 use native.Mathlib.Omega.{arith}
 use lib.ListN.{length-replicate}
-use borrow.Author.Tests.{not-true, not-false}
 use Rattle.words.specs.Words.{words}
 use Rattle.entries.specs.Entries.{entries}
 use Rattle.entries.proofs.Laws.{length_entries}
@@ -26,7 +25,7 @@ pub returns-then-not-has_name : goal.returns-then-not-has_name
 returns-then-not-has_name c =
     let args = c.args in
     λ xs o a. c.missing-then-not-has_name.ensures ∙ end_other (live_in xs (words args.file.now)) _ _ c.halve-h.ensures
-    (omega (arith, length_entries args.s.now, c.if-s-low.false)) (sym c.has_name.ensures ∙ not-true _ c.if-not-has_name.true)
+    (omega (arith, length_entries args.s.now, c.if-s-low.false)) (sym c.has_name.ensures ∙ c.if-not-has_name.true)
 
 pub fill_live-requires : goal.fill_live-requires
 fill_live-requires c =
@@ -39,7 +38,7 @@ overflow_add-looks-2 c =
 pub go_on-requires : goal.go_on-requires
 go_on-requires c =
     let here = named_is (entries c.args.s.now) c.halve-h.result.low c.args.name
-    (sym c.has_name.ensures ∙ not-false _ c.if-not-has_name.false) in
+    (sym c.has_name.ensures ∙ c.if-not-has_name.false) in
     (here.0, (here.1, omega (arith, c.halve-h.ensures.few, length_entries c.args.s.now, c.well_formed)))
 
 pub returns : goal.returns

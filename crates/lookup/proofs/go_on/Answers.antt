@@ -2,7 +2,6 @@
 use Prim.Native.Nat.{◌-◌}
 use native.Mathlib.Omega.{arith}
 use mathlib.Core.Path.{◌∙◌}
-use borrow.Author.Tests.{not-true, not-false}
 use Rattle.lookup.proofs.Steps.{step_first, step_hit, step_last, step_again}
 use Rattle.lookup.proofs.go_on.Goals as goal
 
@@ -19,7 +18,7 @@ overflow_add-i c = omega (arith, c.loop-low.invariant.inside, c.requires.1.1)
 pub returns-then-not-has_name : goal.returns-then-not-has_name
 returns-then-not-has_name c =
     c.missing.ensures ∙ step_last _ _ _ c.loop-low.invariant c.entry-place.ensures c.is_marked.ensures
-    c.if-is_marked.false c.has_name.ensures (not-true _ c.if-not-has_name.true)
+    c.if-is_marked.false c.has_name.ensures (c.if-not-has_name.true)
 
 pub overflow_add-n : goal.overflow_add-n
 overflow_add-n c =
@@ -31,4 +30,4 @@ loop-low-smaller c = omega (arith, c.loop-low.invariant.inside)
 pub loop-low-preserved : goal.loop-low-preserved
 loop-low-preserved c =
     step_again _ _ _ c.loop-low.invariant c.entry-place.ensures c.is_marked.ensures c.if-is_marked.false
-    c.has_name.ensures (not-false _ c.if-not-has_name.false)
+    c.has_name.ensures (c.if-not-has_name.false)

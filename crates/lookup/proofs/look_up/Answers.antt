@@ -4,19 +4,19 @@ use mathlib.Core.Bool.{true}
 use native.Mathlib.Omega.{arith}
 use lib.ListN.{length}
 use lib.Seq.{length-take-le}
-use borrow.Author.Tests.{not-true, not-false}
 use Rattle.names.proofs.OneToOne.{pack_stored}
 use Rattle.entries.specs.Entries.{entries_ok}
 use Rattle.entries.proofs.Laws.{ok_within}
 use Rattle.lookup.proofs.Calls.{marker_few, live_bad, live_file, live_text, live_words}
 use Rattle.lookup.proofs.look_up.Goals as goal
+use Rattle.lookup.proofs.look_up.Goals.{Else-not-entries_ok}
 
 -- the used length is one of whole entries
-used_ok : (c : goal.Else-not-entries_ok) → entries_ok (length c.args.index.now) c.args.used ≡ true
-used_ok c = sym c.entries_ok.ensures ∙ not-false _ c.if-not-entries_ok.false
+used_ok : (c : Else-not-entries_ok) → entries_ok (length c.args.index.now) c.args.used ≡ true
+used_ok c = sym c.entries_ok.ensures ∙ c.if-not-entries_ok.false
 
 pub returns-then-not-entries_ok : goal.returns-then-not-entries_ok
-returns-then-not-entries_ok c = c.refused.ensures ∙ live_bad _ _ _ _ _ (sym c.entries_ok.ensures ∙ not-true _ c.if-not-entries_ok.true)
+returns-then-not-entries_ok c = c.refused.ensures ∙ live_bad _ _ _ _ _ (sym c.entries_ok.ensures ∙ c.if-not-entries_ok.true)
 
 pub slice_bounds-find_live-end : goal.slice_bounds-find_live-end
 slice_bounds-find_live-end c =

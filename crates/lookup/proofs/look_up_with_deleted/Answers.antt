@@ -4,19 +4,19 @@ use mathlib.Core.Bool.{true}
 use native.Mathlib.Omega.{arith}
 use lib.ListN.{length}
 use lib.Seq.{length-take-le}
-use borrow.Author.Tests.{not-true, not-false}
 use Rattle.names.proofs.OneToOne.{pack_stored}
 use Rattle.entries.specs.Entries.{entries_ok}
 use Rattle.entries.proofs.Laws.{ok_within}
 use Rattle.lookup.proofs.Turns.{call_bad, call_text, call_in}
 use Rattle.lookup.proofs.look_up_with_deleted.Goals as goal
+use Rattle.lookup.proofs.look_up_with_deleted.Goals.{Else-not-entries_ok}
 
 -- the used length is one of whole entries
-used_ok : (c : goal.Else-not-entries_ok) → entries_ok (length c.args.index.now) c.args.used ≡ true
-used_ok c = sym c.entries_ok.ensures ∙ not-false _ c.if-not-entries_ok.false
+used_ok : (c : Else-not-entries_ok) → entries_ok (length c.args.index.now) c.args.used ≡ true
+used_ok c = sym c.entries_ok.ensures ∙ c.if-not-entries_ok.false
 
 pub returns-then-not-entries_ok : goal.returns-then-not-entries_ok
-returns-then-not-entries_ok c = c.refused.ensures ∙ call_bad _ _ _ (sym c.entries_ok.ensures ∙ not-true _ c.if-not-entries_ok.true)
+returns-then-not-entries_ok c = c.refused.ensures ∙ call_bad _ _ _ (sym c.entries_ok.ensures ∙ c.if-not-entries_ok.true)
 
 pub slice_bounds-find-end : goal.slice_bounds-find-end
 slice_bounds-find-end c = sym (length-take-le _ _ (ok_within _ _ (used_ok (goal.at.slice_bounds-find-end c).Else-not-entries_ok)))

@@ -1,22 +1,21 @@
 -- A piece of a wrong length is 1 (`not_lent`); what opening refuses is the call's refusal (`closed`); what it opens is what
 -- `insert_opened` asks for.
 use mathlib.Core.Path.{sym, ◌∙◌}
-use borrow.Author.Tests.{not-true, not-false}
 use Rattle.opening.proofs.OpenSession.{opened_ready, opened_refused}
 use Rattle.opening.proofs.Steps.{answered, closed, not_lent}
 use Rattle.moving.proofs.insert.Goals as goal
 
 pub returns-then-not-size_ok : goal.returns-then-not-size_ok
-returns-then-not-size_ok c = answered (c.refused.ensures) (not_lent _ _ _ (sym (c.size_ok.ensures) ∙ not-true _ (c.if-not-size_ok.true)))
+returns-then-not-size_ok c = answered (c.refused.ensures) (not_lent _ _ _ (sym (c.size_ok.ensures) ∙ c.if-not-size_ok.true))
 
 pub insert_opened-requires : goal.insert_opened-requires
 insert_opened-requires c =
     let o = opened_ready c.args.dim c.args.file.now c.args.used c.args.journal.now
     c.args.jused _ _ c.open_at.ensures _ _ c.in-Ready.is in
-    (o.0, (o.1, sym c.size_ok.ensures ∙ not-false _ c.if-not-size_ok.false))
+    (o.0, (o.1, sym c.size_ok.ensures ∙ c.if-not-size_ok.false))
 
 pub returns-in-Refused : goal.returns-in-Refused
 returns-in-Refused c =
-    closed _ _ _ _ _ (sym c.size_ok.ensures ∙ not-false _ c.if-not-size_ok.false)
+    closed _ _ _ _ _ (sym c.size_ok.ensures ∙ c.if-not-size_ok.false)
     (opened_refused c.args.dim c.args.file.now c.args.used c.args.journal.now
     c.args.jused _ _ c.open_at.ensures _ _ c.in-Refused.is)

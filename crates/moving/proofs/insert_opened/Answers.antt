@@ -8,6 +8,7 @@ use Rattle.opening.proofs.OpenSession.{used_within, jused_within}
 use Rattle.opening.proofs.Steps.{answered}
 use Rattle.moving.proofs.Ways.{refusal_of, fine_of, insert_refused, insert_room, insert_full, insert_done}
 use Rattle.moving.proofs.insert_opened.Goals as goal
+use Rattle.moving.proofs.insert_opened.Goals.{After-insert_fault}
 
 pub slice_bounds-insert_fault-end : goal.slice_bounds-insert_fault-end
 slice_bounds-insert_fault-end c = used_within (c.requires.0)
@@ -16,10 +17,10 @@ pub slice_bounds-insert_fault-end-2 : goal.slice_bounds-insert_fault-end-2
 slice_bounds-insert_fault-end-2 c = sym (length-take-le _ _ (used_within (c.requires.0)))
 
 -- the bytes of the file and of the piece
-below : (c : goal.After-insert_fault) → Below 256 c.args.file.now
+below : (c : After-insert_fault) → Below 256 c.args.file.now
 below c = lent_below c.args.file.now c.slice_known-1.given
 
-piece_below : (c : goal.After-insert_fault) → Below 256 c.args.piece.now
+piece_below : (c : After-insert_fault) → Below 256 c.args.piece.now
 piece_below c = lent_below c.args.piece.now c.type_inv.piece
 
 pub overflow_sub-file : goal.overflow_sub-file

@@ -10,13 +10,14 @@ use Rattle.opening.proofs.OpenSession.{used_within, jused_within, used_most}
 use Rattle.opening.proofs.Steps.{answered}
 use Rattle.moving.proofs.Ways.{remove_inside, remove_full, remove_done}
 use Rattle.moving.proofs.remove_found.Goals as goal
+use Rattle.moving.proofs.remove_found.Goals.{After-slice_known-1}
 
 -- the file's bytes
-below : (c : goal.After-slice_known-1) → Below 256 c.args.file.now
+below : (c : After-slice_known-1) → Below 256 c.args.file.now
 below c = lent_below c.args.file.now c.type_inv.file
 
 -- the extent is in the used file, which is in its buffer and not too long
-bounds : (c : goal.After-slice_known-1) → ((c.args.place < c.args.end) × (2 * c.args.end ≤ c.args.used)) × ((c.args.used ≤ length c.args.file.now) × (c.args.used ≤ 1048576))
+bounds : (c : After-slice_known-1) → ((c.args.place < c.args.end) × (2 * c.args.end ≤ c.args.used)) × ((c.args.used ≤ length c.args.file.now) × (c.args.used ≤ 1048576))
 bounds c = (remove_inside _ _ _ _ _ _ _ c.requires.opened (below c) _ _ _ refl, (used_within c.requires.opened, used_most c.requires.opened))
 
 pub overflow_sub-n : goal.overflow_sub-n

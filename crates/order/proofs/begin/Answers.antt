@@ -6,6 +6,7 @@ use Rattle.files.specs.declared.Judged.{Judged}
 use Rattle.answers.proofs.Refusals.{file_small}
 use Rattle.order.specs.Calls.{begun_by, begun_of}
 use Rattle.order.proofs.begin.Goals as goal
+use Rattle.order.proofs.begin.Goals.{After-judge}
 
 pub returns-then-room-needed : goal.returns-then-room-needed
 unfolding begun_of
@@ -18,7 +19,7 @@ pub overflow_add-result : goal.overflow_add-result
 overflow_add-result c = omega (arith, file_small _ _ _ _ (sym c.judge.ensures ∙ c.in-Refused.is))
 
 -- by what the file is judged
-judged : (c : goal.After-judge) (v : Judged) → c.judge.result ≡ v → begun_by v ≡ begun_of c.args.dim c.args.file.now c.args.needed c.args.room
+judged : (c : After-judge) (v : Judged) → c.judge.result ≡ v → begun_by v ≡ begun_of c.args.dim c.args.file.now c.args.needed c.args.room
 unfolding begun_of
 judged c v e = rw (le-leb _ _ c.if-room-needed.false, sym c.judge.ensures, e) refl
 

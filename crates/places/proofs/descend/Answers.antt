@@ -2,7 +2,7 @@
 use Prim.Native.Nat.{◌-◌}
 use mathlib.Core.Path.{sym, ap, ◌∙◌}
 use native.Mathlib.Omega.{arith}
-use borrow.Author.Tests.{not-true, not-false}
+use borrow.Author.Tests.{not-true}
 use Rattle.words.specs.Words.{words}
 use Rattle.words.proofs.Laws.{lent_below}
 use Rattle.kinds.specs.Kinds.{is_header}
@@ -51,7 +51,7 @@ loop-here-smaller c = omega (arith, c.size_at-here.ensures)
 
 pub loop-here-preserved : goal.loop-here-preserved
 loop-here-preserved c =
-    let header = ap is_header (sym c.type_at.ensures) ∙ sym c.is_header.ensures ∙ not-false _ c.if-not-is_header.false in (
+    let header = ap is_header (sym c.type_at.ensures) ∙ sym c.is_header.ensures ∙ c.if-not-is_header.false in (
       omega (arith, c.size_at-here.ensures),
       λ r i. c.loop-here.invariant.1 r
           (step_into _ _ _ _ _ _ c.extent_words.ensures c.loop-here-test.true c.if-end-place.false r _ c.size_at-here.ensures header i),

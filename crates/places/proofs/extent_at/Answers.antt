@@ -4,9 +4,10 @@ use native.Mathlib.Omega.{arith}
 use Rattle.places.specs.Extents.{extent_answer, extent_bytes}
 use Rattle.places.proofs.Places.{Inside, spotted_inside}
 use Rattle.places.proofs.extent_at.Goals as goal
+use Rattle.places.proofs.extent_at.Goals.{In-At}
 
 -- the extent lies in the file
-inside : (c : goal.In-At) → Inside c.args.dim c.args.file.now c.args.place c.in-At.end
+inside : (c : In-At) → Inside c.args.dim c.args.file.now c.args.place c.in-At.end
 inside c = spotted_inside _ _ _ _ _ _ (sym c.spotted_at.ensures ∙ c.in-At.is)
 
 pub overflow_mul-a : goal.overflow_mul-a

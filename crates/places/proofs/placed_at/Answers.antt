@@ -4,7 +4,6 @@ use Prim.Native.Nat.{◌/◌}
 use mathlib.Core.Path.{◌≡◌, sym, ◌∙◌}
 use mathlib.Core.Bool.{true, false}
 use native.Mathlib.Omega.{arith}
-use borrow.Author.Tests.{not-true, not-false}
 use lib.ListN.{length}
 use Rattle.words.specs.Words.{words}
 use Rattle.limits.specs.Limits.{call_ok}
@@ -14,16 +13,17 @@ use Rattle.files.proofs.Laws.{judge_call}
 use Rattle.places.proofs.Places.{placed_refused}
 use Rattle.places.proofs.Nearest.{first_fault, first_end, before_end, end_inside, rest_fault, rest_end, rest_stops}
 use Rattle.places.proofs.placed_at.Goals as goal
+use Rattle.places.proofs.placed_at.Goals.{After-reach, In-Element-2}
 
 pub returns-then-not-call_ok : goal.returns-then-not-call_ok
-returns-then-not-call_ok c = sym (placed_refused _ _ _ 1 0 (sym (judge_call _ _ (sym (c.call_ok.ensures) ∙ not-true _ (c.if-not-call_ok.true)))))
+returns-then-not-call_ok c = sym (placed_refused _ _ _ 1 0 (sym (judge_call _ _ (sym (c.call_ok.ensures) ∙ c.if-not-call_ok.true))))
 
 -- the call is one that may be made
-call : (c : goal.After-reach) → call_ok c.args.dim c.args.file.now ≡ true
-call c = sym c.call_ok.ensures ∙ not-false _ c.if-not-call_ok.false
+call : (c : After-reach) → call_ok c.args.dim c.args.file.now ≡ true
+call c = sym c.call_ok.ensures ∙ c.if-not-call_ok.false
 
 -- the element at the top that ends after the place
-top : (c : goal.In-Element-2) → Element c.in-Element.top c.in-Element.end c.in-Element.before ≡ reached_of c.args.dim (words c.args.file.now) 0 (length c.args.file.now / 2) c.args.place false
+top : (c : In-Element-2) → Element c.in-Element.top c.in-Element.end c.in-Element.before ≡ reached_of c.args.dim (words c.args.file.now) 0 (length c.args.file.now / 2) c.args.place false
 top c = sym c.in-Element.is ∙ c.reach.ensures
 
 pub descend-found-requires : goal.descend-found-requires

@@ -1,7 +1,6 @@
 -- No cell, or its plate: where a cell is, words stand.
 use mathlib.Core.Path.{refl, sym, ap, ◌∙◌}
 use native.Mathlib.Omega.{arith}
-use borrow.Author.Tests.{not-true, not-false}
 use Rattle.words.specs.Words.{words}
 use Rattle.promises.proofs.Promises.{words_length}
 use Rattle.plates.specs.declared.Plated.TheVariants.{Counted}
@@ -11,15 +10,15 @@ use Rattle.plates.proofs.plate_in.Goals as goal
 
 pub returns-then-not-is_cell : goal.returns-then-not-is_cell
 unfolding plate_in
-returns-then-not-is_cell c = rw (sym c.is_cell.ensures ∙ not-true _ c.if-not-is_cell.true) refl
+returns-then-not-is_cell c = rw (sym c.is_cell.ensures ∙ c.if-not-is_cell.true) refl
 
 pub plate_here-requires : goal.plate_here-requires
 plate_here-requires c =
     let a = c.args in
-    let there = cell_there (words a.file.now) a.at (sym c.is_cell.ensures ∙ not-false _ c.if-not-is_cell.false) in
+    let there = cell_there (words a.file.now) a.at (sym c.is_cell.ensures ∙ c.if-not-is_cell.false) in
     omega (arith, words_length a.file.now)
 
 pub returns : goal.returns
 unfolding plate_in
 returns c =
-    rw (sym c.is_cell.ensures ∙ not-false _ c.if-not-is_cell.false) (ap Counted c.plate_here.ensures)
+    rw (sym c.is_cell.ensures ∙ c.if-not-is_cell.false) (ap Counted c.plate_here.ensures)

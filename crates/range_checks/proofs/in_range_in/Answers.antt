@@ -13,15 +13,16 @@ use Rattle.points_linkages.proofs.Numbered.{count_small, before_few}
 use Rattle.range_checks.specs.InRange.{is_range_checked}
 use Rattle.range_checks.proofs.Laws.{other_type, all_lie, not_all}
 use Rattle.range_checks.proofs.in_range_in.Goals as goal
+use Rattle.range_checks.proofs.in_range_in.Goals.{After-is_range_checked, Else-not-is_range_checked}
 
 -- the test is of the element's type
-test : (c : goal.After-is_range_checked) → c.is_range_checked.result ≡ is_range_checked (type_at (words c.args.file.now) c.args.at)
+test : (c : After-is_range_checked) → c.is_range_checked.result ≡ is_range_checked (type_at (words c.args.file.now) c.args.at)
 test c = c.is_range_checked.ensures ∙ ap is_range_checked c.type_at.ensures
 
-asked : (c : goal.Else-not-is_range_checked) → is_range_checked (type_at (words c.args.file.now) c.args.at) ≡ true
+asked : (c : Else-not-is_range_checked) → is_range_checked (type_at (words c.args.file.now) c.args.at) ≡ true
 asked c = accepted (test c.TODO-After-is_range_checked) c.if-not-is_range_checked.false
 
-inside : (c : goal.Else-not-is_range_checked) → c.args.at < length c.args.file.now / 2
+inside : (c : Else-not-is_range_checked) → c.args.at < length c.args.file.now / 2
 inside c = type_inside is_range_checked refl c.args.file.now c.args.at (asked c)
 
 pub returns-then-not-is_range_checked : goal.returns-then-not-is_range_checked

@@ -5,6 +5,7 @@ use native.Mathlib.Omega.{arith}
 use Rattle.words.specs.Words.{words, long_at, signed}
 use Rattle.ranges.proofs.Ranges.{turned, lowered_fits, lowered_is}
 use Rattle.range_checks.proofs.known_signed.Goals as goal
+use Rattle.range_checks.proofs.known_signed.Goals.{After-known_word-2}
 
 -- the long turned over
 -- left:

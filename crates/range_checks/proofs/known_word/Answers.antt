@@ -8,13 +8,14 @@ use mir.Syntax.{w8}
 use mir.Val.{Fits}
 use Rattle.words.proofs.Laws.{lent_below, word_in}
 use Rattle.range_checks.proofs.known_word.Goals as goal
+use Rattle.range_checks.proofs.known_word.Goals.{Then-known}
 
 -- the two bytes of word i
 both : (s : List ℕ) (i : ℕ) → ((k : ℕ) → Fits w8 (get_or s k 0)) → (get_or s (2 * i) 0 < 256) × (get_or s (2 * i + 1) 0 < 256)
 both s i b = let l = lent_below s b in (l (2 * i), l (2 * i + 1))
 
 -- where it is known to be there
-there : (c : goal.Then-known) → c.args.i < length c.args.s.now / 2
+there : (c : Then-known) → c.args.i < length c.args.s.now / 2
 there c = c.requires c.if-known.true
 
 pub overflow_mul-k : goal.overflow_mul-k

@@ -6,23 +6,21 @@ use Rattle.words.specs.Words.{words, long_at, signed}
 use Rattle.range_checks.specs.InRange.{between}
 use Rattle.range_checks.proofs.Laws.{held, not_x, not_y, flat_lies, solid_lies, words_least, words_solid}
 use Rattle.range_checks.proofs.lies_at.Goals as goal
+use Rattle.range_checks.proofs.lies_at.Goals.{After-between, After-between-in-Longs, After-between-in-Longs-2}
 
-test_x : (c : goal.After-between) → let v = c.range-1.given.0 in c.between.result ≡ between v.0 v.1.1.1.0 (signed (long_at (words c.args.file.now) c.args.first))
+test_x : (c : After-between) → c.between.result ≡ between c.in-Longs.low_x c.in-Longs.high_x (signed (long_at (words c.args.file.now) c.args.first))
 test_x c =
-    let v = c.range-1.given.0 in
-    held v.0 v.1.1.1.0 c.known_signed.result c.known_told-1.given.0.1 c.known_told-1.given.1.1.1.0.1 c.known_signed.type_inv _
+    held c.in-Longs.low_x c.in-Longs.high_x c.known_signed.result c.known_told-1.given.0.1 c.known_told-1.given.1.1.1.0.1 c.known_signed.type_inv _
     c.known_signed.ensures c.between.ensures
 
-test_y : (c : goal.After-between-in-Longs) → let v = c.range-1.given.0 in c.between-in-Longs.result ≡ between v.1.0 v.1.1.1.1.0 (signed (long_at (words c.args.file.now) (c.args.first + 2)))
+test_y : (c : After-between-in-Longs) → c.between-in-Longs.result ≡ between c.in-Longs.low_y c.in-Longs.high_y (signed (long_at (words c.args.file.now) (c.args.first + 2)))
 test_y c =
-    let v = c.range-1.given.0 in
-    held v.1.0 v.1.1.1.1.0 c.known_signed-in-Longs.result c.known_told-1.given.1.0.1 c.known_told-1.given.1.1.1.1.0.1 c.known_signed-in-Longs.type_inv _
+    held c.in-Longs.low_y c.in-Longs.high_y c.known_signed-in-Longs.result c.known_told-1.given.1.0.1 c.known_told-1.given.1.1.1.1.0.1 c.known_signed-in-Longs.type_inv _
     c.known_signed-in-Longs.ensures c.between-in-Longs.ensures
 
-test_z : (c : goal.After-between-in-Longs-2) → let v = c.range-1.given.0 in c.between-in-Longs-2.result ≡ between v.1.1.0 v.1.1.1.1.1.0 (signed (long_at (words c.args.file.now) (c.args.first + 4)))
+test_z : (c : After-between-in-Longs-2) → c.between-in-Longs-2.result ≡ between c.in-Longs.low_z c.in-Longs.high_z (signed (long_at (words c.args.file.now) (c.args.first + 4)))
 test_z c =
-    let v = c.range-1.given.0 in
-    held v.1.1.0 v.1.1.1.1.1.0 c.known_signed-in-Longs-2.result c.known_told-1.given.1.1.0.1 c.known_told-1.given.1.1.1.1.1.0.1 c.known_signed-in-Longs-2.type_inv _
+    held c.in-Longs.low_z c.in-Longs.high_z c.known_signed-in-Longs-2.result c.known_told-1.given.1.1.0.1 c.known_told-1.given.1.1.1.1.1.0.1 c.known_signed-in-Longs-2.type_inv _
     c.known_signed-in-Longs-2.ensures c.between-in-Longs-2.ensures
 
 pub known_signed-requires : goal.known_signed-requires

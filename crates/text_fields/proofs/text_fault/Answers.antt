@@ -10,6 +10,7 @@ use Rattle.text_fields.specs.Faults.{text_fault}
 use Rattle.text_fields.proofs.Bounds.{called}
 use Rattle.text_fields.proofs.Element.{part_bounds, text_linkages}
 use Rattle.text_fields.proofs.text_fault.Goals as goal
+use Rattle.text_fields.proofs.text_fault.Goals.{Start}
 
 -- the checks of the call
 -- left:

@@ -5,9 +5,10 @@ use native.Mathlib.Omega.{arith}
 use Rattle.text_views.specs.TextViews.{character_bytes}
 use Rattle.text_views.proofs.Inside.{Held, characters_held}
 use Rattle.text_views.proofs.characters_at.Goals as goal
+use Rattle.text_views.proofs.characters_at.Goals.{In-At}
 
 -- the characters lie in the file
-held : (c : goal.In-At) → Held c.args.dim c.args.file.now c.args.place c.in-At.start c.in-At.length
+held : (c : In-At) → Held c.args.dim c.args.file.now c.args.place c.in-At.start c.in-At.length
 held c = characters_held _ _ _ _ _ (sym c.characters_answer.ensures ∙ c.in-At.is)
 
 pub overflow_add-end : goal.overflow_add-end
@@ -19,8 +20,7 @@ slice_bounds-result-end c = omega (arith, held (goal.at.slice_bounds-result-end 
 pub returns-in-At : goal.returns-in-At
 unfolding character_bytes
 returns-in-At c =
-    let v = c.start-1.given.0 in
-    let many : v.0 + v.1.0 - v.0 ≡ v.1.0 = omega arith in
+    let many : c.in-At.start + c.in-At.length - c.in-At.start ≡ c.in-At.length = omega arith in
     rw (sym c.characters_answer.ensures ∙ c.in-At.is, many)
 
 pub returns-in-Refused : goal.returns-in-Refused

@@ -9,9 +9,10 @@ use Rattle.texts.proofs.Laws.{counts_early}
 use Rattle.text_views.specs.TextViews.{characters_at}
 use Rattle.text_views.proofs.Bytes.{text_inside, characters_there}
 use Rattle.text_views.proofs.characters_in.Goals as goal
+use Rattle.text_views.proofs.characters_in.Goals.{After-counts_word}
 
 -- the word of the counts is near the text's start, which lies in the file
-near : (c : goal.After-counts_word) → (c.counts_word.result ≤ 37) × (c.args.at < length c.args.file.now / 2)
+near : (c : After-counts_word) → (c.counts_word.result ≤ 37) × (c.args.at < length c.args.file.now / 2)
 near c =
     let early = counts_early c.args.dim in
     let is = c.counts_word.ensures in

@@ -11,22 +11,23 @@ use Rattle.texts.proofs.Laws.{counts_early}
 use Rattle.text_views.specs.TextViews.{field_in}
 use Rattle.text_views.proofs.Bytes.{text_inside, byte_below, field_none, field_there}
 use Rattle.text_views.proofs.field_in.Goals as goal
+use Rattle.text_views.proofs.field_in.Goals.{After-counts_word, After-word-counts, Else-counts-k}
 
 -- the word of the counts is near the text's start, which lies in the file
-near : (c : goal.After-counts_word) → (c.counts_word.result ≤ 37) × (c.args.at < length c.args.file.now / 2)
+near : (c : After-counts_word) → (c.counts_word.result ≤ 37) × (c.args.at < length c.args.file.now / 2)
 near c =
     let early = counts_early c.args.dim in
     let is = c.counts_word.ensures in
     (omega arith, text_inside c.args.file.now c.args.at _ c.type_at.ensures c.if-type_at-ne17.false)
 
 -- it is a text, and these are its counts
-text : (c : goal.After-word-counts) → let ws = words c.args.file.now in (type_at ws c.args.at ≡ 17) × (c.word-counts.result ≡ counts_at c.args.dim ws c.args.at) × (c.word-counts.result < 65536)
+text : (c : After-word-counts) → let ws = words c.args.file.now in (type_at ws c.args.at ≡ 17) × (c.word-counts.result ≡ counts_at c.args.dim ws c.args.at) × (c.word-counts.result < 65536)
 text c =
     let ws = words c.args.file.now in
     (sym c.type_at.ensures ∙ c.if-type_at-ne17.false, c.word-counts.ensures.is ∙ ap (λ i. word_at ws (c.args.at + i)) c.counts_word.ensures, c.word-counts.ensures.small)
 
 -- so no sum wraps
-small : (c : goal.Else-counts-k) → (c.counts_word.result ≤ 37) × (c.args.at < length c.args.file.now / 2) × (c.word-counts.result < 65536) × (c.args.k < c.word-counts.result / 256)
+small : (c : Else-counts-k) → (c.counts_word.result ≤ 37) × (c.args.at < length c.args.file.now / 2) × (c.word-counts.result < 65536) × (c.args.k < c.word-counts.result / 256)
 small c = ((near c.TODO-After-counts_word).0, (near c.TODO-After-counts_word).1, (text c.TODO-After-word-counts).2, c.if-counts-k.false)
 
 pub returns-then-type_at-ne17 : goal.returns-then-type_at-ne17

@@ -5,8 +5,9 @@ use Rattle.words.specs.Words.{words}
 use Rattle.texts.proofs.Laws.{counts_early}
 use Rattle.text_views.proofs.Bytes.{byte_below, odd_none, odd_there}
 use Rattle.text_views.proofs.odd_at.Goals as goal
+use Rattle.text_views.proofs.odd_at.Goals.{After-counts_word}
 
-near : (c : goal.After-counts_word) → c.counts_word.result ≤ 37
+near : (c : After-counts_word) → c.counts_word.result ≤ 37
 near c = let early = counts_early c.args.dim in let is = c.counts_word.ensures in omega arith
 
 pub returns-then-n-eq0 : goal.returns-then-n-eq0

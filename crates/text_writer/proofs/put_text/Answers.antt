@@ -13,11 +13,12 @@ use Rattle.text_fields.proofs.Bounds.{numbers_ok_lem}
 use Rattle.text_fields.proofs.Writable.{writable}
 use Rattle.text_writer.proofs.Laid.{parts, text_laid}
 use Rattle.text_writer.proofs.put_text.Goals as goal
+use Rattle.text_writer.proofs.put_text.Goals.{After-text_part-part, After-third-n}
 
-counts_is : (c : goal.After-third-n) → length c.args.characters.now + 256 * c.third-n.result ≡ counts_of c.args.characters.now c.args.triples.now
+counts_is : (c : After-third-n) → length c.args.characters.now + 256 * c.third-n.result ≡ counts_of c.args.characters.now c.args.triples.now
 counts_is c = ap (λ n. length c.args.characters.now + 256 * n) c.third-n.ensures
 
-part_is : (c : goal.After-text_part-part) → c.text_part-part.result ≡ text_part c.args.dim (counts_of c.args.characters.now c.args.triples.now)
+part_is : (c : After-text_part-part) → c.text_part-part.result ≡ text_part c.args.dim (counts_of c.args.characters.now c.args.triples.now)
 part_is c = c.text_part-part.ensures ∙ ap (text_part c.args.dim) (counts_is c.TODO-After-third-n)
 
 pub overflow_mul-counts : goal.overflow_mul-counts

@@ -3,11 +3,12 @@ use Prim.Native.Nat.{◌-◌}
 use mathlib.Core.Bool.{Bool, true, false, ◌&&◌}
 use mathlib.Core.Path.{◌≡◌, refl, sym, ap, ◌∙◌}
 use native.Mathlib.Omega.{arith}
-use borrow.Author.Tests.{not-true, not-false, leb-true}
+use borrow.Author.Tests.{leb-true}
 use Rattle.words.specs.Words.{words}
 use Rattle.texts.specs.Texts.{each_field_ok}
 use Rattle.texts.proofs.Laws.{first_field}
 use Rattle.texts.proofs.each_field_ok.Goals as goal
+use Rattle.texts.proofs.each_field_ok.Goals.{After-field_ok}
 
 -- all fields of the call, and those behind the field here
 -- left:
@@ -19,7 +20,7 @@ use Rattle.texts.proofs.each_field_ok.Goals as goal
 -- others c = each_field_ok ((at_loop c).loop.left - 1) (start c).args.c (words (start c).args.s.now) 0 ((at_loop c).loop.here + 3)
 
 -- all fields are right where the field here and those behind it are
-judged : (c : goal.After-field_ok) (b : Bool) → c.field_ok.result ≡ b → all c ≡ (b && others c)
+judged : (c : After-field_ok) (b : Bool) → c.field_ok.result ≡ b → all c ≡ (b && others c)
 judged c b e =
     c.loop-left.invariant.1.0
     ∙ first_field _ c.args.c (words c.args.s.now) 0 _ c.loop-left-test.true
@@ -51,7 +52,7 @@ pub known_byte-justification-requires : goal.known_byte-justification-requires
 known_byte-justification-requires c = λ e. let all = c.loop-left.invariant.1.1 e in omega arith
 
 pub returns-then-not-field_ok : goal.returns-then-not-field_ok
-returns-then-not-field_ok c = sym (judged (goal.at.returns-then-not-field_ok c).After-field_ok false (not-true _ c.if-not-field_ok.true))
+returns-then-not-field_ok c = sym (judged (goal.at.returns-then-not-field_ok c).After-field_ok false (c.if-not-field_ok.true))
 
 pub overflow_add-here-in-loop-left-2 : goal.overflow_add-here-in-loop-left-2
 overflow_add-here-in-loop-left-2 c = omega arith
@@ -63,7 +64,7 @@ pub loop-left-smaller : goal.loop-left-smaller
 loop-left-smaller c = omega arith
 
 pub loop-left-preserved : goal.loop-left-preserved
-loop-left-preserved c = (omega arith, (judged (goal.at.loop-left-preserved c).After-field_ok true (not-false _ c.if-not-field_ok.false), c.loop-left.invariant.1.1))
+loop-left-preserved c = (omega arith, (judged (goal.at.loop-left-preserved c).After-field_ok true (c.if-not-field_ok.false), c.loop-left.invariant.1.1))
 
 pub returns : goal.returns
 unfolding each_field_ok

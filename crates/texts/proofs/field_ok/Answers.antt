@@ -8,6 +8,7 @@ use Rattle.texts.specs.Texts.{field_ok}
 use Rattle.texts.proofs.Laws.{below_two}
 use Prim.Native.Nat.{◌+◌}
 use Rattle.texts.proofs.field_ok.Goals as goal
+use Rattle.texts.proofs.field_ok.Goals.{Else-c-first-2}
 
 pub returns-then-first-lt1 : goal.returns-then-first-lt1
 returns-then-first-lt1 c = simp (lt-leb 1 c.args.first c.if-first-lt1.true)
@@ -21,7 +22,7 @@ returns-then-c-first-2 c =
     simp (le-leb 1 a.first c.if-first-lt1.false, le-leb _ _ c.if-c-first.false, lt-leb (a.first + a.size) (a.c + 1) (omega arith))
 
 -- the field begins at a character and ends by the last
-inside : (c : goal.Else-c-first-2) (b : Bool) → b ≡ (eqb c.args.justification 255 || (eqb c.args.justification 0 || eqb c.args.justification 1)) → b ≡ field_ok c.args.c c.args.first c.args.size c.args.justification
+inside : (c : Else-c-first-2) (b : Bool) → b ≡ (eqb c.args.justification 255 || (eqb c.args.justification 0 || eqb c.args.justification 1)) → b ≡ field_ok c.args.c c.args.first c.args.size c.args.justification
 inside c b e =
     let a = c.args in
     let f = c.if-c-first-2.false in

@@ -12,6 +12,7 @@ use Rattle.opening.proofs.Steps.{answered}
 use Rattle.undoing.proofs.Ways.{undo_nothing}
 use Rattle.undoing.proofs.Reversals.{read_bad, read_flags, read_flag, read_name, read_renamed, read_inserted, read_within, read_even, read_removed}
 use Rattle.undoing.proofs.undo_opened.Goals as goal
+use Rattle.undoing.proofs.undo_opened.Goals.{In-Removed-2}
 
 pub returns-then-jused-eq0 : goal.returns-then-jused-eq0
 returns-then-jused-eq0 c = let o = c.requires.0 in answered c.refused.ensures (undo_nothing _ _ _ o.ready c.if-jused-eq0.true)
@@ -65,7 +66,7 @@ undo_inserted-requires c =
     c.args.jused _ _ _ (ap place_in c.in-Inserted.is) c.requires.0
 
 -- the words that were removed stand in the journal
-within : (c : goal.In-Removed-2) → c.in-Removed.before + 2 * c.in-Removed.count ≤ length c.args.journal.now
+within : (c : In-Removed-2) → c.in-Removed.before + 2 * c.in-Removed.count ≤ length c.args.journal.now
 within c =
     read_within _ _ _ _ _ c.requires.0.ready c.if-jused-eq0.false false _ c.requires.1.1 _ _ _ _ c.in-Removed.is
 

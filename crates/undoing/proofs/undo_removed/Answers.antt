@@ -8,12 +8,13 @@ use Rattle.undoing.specs.Undoing.{back_number}
 use Rattle.undoing.proofs.Ways.{answered_back}
 use Rattle.undoing.proofs.Reversals.{out_refused, out_room, out_done}
 use Rattle.undoing.proofs.undo_removed.Goals as goal
+use Rattle.undoing.proofs.undo_removed.Goals.{After-header_at-above}
 
 pub slice_bounds-reversible-end-2 : goal.slice_bounds-reversible-end-2
 slice_bounds-reversible-end-2 c = sym (length-take-le _ _ (c.requires.0.within))
 
 -- the file's bytes
-below : (c : goal.After-header_at-above) → Below 256 c.args.file.now
+below : (c : After-header_at-above) → Below 256 c.args.file.now
 below c = lent_below c.args.file.now c.slice_known-1.given
 
 pub returns-then-number-ne0 : goal.returns-then-number-ne0

@@ -6,8 +6,9 @@ use mir.Syntax.{w64}
 use mir.ValLaws.{to_z-of_z}
 use Rattle.view_numbers.proofs.Laws.{kind_put, signed_fits}
 use Rattle.view_numbers.proofs.put_kind.Goals as goal
+use Rattle.view_numbers.proofs.put_kind.Goals.{After-put_signed-5}
 
-same : (c : goal.After-put_signed-5) → length c.put_signed-5.new.out ≡ length c.args.out.now
+same : (c : After-put_signed-5) → length c.put_signed-5.new.out ≡ length c.args.out.now
 same c =
     omega (
       arith,

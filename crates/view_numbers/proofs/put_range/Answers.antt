@@ -36,15 +36,13 @@ shape_of-out-in-Longs c = simp length-set refl
 
 pub returns-in-Longs : goal.returns-in-Longs
 returns-in-Longs c =
-    let v = c.range-1.given.0 in
-    let fits = c.known_told-1.given in
     rw (
-      to_z-of_z w64 v.0 (record { sfits = fits.0.1 }),
-      to_z-of_z w64 v.1.0 (record { sfits = fits.1.0.1 }),
-      to_z-of_z w64 v.1.1.0 (record { sfits = fits.1.1.0.1 }),
-      to_z-of_z w64 v.1.1.1.0 (record { sfits = fits.1.1.1.0.1 }),
-      to_z-of_z w64 v.1.1.1.1.0 (record { sfits = fits.1.1.1.1.0.1 }),
-      to_z-of_z w64 v.1.1.1.1.1.0 (record { sfits = fits.1.1.1.1.1.0.1 }),
+      to_z-of_z w64 c.in-Longs.low_x (record { sfits = c.known_told-1.given.0.1 }),
+      to_z-of_z w64 c.in-Longs.low_y (record { sfits = c.known_told-1.given.1.0.1 }),
+      to_z-of_z w64 c.in-Longs.low_z (record { sfits = c.known_told-1.given.1.1.0.1 }),
+      to_z-of_z w64 c.in-Longs.high_x (record { sfits = c.known_told-1.given.1.1.1.0.1 }),
+      to_z-of_z w64 c.in-Longs.high_y (record { sfits = c.known_told-1.given.1.1.1.1.0.1 }),
+      to_z-of_z w64 c.in-Longs.high_z (record { sfits = c.known_told-1.given.1.1.1.1.1.0.1 }),
     )
-    (range_put c.args.out.now c.args.at v.0 v.1.0 v.1.1.0 v.1.1.1.0 v.1.1.1.1.0 v.1.1.1.1.1.0
+    (range_put c.args.out.now c.args.at c.in-Longs.low_x c.in-Longs.low_y c.in-Longs.low_z c.in-Longs.high_x c.in-Longs.high_y c.in-Longs.high_z
     ∙ ap (λ r. sets c.args.out.now c.args.at (range_numbers r)) (sym c.in-Longs.is))

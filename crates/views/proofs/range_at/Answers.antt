@@ -9,12 +9,13 @@ use Rattle.headers.specs.Header.{size_at}
 use Rattle.views.specs.Views.{range_of}
 use Rattle.views.proofs.Known.{size_inside, six_rest, six_front, range_six}
 use Rattle.views.proofs.range_at.Goals as goal
+use Rattle.views.proofs.range_at.Goals.{Else-size_at-lt14}
 
 -- the element has the words, and its size stands in the file
-has : (c : goal.Else-size_at-lt14) → 14 ≤ size_at (words c.args.file.now) c.args.at
+has : (c : Else-size_at-lt14) → 14 ≤ size_at (words c.args.file.now) c.args.at
 has c = rw c.size_at.ensures at c.if-size_at-lt14.false
 
-inside : (c : goal.Else-size_at-lt14) → c.args.at + 1 < length c.args.file.now / 2
+inside : (c : Else-size_at-lt14) → c.args.at + 1 < length c.args.file.now / 2
 inside c = let h = has c in size_inside c.args.file.now c.args.at (omega arith)
 
 pub returns-then-size_at-lt14 : goal.returns-then-size_at-lt14

@@ -7,8 +7,9 @@ use Rattle.fields.proofs.Bounds.{counted}
 use Rattle.writer.specs.Writing.{laid}
 use Rattle.writer.proofs.Stores.{laid_none, laid_word}
 use Rattle.writer.proofs.put_count.Goals as goal
+use Rattle.writer.proofs.put_count.Goals.{After-point_count-n}
 
-number : (c : goal.After-point_count-n) → c.point_count-n.result ≡ c.args.points / c.args.dim
+number : (c : After-point_count-n) → c.point_count-n.result ≡ c.args.points / c.args.dim
 number c = counted c.args.dim c.args.points c.requires.1 c.point_count-n.ensures
 
 pub overflow_cast-n : goal.overflow_cast-n

@@ -7,9 +7,10 @@ use Rattle.headers.proofs.Laws.{size_small}
 use Rattle.places.proofs.Places.{Inside, spotted_inside}
 use Rattle.points_linkages.proofs.Numbered.{linkage_there, linkage_none}
 use Rattle.points_linkages.proofs.attributes.linkage_at.Goals as goal
+use Rattle.points_linkages.proofs.attributes.linkage_at.Goals.{In-At}
 
 -- the element lies in the file
-inside : (c : goal.In-At) → Inside c.args.dim c.args.file.now c.args.place c.in-At.end
+inside : (c : In-At) → Inside c.args.dim c.args.file.now c.args.place c.in-At.end
 inside c = spotted_inside _ _ _ _ _ _ (sym c.spotted_at.ensures ∙ c.in-At.is)
 
 pub has_attributes-requires : goal.has_attributes-requires

@@ -7,13 +7,14 @@ use Rattle.points_linkages.specs.Points.{point_of}
 use Rattle.places.proofs.Places.{Inside, spotted_inside}
 use Rattle.points_linkages.proofs.Numbered.{point_small, point_there, point_none}
 use Rattle.points_linkages.proofs.points.point_at.Goals as goal
+use Rattle.points_linkages.proofs.points.point_at.Goals.{After-before_points, In-At}
 
 -- the element lies in the file
-inside : (c : goal.In-At) → Inside c.args.dim c.args.file.now c.args.place c.in-At.end
+inside : (c : In-At) → Inside c.args.dim c.args.file.now c.args.place c.in-At.end
 inside c = spotted_inside _ _ _ _ _ _ (sym c.spotted_at.ensures ∙ c.in-At.is)
 
 -- and the place of the point is not far from its own
-small : (c : goal.After-before_points) → (c.before_points.result ≤ 19) × (2 * c.args.dim ≤ 6) × (2 * c.args.dim * c.args.k ≤ 393216)
+small : (c : After-before_points) → (c.before_points.result ≤ 19) × (2 * c.args.dim ≤ 6) × (2 * c.args.dim * c.args.k ≤ 393216)
 small c =
     let s = c.args.file.now in
     point_small s (lent_below s c.type_inv.file) _ _ _ _ _ (inside c.TODO-In-At).call
