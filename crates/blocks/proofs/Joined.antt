@@ -8,7 +8,7 @@ use Rattle.blocks.specs.declared.Moved.TheVariants.{Refused}
 use Rattle.blocks.specs.Promises.{CutBetween, FullBlocks, Swapped, PartFullMoved}
 use Rattle.blocks.proofs.Block.{length_block, block_used}
 use Rattle.blocks.proofs.Journal.{length_stored, take_short, flat_ok, flat_parts, stored_accepted, journal_back}
-use Rattle.blocks.proofs.Damage.{drop_take, stored_ok, behind_part_full}
+use Rattle.blocks.proofs.Damage.{drop_take, stored_ok_lem, behind_part_full}
 
 ---- the first blocks
 
@@ -148,7 +148,7 @@ part_full_moved a b c room x y some z w ok =
     let u : used (drop (length (stored a ++ block c) - 512) (stored a ++ block c)) < 508 =
     subst (λ (t : List ℕ). used t < 508) (sym last) (subst (λ (i : ℕ). i < 508) (sym (block_used c (omega (arith, w)))) w) in
     let lt = length-append (stored a ++ block c) (stored b) in
-    let room_left = stored_ok (length ((stored a ++ block c) ++ stored b)) (omega arith) (omega arith) in
+    let room_left = stored_ok_lem (length ((stored a ++ block c) ++ stored b)) (omega arith) (omega arith) in
     let place : length (stored a ++ block c) / 512 - 1 ≡ length a / 508 = omega arith in
     let bad = behind_part_full (stored a ++ block c) (stored b) room good (omega arith) u (omega arith) room_left in
     ap (λ t. from_blocks t room) (sym (append_assoc (stored a) (block c) (stored b))) ∙ bad ∙ ap (Refused 22) place

@@ -9,7 +9,7 @@ use Rattle.blocks.specs.declared.Moved.TheVariants.{Refused}
 use Rattle.blocks.proofs.Block.{length_block, block_used, block_sound}
 use Rattle.blocks.proofs.Journal.{take_short, fewest_le, most_le, most_is, good_is, length_stored_from, length_stored, for_is, for_low, for_in}
 use Rattle.blocks.proofs.Answers.{bad_answer}
-use Rattle.blocks.proofs.Damage.{stored_ok, bad_beside}
+use Rattle.blocks.proofs.Damage.{stored_ok_lem, bad_beside}
 use Rattle.blocks.proofs.Joined.{joined, stored_one}
 
 -- n full blocks from block k on, and block 2064 behind them
@@ -47,7 +47,7 @@ last_above j room a b =
     let blocks : blocks_in (length (stored j)) ≡ 2065 = ap blocks_in l ∙ for_in 2065 in
     let bad : first_bad (stored j) ≡ 2064 =
     ap (λ i. bad_from i 0 (stored j)) blocks ∙ ap (λ i. bad_from 2065 0 (stored_from i j)) n ∙ above 2064 0 j (omega arith) (omega arith) b in
-    bad_answer (stored j) room 2064 (stored_ok (length (stored j)) (omega arith) (omega arith)) bad (omega arith)
+    bad_answer (stored j) room 2064 (stored_ok_lem (length (stored j)) (omega arith) (omega arith)) bad (omega arith)
 
 more_above : (j : List ℕ) (room : ℕ) → 508 * 2065 < length j → from_blocks (stored j) room ≡ Refused 1 0
 more_above j room a =

@@ -39,7 +39,7 @@ use Rattle.edits.proofs.Buffers.{Holds, used_holds, holds_ok, holds_stored, hold
 use Rattle.edits.proofs.Allowed.{made_exactly, step_made}
 use Rattle.edits.proofs.Demand.{file_tree}
 use Rattle.edits.proofs.Undos.{step_undo, undone_last}
-use Rattle.edits.proofs.Indexed.{index_size, index_ok, cells_same, fits_same}
+use Rattle.edits.proofs.Indexed.{index_size, index_ok_lem, cells_same, fits_same}
 use Rattle.edits.proofs.Every.{hypotheses}
 
 ---- the file of a session that opens
@@ -196,7 +196,7 @@ module _ (dim : ℕ) (s : Session) (p : ℕ) (deleted : Bool) (below : Below 256
         let q = ready_tested dim s ready in
         let v = tree_judged dim after sound.kept in
         let ok = session_ok_lem {dim = dim} {s = t} (record {
-          index = index_ok dim after (size_of s.index) allowed.index_room;
+          index = index_ok_lem dim after (size_of s.index) allowed.index_room;
           dimension = q.dimension;
           file = holds_ok holds_after s.file refl (used_parts (length s.file) s.used q.file).size_ok_lem;
           journal = holds_ok jholds_after s.journal refl (used_parts (length s.journal) s.jused q.journal).size_ok_lem;

@@ -18,7 +18,7 @@ use Rattle.grammar.proofs.Whole.{file_top}
 use Rattle.edits.specs.Calls.{afresh, ends_in_marker, session_ok, session_fault}
 use Rattle.edits.specs.Start.{start_on, AcceptedOpens}
 use Rattle.edits.proofs.Tested.{parts_used, session_ok_lem}
-use Rattle.edits.proofs.Indexed.{index_size, index_ok}
+use Rattle.edits.proofs.Indexed.{index_size, index_ok_lem}
 
 -- a file has its marker's word, and ends in it where that is its last
 file_long : {dim : ℕ} {ws : List ℕ} {xs : List Spot} {m : ℕ} → File dim ws xs m → m + 1 ≤ length ws
@@ -50,7 +50,7 @@ accepted_opens dim s file journal e d m beside q h F G fits =
     let w = length_words s in
     omega arith in
     let ok : session_ok dim (start_on file m journal (afresh dim u beside)) ≡ true = session_ok_lem (record {
-      index = index_ok dim u beside fits;
+      index = index_ok_lem dim u beside fits;
       dimension = ((and-eq-true_iff _ _).0 r.call).0;
       file = parts_used (length file) (2 * (m + 1)) (record { size_ok_lem = F.size; even = omega arith; within = room });
       journal = parts_used (length journal) 0 (record { size_ok_lem = G.size; even = refl; within = omega arith });

@@ -19,7 +19,7 @@ use Rattle.names.specs.declared.Packed.TheVariants.{Words, Refused}
 use Rattle.names.specs.declared.Answer.TheVariants.{Text, Refused as RefusedWords}
 use Rattle.names.specs.Names.{code_of, letter_of, all_letters, ends_in_space, good_text, code_at, word_from, packed, name_ok, kept, text_in, text_of, text_answer, no_text, unpacked}
 use Rattle.names.proofs.Texts.{IsCode, AreCodes, codes_at, kept_six, kept_codes, letters_codes, length_kept, are_kept, all_letters_lem, ends_kept, code_text}
-use Rattle.names.proofs.Stored.{letters_word, word_ok, word_small, word_codes, both_ok}
+use Rattle.names.proofs.Stored.{letters_word, word_ok_lem, word_small, word_codes, both_ok}
 
 -- a good text, by its parts
 record Good (t : List ℕ) : Type 0 where
@@ -39,7 +39,7 @@ module _ (t : List ℕ) (g : Good t) where
 
   words_ok : name_ok (word_from t 0) (word_from t 3) ≡ true
   unfolding name_ok word_from
-  words_ok = simp (word_ok _ _ _ (codes 0) (codes 1) (codes 2), word_ok _ _ _ (codes 3) (codes 4) (codes 5))
+  words_ok = simp (word_ok_lem _ _ _ (codes 0) (codes 1) (codes 2), word_ok_lem _ _ _ (codes 3) (codes 4) (codes 5))
 
   words_text : text_of (word_from t 0) (word_from t 3) ≡ t
   unfolding text_in word_from

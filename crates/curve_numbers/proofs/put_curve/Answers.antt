@@ -42,8 +42,8 @@ returns-in-Ellipse c =
     let a = c.args in
     both_put a.numbers.now a.at a.floats.now a.from a.curve
     (omega (arith, c.if-numbers-lt7.false, c.if-numbers-at.false)) (omega (arith, c.if-floats-lt5.false, c.if-floats-from.false)) _ _
-    (c.put_longs.ensures ∙ ap (λ (goal.at.returns-in-Ellipse c).After-slice_known-in-Ellipse-1. sets a.numbers.now a.at (curve_numbers (goal.at.returns-in-Ellipse c).After-slice_known-in-Ellipse-1)) (sym c.in-Ellipse.is))
-    (c.put_floats.ensures ∙ ap (λ (goal.at.returns-in-Ellipse c).After-slice_known-in-Ellipse-1. sets a.floats.now a.from (curve_floats (goal.at.returns-in-Ellipse c).After-slice_known-in-Ellipse-1)) (sym c.in-Ellipse.is))
+    (c.put_longs.ensures ∙ ap (λ x. sets a.numbers.now a.at (curve_numbers x)) (sym c.in-Ellipse.is))
+    (c.put_floats.ensures ∙ ap (λ x. sets a.floats.now a.from (curve_floats x)) (sym c.in-Ellipse.is))
 
 pub shape_of-numbers-in-Arc : goal.shape_of-numbers-in-Arc
 shape_of-numbers-in-Arc c = c.put_longs-in-Arc.auto.0
@@ -56,13 +56,13 @@ returns-in-Arc c =
     let a = c.args in
     both_put a.numbers.now a.at a.floats.now a.from a.curve
     (omega (arith, c.if-numbers-lt7.false, c.if-numbers-at.false)) (omega (arith, c.if-floats-lt5.false, c.if-floats-from.false)) _ _
-    (c.put_longs-in-Arc.ensures ∙ ap (λ (goal.at.returns-in-Arc c).After-slice_known-in-Arc-1. sets a.numbers.now a.at (curve_numbers (goal.at.returns-in-Arc c).After-slice_known-in-Arc-1)) (sym c.in-Arc.is))
-    (c.put_floats-in-Arc.ensures ∙ ap (λ (goal.at.returns-in-Arc c).After-slice_known-in-Arc-1. sets a.floats.now a.from (curve_floats (goal.at.returns-in-Arc c).After-slice_known-in-Arc-1)) (sym c.in-Arc.is))
+    (c.put_longs-in-Arc.ensures ∙ ap (λ x. sets a.numbers.now a.at (curve_numbers x)) (sym c.in-Arc.is))
+    (c.put_floats-in-Arc.ensures ∙ ap (λ x. sets a.floats.now a.from (curve_floats x)) (sym c.in-Arc.is))
 
 pub returns-in-Refused : goal.returns-in-Refused
 returns-in-Refused c =
     let a = c.args in
     both_put a.numbers.now a.at a.floats.now a.from a.curve
     (omega (arith, c.if-numbers-lt7.false, c.if-numbers-at.false)) (omega (arith, c.if-floats-lt5.false, c.if-floats-from.false)) _ _
-    (ap (λ (goal.at.returns-in-Refused c).In-Refused. sets a.numbers.now a.at (curve_numbers (goal.at.returns-in-Refused c).In-Refused)) (sym c.in-Refused.is))
-    (ap (λ (goal.at.returns-in-Refused c).In-Refused. sets a.floats.now a.from (curve_floats (goal.at.returns-in-Refused c).In-Refused)) (sym c.in-Refused.is))
+    (ap (λ x. sets a.numbers.now a.at (curve_numbers x)) (sym c.in-Refused.is))
+    (ap (λ x. sets a.floats.now a.from (curve_floats x)) (sym c.in-Refused.is))

@@ -8,7 +8,7 @@ use Rattle.dgn_all_views.proofs.top_before.Given as goal
 
 abbrev pub invariant-loop-i : goal.invariant-loop-i
 invariant-loop-i l =
-    (l.i ≤ l.k) × (l.at ≡ place_of (words l.file) l.i) × TopBefore (words l.file) l.i (record { l.number = l.number; l.place = l.place })
+    (l.i ≤ l.k) × (l.at ≡ place_of (words l.file) l.i) × TopBefore (words l.file) l.i (record { number = l.number; place = l.place })
 
 abbrev pub decreases-loop-i : goal.decreases-loop-i
 decreases-loop-i l = l.k - l.i

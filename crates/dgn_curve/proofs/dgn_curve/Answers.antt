@@ -17,12 +17,12 @@ returns-then-floats-lt5 c = let a = c.args in few_floats _ a.numbers.now a.float
 pub overflow_mul-result : goal.overflow_mul-result
 overflow_mul-result c =
     let a = c.args in
-    let (goal.at.overflow_mul-result c).After-curve_at-curve = curve_refused_small a.dim a.file.now a.place _ _ (sym c.curve_at-curve.ensures ∙ c.in-Refused.is) in omega arith
+    let small = curve_refused_small a.dim a.file.now a.place _ _ (sym c.curve_at-curve.ensures ∙ c.in-Refused.is) in omega arith
 
 pub overflow_add-result : goal.overflow_add-result
 overflow_add-result c =
     let a = c.args in
-    let (goal.at.overflow_add-result c).After-curve_at-curve = curve_refused_small a.dim a.file.now a.place _ _ (sym c.curve_at-curve.ensures ∙ c.in-Refused.is) in omega arith
+    let small = curve_refused_small a.dim a.file.now a.place _ _ (sym c.curve_at-curve.ensures ∙ c.in-Refused.is) in omega arith
 
 pub returns-in-Refused : goal.returns-in-Refused
 returns-in-Refused c =

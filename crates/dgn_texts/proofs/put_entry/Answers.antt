@@ -39,7 +39,6 @@ shape_of-numbers c = c.put_text.auto.0 ∙ simp length-set
 
 pub returns : goal.returns
 returns c =
-    let (goal.at.returns c).Start = ((goal.at.returns c).Start) in
     entry_put c.args.dim (words c.args.file.now) c.args.place c.args.depth _ c.args.text c.args.numbers.now _ c.args.from _ _ _
     (to_z_pos w64 _ (omega (arith, c.requires)))
     (to_z_pos w64 _ (omega (arith, c.word.ensures.small)) ∙ ap (λ w. pos (deleted_of w)) c.word.ensures.is)

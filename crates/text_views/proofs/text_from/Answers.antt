@@ -13,7 +13,6 @@ overflow_add-at-2 c = omega (arith, counts_early c.args.dim, c.counts_word.ensur
 
 pub odd_at-requires : goal.odd_at-requires
 odd_at-requires c =
-    let (goal.at.odd_at-requires c).Start = ((goal.at.odd_at-requires c).Start) in
     let ws = words c.args.file.now in
     (c.requires, c.word-counts.ensures.is ∙ ap (λ i. word_at ws (c.args.at + i)) c.counts_word.ensures)
 
