@@ -47,7 +47,7 @@ pair_ok-requires-2 c =
 
 -- the axes are right
 first : (c : After-pair_ok-2) → let a = c.args in each_float_ok (0 ∷ 4 ∷ []) (words a.s.now) (a.at + axes_word a.t) ≡ true
-first c = sym (axes c.TODO-After-pair_ok) ∙ c.if-not-pair_ok.false
+first c = sym (rw c.axes_word.ensures at c.pair_ok.ensures) ∙ c.if-not-pair_ok.false
 
 pub returns-then-not-pair_ok-2 : goal.returns-then-not-pair_ok-2
 returns-then-not-pair_ok-2 c =

@@ -23,7 +23,9 @@ q_from c =
     rw (c.eighth_of-q.ensures, c.digits_of.ensures) (eighth_from _ (digits_from w.a w.b w.c w.d))
 
 q_to : (c : After-eighth_of-q) → c.eighth_of-q.result ≤ 2 ^ 53
-q_to c = rw c.eighth_of-q.ensures (eighth_to _ (m_below c.TODO-After-digits_of))
+q_to c =
+    let w = c.args in
+    rw (c.eighth_of-q.ensures, c.digits_of.ensures) (eighth_to _ (digits_below w.a w.b w.c w.d (omega arith) (omega arith) (omega arith)))
 
 pub returns-then-exponent-eq0 : goal.returns-then-exponent-eq0
 unfolding of_bits
