@@ -1,6 +1,6 @@
 -- A text and a word pair are refused with 12 at 0 alone.
 use Prim.Native.Nat.{ℕ}
-use mathlib.Core.Path.{◌≡◌, refl}
+use mathlib.Core.Path.{◌≡◌}
 use mathlib.Core.Bool.{Bool, true, false, cond}
 use mathlib.Core.List.{List}
 use Rattle.names.specs.declared.Packed.TheVariants as text

@@ -1,5 +1,4 @@
 -- `names::all_letters` meets its contract. The loop's invariant: the answer for the text is that for what is not yet passed.
-use Prim.Native.Nat.{◌-◌}
 use mathlib.Core.Path.{refl, sym, ap, ◌∙◌}
 use native.Mathlib.Omega.{arith}
 use borrow.Author.Tests.{eq-eqb, ne_eqb}

@@ -22,32 +22,27 @@ pub returns-in-48-to-57 : goal.returns-in-48-to-57
 unfolding code_of
 returns-in-48-to-57 c =
     let b = c.args.letter in
-    let other = c.in_default-1.rest in
     simp
-    (ne_eqb b 32 other.0.0.1, ne_eqb b 36 other.0.1, ne_eqb b 46 other.1, under 65 b 90 (omega arith), inside 48 b 57 (omega arith) (omega arith))
+    (ne_eqb b 32 (omega arith), ne_eqb b 36 (omega arith), ne_eqb b 46 (omega arith), under 65 b 90 (omega arith), inside 48 b 57 (omega arith) (omega arith))
 
 pub returns-in-65-to-90 : goal.returns-in-65-to-90
 unfolding code_of
 returns-in-65-to-90 c =
     let b = c.args.letter in
-    let other = c.in_default-1.rest in
-    simp (ne_eqb b 32 other.0.0.1, inside 65 b 90 (omega arith) (omega arith))
+    simp (ne_eqb b 32 (omega arith), inside 65 b 90 (omega arith) (omega arith))
 
 pub returns-in_default : goal.returns-in_default
 returns-in_default c =
     let b = c.args.letter in
-    let other = c.in_default-1.rest in
-    sym (code_none b other.0.0.1 other.0.1 other.1 (under 65 b 90 (omega arith)) (under 48 b 57 (omega arith)))
+    sym (code_none b (omega arith) (omega arith) (omega arith) (under 65 b 90 (omega arith)) (under 48 b 57 (omega arith)))
 
 pub returns-in_default-2 : goal.returns-in_default-2
 returns-in_default-2 c =
     let b = c.args.letter in
-    let other = c.in_default-1.rest in
-    sym (code_none b other.0.0.1 other.0.1 other.1 (under 65 b 90 (omega arith)) (over 48 b 57 (omega arith)))
+    sym (code_none b (omega arith) (omega arith) (omega arith) (under 65 b 90 (omega arith)) (over 48 b 57 (omega arith)))
 
 pub returns-in_default-3 : goal.returns-in_default-3
 returns-in_default-3 c =
     let b = c.args.letter in
-    let other = c.in_default-1.rest in
     sym
-    (code_none b other.0.0.1 other.0.1 other.1 (over 65 b 90 (omega arith)) (over 48 b 57 (omega arith)))
+    (code_none b (omega arith) (omega arith) (omega arith) (over 65 b 90 (omega arith)) (over 48 b 57 (omega arith)))

@@ -22,25 +22,21 @@ pub returns-in-1-to-26 : goal.returns-in-1-to-26
 unfolding letter_of
 returns-in-1-to-26 c =
     let k = c.args.code in
-    let other = c.in_default-1.rest in
-    simp (ne_eqb k 0 other.0.0.1, inside 1 k 26 (omega arith) (omega arith))
+    simp (ne_eqb k 0 (omega arith), inside 1 k 26 (omega arith) (omega arith))
 
 pub returns-in-30-to-39 : goal.returns-in-30-to-39
 unfolding letter_of
 returns-in-30-to-39 c =
     let k = c.args.code in
-    let other = c.in_default-1.rest in
     simp
-    (ne_eqb k 0 other.0.0.1, ne_eqb k 27 other.0.1, ne_eqb k 28 other.1, over 1 k 26 (omega arith), inside 30 k 39 (omega arith) (omega arith))
+    (ne_eqb k 0 (omega arith), ne_eqb k 27 (omega arith), ne_eqb k 28 (omega arith), over 1 k 26 (omega arith), inside 30 k 39 (omega arith) (omega arith))
 
 pub returns-in_default : goal.returns-in_default
 returns-in_default c =
     let k = c.args.code in
-    let other = c.in_default-1.rest in
-    sym (letter_none k other.0.0.1 other.0.1 other.1 (over 1 k 26 (omega arith)) (under 30 k 39 (omega arith)))
+    sym (letter_none k (omega arith) (omega arith) (omega arith) (over 1 k 26 (omega arith)) (under 30 k 39 (omega arith)))
 
 pub returns-in_default-2 : goal.returns-in_default-2
 returns-in_default-2 c =
     let k = c.args.code in
-    let other = c.in_default-1.rest in
-    sym (letter_none k other.0.0.1 other.0.1 other.1 (over 1 k 26 (omega arith)) (over 30 k 39 (omega arith)))
+    sym (letter_none k (omega arith) (omega arith) (omega arith) (over 1 k 26 (omega arith)) (over 30 k 39 (omega arith)))

@@ -4,4 +4,4 @@ use Rattle.names.proofs.letters_by.Goals as goal
 
 pub returns : goal.returns
 returns c =
-    by_entry c.args.table.now c.requires.1 _ _ _ c.first_code-a.ensures c.wide-pair.ensures
+    by_entry c.args.table.now c.requires.table_value _ _ _ c.first_code-a.ensures c.wide-pair.ensures

@@ -4,10 +4,10 @@ use Rattle.names.specs.Names.{text_in, text_answer}
 use Rattle.names.proofs.name_text.Goals as goal
 
 pub letters_by-l-requires : goal.letters_by-l-requires
-letters_by-l-requires c = (c.requires.0, refl)
+letters_by-l-requires c = record { word_bound = c.requires.first_bound; table_value = refl }
 
 pub letters_by-m-requires : goal.letters_by-m-requires
-letters_by-m-requires c = (c.requires.1, refl)
+letters_by-m-requires c = record { word_bound = c.requires.second_bound; table_value = refl }
 
 pub returns : goal.returns
 returns c =

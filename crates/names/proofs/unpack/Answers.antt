@@ -6,7 +6,7 @@ use Rattle.names.proofs.unpack.Goals as goal
 
 pub name_text-requires : goal.name_text-requires
 name_text-requires c =
-    let ok = both_ok _ _ (sym c.name_ok.ensures ∙ c.if-name_ok.true) in (word_small _ ok.0, word_small _ ok.1)
+    let ok = both_ok _ _ (sym c.name_ok.ensures ∙ c.if-name_ok.true) in record { first_bound = word_small _ ok.0; second_bound = word_small _ ok.1 }
 
 pub returns-then-name_ok : goal.returns-then-name_ok
 unfolding unpacked
