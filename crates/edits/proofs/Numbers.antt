@@ -81,7 +81,7 @@ module _ (dim : ℕ) (s : Session) (c : Call) where
   ---- 1 and the file's own
 
   first : is_one_of (own_numbers c) 1 ≡ true
-  first = elim c [ mark_call p d ↦ refl | rename_call p t ↦ refl | insert_call h p x ↦ refl | remove_call p ↦ refl | undo_call ↦ refl ]
+  first = elim c as (λ k. is_one_of (own_numbers k) 1 ≡ true) [ mark_call p d ↦ refl | rename_call p t ↦ refl | insert_call h p x ↦ refl | remove_call p ↦ refl | undo_call ↦ refl ]
 
   file_so : call_ok dim (used_bytes s) ≡ true → (v : Verdict) → top_of dim (words_of s) ≡ v → (last : ℕ) → So dim s c (file_fault v last)
   unfolding judge_of
