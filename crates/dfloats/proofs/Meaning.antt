@@ -1,13 +1,12 @@
 -- The promises of `specs/Promises`: each from the law of its own file.
-use Prim.Native.Nat.{ℕ, ◌+◌, ◌*◌, ◌%◌, ◌^◌, ◌<◌}
+use Prim.Native.Nat.{ℕ, ◌+◌, ◌*◌, ◌%◌, ◌^◌}
 use mathlib.Core.Path.{◌≡◌, refl, sym, ◌∙◌}
-use mathlib.Core.Logic.{◌≢◌}
 use mathlib.Core.Bool.{Bool, true, false, cond}
 use native.Mathlib.Omega.{arith}
 use lib.IntN.{pos}
 use lib.Dec.{T, eqb}
 use lib.Count.{count_trailing_zeros}
-use lib.Ieee.{Float, fin, binary64, odd, fits, to_bits, size}
+use lib.Ieee.{fin, binary64, odd, fits, to_bits, size}
 use lib.Ieee.Fits.{round-fits}
 use Rattle.dfloats.specs.FirstWord.{negative, exponent}
 use Rattle.dfloats.specs.Fields.{fraction, digits, eighth, float}

@@ -1,7 +1,6 @@
 -- By the test of the dimension; the axes stand at word 22 at the latest.
 use Prim.Native.Nat.{ℕ, ◌+◌}
 use mathlib.Core.Path.{ap}
-use mathlib.Core.Bool.{true, false}
 use native.Mathlib.Omega.{arith}
 use borrow.Author.Tests.{ne_eqb}
 use Rattle.curves.proofs.Laws.{axes_early}
