@@ -1,5 +1,5 @@
 -- All fields are right where those from here on are; one field is judged at each turn (`first_field`).
-use Prim.Native.Nat.{◌-◌}
+use Prim.Native.Nat.{◌+◌, ◌-◌}
 use mathlib.Core.Bool.{Bool, true, false, ◌&&◌}
 use mathlib.Core.Path.{◌≡◌, refl, sym, ap, ◌∙◌}
 use native.Mathlib.Omega.{arith}
@@ -11,13 +11,11 @@ use Rattle.texts.proofs.each_field_ok.Goals as goal
 use Rattle.texts.proofs.each_field_ok.Goals.{After-field_ok}
 
 -- all fields of the call, and those behind the field here
--- left:
--- abbrev all : tie.After-field-ok invariant_loop decreases_loop → Bool
--- all c = let a = (start c).args in each_field_ok a.n a.c (words a.s.now) 0 a.j
+abbrev all : After-field_ok → Bool
+all c = let a = c.args in each_field_ok a.n a.c (words a.s.now) 0 a.j
 
--- left:
--- abbrev others : tie.After-field-ok invariant_loop decreases_loop → Bool
--- others c = each_field_ok ((at_loop c).loop.left - 1) (start c).args.c (words (start c).args.s.now) 0 ((at_loop c).loop.here + 3)
+abbrev others : After-field_ok → Bool
+others c = each_field_ok (c.loop-left.left - 1) c.args.c (words c.args.s.now) 0 (c.loop-left.here + 3)
 
 -- all fields are right where the field here and those behind it are
 judged : (c : After-field_ok) (b : Bool) → c.field_ok.result ≡ b → all c ≡ (b && others c)
