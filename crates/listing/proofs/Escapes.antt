@@ -12,7 +12,7 @@ use borrow.Author.Tests.{eq-eqb, ne_eqb}
 use Rattle.listing.specs.Texts.{hexadecimal, prints, escape, escaped}
 use Rattle.listing.specs.Lines.{last_field}
 use Rattle.listing.specs.Puts.{Puts}
-use Rattle.listing.proofs.Laws.{puts_then, no_field, some_field}
+use Rattle.listing.proofs.Laws.{PutsBy, puts_then, no_field, some_field}
 
 ---- one character
 
@@ -65,12 +65,12 @@ length_escaped (c ∷ l) =
     rw length-append (omega arith, omega arith)
 
 -- none, and some after a space
-pub no_text : (s l : List ℕ) (at : ℕ) → length l ≡ 0 → (Puts s at (last_field (escaped l)) s at) × (at ≤ at + 1 + 4 * length l)
-no_text s [] at e = (no_field s at, omega arith)
+pub no_text : (s l : List ℕ) (at : ℕ) → length l ≡ 0 → PutsBy s at (last_field (escaped l)) s at (at + 1 + 4 * length l)
+no_text s [] at e = record { puts = no_field s at; upper_bound = omega arith }
 no_text s (c ∷ l) at e = absurd (omega arith)
 
 pub some_text : {s t u : List ℕ} {at m r : ℕ} (l : List ℕ) → (length l ≡ 0 → ⊥) → Puts s at (32 ∷ []) t m → Puts t m (escaped l) u r →
-    (Puts s at (last_field (escaped l)) u r) × (r ≤ at + 1 + 4 * length l)
+    PutsBy s at (last_field (escaped l)) u r (at + 1 + 4 * length l)
 some_text l h p q =
     let n = length_escaped l in
-    (some_field (λ z. h (omega arith)) p q, omega arith)
+    record { puts = some_field (λ z. h (omega arith)) p q; upper_bound = omega arith }

@@ -43,16 +43,20 @@ empty_line room s = go (leb room (length s)) refl
     go true e = line_written room s [] s 0 (record { bytes = refl; next = omega arith }) (omega arith) (leb-true room (length s) e)
     go false e = no_line room s [] (leb-false room (length s) e)
 
+-- bytes put, by a place
+abbrev pub PutsBy : List ℕ → ℕ → List ℕ → List ℕ → ℕ → ℕ → Type 0
+PutsBy s at x t r bound = record { puts : Puts s at x t r; upper_bound : r ≤ bound }
+
 -- a number below ten is put as one byte
-pub one_digit : (s t : List ℕ) (at n r : ℕ) → n < 10 → Puts s at ((48 + n) ∷ []) t r → (Puts s at (decimal n) t r) × (r ≤ at + 20)
-one_digit s t at n r h p = (rw (decimal_one n h) p, omega arith)
+pub one_digit : (s t : List ℕ) (at n r : ℕ) → n < 10 → Puts s at ((48 + n) ∷ []) t r → PutsBy s at (decimal n) t r (at + 20)
+one_digit s t at n r h p = record { puts = rw (decimal_one n h) p; upper_bound = omega arith }
 
 -- any other as its tenth part and one byte more
 pub more_digits : (s t u : List ℕ) (at m n r : ℕ) → 10 ≤ n → n < 2 ^ 64 → Puts s at (decimal (n / 10)) t m → Puts t m ((48 + n % 10) ∷ []) u r →
-    (Puts s at (decimal n) u r) × (r ≤ at + 20)
+    PutsBy s at (decimal n) u r (at + 20)
 more_digits s t u at m n r h l p q =
     let w : Puts s at (decimal n) u r = rw (decimal_more n h l) (puts_then p q) in
-    (w, omega (arith, (length_decimal n).1))
+    record { puts = w; upper_bound = omega (arith, (length_decimal n).1) }
 
 ---- the last field of a line
 
@@ -69,12 +73,12 @@ pub some_field : {s t u x : List ℕ} {at m r : ℕ} → (length x ≡ 0 → ⊥
 some_field {x = x} h p q = rw (after_space x h) (puts_then p q)
 
 -- a name, its first six letters
-pub no_name : (s l : List ℕ) (at : ℕ) → length l ≡ 0 → (Puts s at (last_field (take 6 l)) s at) × (at ≤ at + 7)
-no_name s [] at e = (no_field s at, omega arith)
+pub no_name : (s l : List ℕ) (at : ℕ) → length l ≡ 0 → PutsBy s at (last_field (take 6 l)) s at (at + 7)
+no_name s [] at e = record { puts = no_field s at; upper_bound = omega arith }
 no_name s (b ∷ l) at e = absurd (omega arith)
 
 pub some_name : (s t u l x : List ℕ) (at m r : ℕ) → (length l ≡ 0 → ⊥) → x ≡ take 6 l → Puts s at (32 ∷ []) t m → Puts t m x u r →
-    (Puts s at (last_field (take 6 l)) u r) × (r ≤ at + 7)
+    PutsBy s at (last_field (take 6 l)) u r (at + 7)
 some_name s t u l x at m r h e p q =
     let n : length x ≡ min 6 (length l) = rw (e, length-take) in
-    (rw (← e) (some_field (λ z. h (omega arith)) p q), omega arith)
+    record { puts = rw (← e) (some_field (λ z. h (omega arith)) p q); upper_bound = omega arith }

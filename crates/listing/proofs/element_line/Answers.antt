@@ -11,11 +11,11 @@ pub returns : goal.returns
 unfolding element_line
 returns c =
     line_written _ _ _ _ _
-    (puts_then c.put_field-at.ensures.0
-    (puts_then c.put_field-at-2.ensures.0
-    (puts_then c.put_field-at-3.ensures.0
-    (puts_then c.put_field-at-4.ensures.0
-    (puts_then c.put_state-at.ensures.0
-    (puts_then c.put_name-at.ensures.0 c.put_line_feed.ensures))))))
+    (puts_then c.put_field-at.ensures.puts
+    (puts_then c.put_field-at-2.ensures.puts
+    (puts_then c.put_field-at-3.ensures.puts
+    (puts_then c.put_field-at-4.ensures.puts
+    (puts_then c.put_state-at.ensures.puts
+    (puts_then c.put_name-at.ensures.puts c.put_line_feed.ensures))))))
     (omega arith)
     c.if-buf-lt100.false

@@ -12,6 +12,6 @@ unfolding end_line
 returns c =
     line_written _ _ _ _ _
     (puts_then c.put_bytes-at.ensures
-    (puts_then c.put_number-at.ensures.0 c.put_line_feed.ensures))
+    (puts_then c.put_number-at.ensures.puts c.put_line_feed.ensures))
     (omega arith)
     c.if-buf-lt100.false

@@ -22,7 +22,7 @@ loop-k-preserved c =
       omega arith,
       search rules,
       omega arith,
-      rw (add-one, escaped_more all _ c.loop-k-test.true) (puts_then c.loop-k.invariant.3 c.put_character-next.ensures.0),
+      rw (add-one, escaped_more all _ c.loop-k-test.true) (puts_then c.loop-k.invariant.3 c.put_character-next.ensures.puts),
     )
 
 pub shape_of-buf : goal.shape_of-buf
@@ -31,4 +31,4 @@ shape_of-buf c = c.loop-k.invariant.1
 pub returns : goal.returns
 returns c =
     let all = c.args.characters.now in
-    (rw (take_all _ all c.loop-k-test.false) at c.loop-k.invariant.3, omega arith)
+    record { puts = rw (take_all _ all c.loop-k-test.false) at c.loop-k.invariant.3; upper_bound = omega arith }

@@ -5,4 +5,4 @@ use Rattle.listing.proofs.put_field.Goals as goal
 
 pub returns : goal.returns
 returns c =
-    (puts_then c.put_number-next.ensures.0 c.put_byte.ensures, omega arith)
+    record { puts = puts_then c.put_number-next.ensures.puts c.put_byte.ensures; upper_bound = omega arith }

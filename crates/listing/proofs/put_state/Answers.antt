@@ -4,8 +4,8 @@ use Rattle.listing.proofs.put_state.Goals as goal
 
 pub returns-then-deleted : goal.returns-then-deleted
 returns-then-deleted c =
-    rw c.if-deleted.true (c.put_bytes.ensures, omega arith)
+    rw c.if-deleted.true (record { puts = c.put_bytes.ensures; upper_bound = omega arith })
 
 pub returns : goal.returns
 returns c =
-    rw c.if-deleted.false (c.put_bytes-2.ensures, omega arith)
+    rw c.if-deleted.false (record { puts = c.put_bytes-2.ensures; upper_bound = omega arith })

@@ -7,4 +7,4 @@ returns-then-characters-eq0 c = no_text _ c.args.characters.now _ c.if-character
 
 pub returns : goal.returns
 returns c =
-    some_text c.args.characters.now c.if-characters-eq0.false c.put_byte-next.ensures c.put_characters.ensures.0
+    some_text c.args.characters.now c.if-characters-eq0.false c.put_byte-next.ensures c.put_characters.ensures.puts

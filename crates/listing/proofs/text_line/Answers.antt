@@ -14,9 +14,9 @@ pub returns : goal.returns
 unfolding text_line
 returns c =
     line_written _ _ _ _ _
-    (puts_then c.put_field-at.ensures.0
-    (puts_then c.put_field-at-2.ensures.0
-    (puts_then c.put_state-at.ensures.0
-    (puts_then c.put_text-at.ensures.0 c.put_line_feed.ensures))))
+    (puts_then c.put_field-at.ensures.puts
+    (puts_then c.put_field-at-2.ensures.puts
+    (puts_then c.put_state-at.ensures.puts
+    (puts_then c.put_text-at.ensures.puts c.put_line_feed.ensures))))
     (omega arith)
     (omega arith)
