@@ -48,7 +48,7 @@ loop-k-preserved c =
     let more = flat_turn _ _ _ _ c.loop-k.invariant.2 (counted (goal.at.loop-k-preserved c).After-word-u) in
     let copied = gather_turn _ _ _ _ _ _ _ _ c.loop-k.invariant.3 c.loop-k.invariant.2 c.loop-k.invariant.1 c.loop-k-test.true
     c.requires.2 (counted (goal.at.loop-k-preserved c).After-word-u) c.copy_in.ensures in
-    (omega arith, c.copy_in.auto.0 ∙ c.loop-k.invariant.1, rw add-one more, rw add-one copied)
+    (omega arith, c.copy_in.auto.s ∙ c.loop-k.invariant.1, rw add-one more, rw add-one copied)
 
 pub shape_of-out : goal.shape_of-out
 shape_of-out c = c.loop-k.invariant.1

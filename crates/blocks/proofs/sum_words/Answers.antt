@@ -17,7 +17,7 @@ loop-i-preserved c =
     omega (arith, length_words c.args.b.now, c.loop-i.invariant.0, c.loop-i-test.true) in (
       c.loop-i.invariant.0,
       rw add-one (sum_turn (words c.args.b.now) c.loop-i.i _ _ _ more c.loop-i.invariant.1
-          c.word.ensures.is c.wrapping_add_u16-t.ensures),
+          c.word.ensures.is c.wrapping_add_u16-t.ensures.value),
     )
 
 pub returns : goal.returns

@@ -25,4 +25,4 @@ returns c =
     let file = lent_below args.file.now c.slice_known-1.given in
     let even = c.if-used-ne0.false in
     remove_moves _ _ _ file even (omega arith) _ _ _ (omega arith) c.move_down.ensures
-    (c.clear.ensures ∙ cleared_in _ _ _ (omega arith) (omega (arith, c.move_down.auto.0))) ∙ sym (removed_fits _ _ _ _ even (omega arith) (omega arith))
+    (c.clear.ensures ∙ cleared_in _ _ _ (omega arith) (omega (arith, c.move_down.auto.s))) ∙ sym (removed_fits _ _ _ _ even (omega arith) (omega arith))
