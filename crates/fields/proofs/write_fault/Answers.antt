@@ -7,16 +7,10 @@ use Rattle.headers.proofs.Checks.{refused, accepted, pass, stop, tail, first}
 use Rattle.fields.specs.Faults.{write_fault}
 use Rattle.fields.proofs.Bounds.{called}
 use Rattle.fields.proofs.write_fault.Goals as goal
-use Rattle.fields.proofs.write_fault.Goals.{Start}
-
--- the checks of the call
--- left:
--- abbrev of : tie.Start → List Check
--- of a = write_checks a.args.dim a.args.fields a.args.points.now a.args.tail.now a.args.room
 
 pub returns-then-not-arguments_ok : goal.returns-then-not-arguments_ok
 unfolding write_fault
-returns-then-not-arguments_ok c = first (of ((goal.at.returns-then-not-arguments_ok c).Start)) (stop (refused (c.arguments_ok.ensures) (c.if-not-arguments_ok.true)))
+returns-then-not-arguments_ok c = first _ (stop (refused (c.arguments_ok.ensures) (c.if-not-arguments_ok.true)))
 
 pub point_number_ok-requires : goal.point_number_ok-requires
 point_number_ok-requires c = (called (accepted c.arguments_ok.ensures c.if-not-arguments_ok.false)).dims
@@ -24,29 +18,34 @@ point_number_ok-requires c = (called (accepted c.arguments_ok.ensures c.if-not-a
 pub returns-then-not-point_number_ok : goal.returns-then-not-point_number_ok
 unfolding write_fault
 returns-then-not-point_number_ok c =
-    first (of (goal.at.returns-then-not-point_number_ok c).Start)
+    first _
     (pass (accepted c.arguments_ok.ensures c.if-not-arguments_ok.false)
     (stop (refused c.point_number_ok.ensures c.if-not-point_number_ok.true)))
 
 pub size_of-size-requires : goal.size_of-size-requires
-size_of-size-requires c = (accepted (c.arguments_ok.ensures) (c.if-not-arguments_ok.false), accepted (c.point_number_ok.ensures) (c.if-not-point_number_ok.false))
+size_of-size-requires c = record {
+  tail_value = accepted c.arguments_ok.ensures c.if-not-arguments_ok.false;
+  points_value = accepted c.point_number_ok.ensures c.if-not-point_number_ok.false;
+}
 
 pub returns-then-size-gt65535 : goal.returns-then-size-gt65535
 unfolding write_fault
 returns-then-size-gt65535 c =
-    first (of (goal.at.returns-then-size-gt65535 c).Start)
+    first _
     (pass (accepted c.arguments_ok.ensures c.if-not-arguments_ok.false)
     (pass (accepted c.point_number_ok.ensures c.if-not-point_number_ok.false)
     (stop (rw c.size_of-size.ensures at (lt-leb _ _ c.if-size-gt65535.true)))))
 
 pub linkages_ok-requires : goal.linkages_ok-requires
-linkages_ok-requires c =
-    (accepted c.arguments_ok.ensures c.if-not-arguments_ok.false, accepted c.point_number_ok.ensures c.if-not-point_number_ok.false)
+linkages_ok-requires c = record {
+  tail_value = accepted c.arguments_ok.ensures c.if-not-arguments_ok.false;
+  points_value = accepted c.point_number_ok.ensures c.if-not-point_number_ok.false;
+}
 
 pub returns-then-not-linkages_ok : goal.returns-then-not-linkages_ok
 unfolding write_fault
 returns-then-not-linkages_ok c =
-    first (of (goal.at.returns-then-not-linkages_ok c).Start)
+    first _
     (pass (accepted c.arguments_ok.ensures c.if-not-arguments_ok.false)
     (pass (accepted c.point_number_ok.ensures c.if-not-point_number_ok.false)
     (pass (rw c.size_of-size.ensures at (le-leb _ _ c.if-size-gt65535.false))
@@ -55,7 +54,7 @@ returns-then-not-linkages_ok c =
 pub returns-then-room-size : goal.returns-then-room-size
 unfolding write_fault
 returns-then-room-size c =
-    first (of (goal.at.returns-then-room-size c).Start)
+    first _
     (pass (accepted c.arguments_ok.ensures c.if-not-arguments_ok.false)
     (pass (accepted c.point_number_ok.ensures c.if-not-point_number_ok.false)
     (pass (rw c.size_of-size.ensures at (le-leb _ _ c.if-size-gt65535.false))
@@ -65,7 +64,7 @@ returns-then-room-size c =
 pub returns : goal.returns
 unfolding write_fault
 returns c =
-    first (of (goal.at.returns c).Start)
+    first _
     (pass (accepted c.arguments_ok.ensures c.if-not-arguments_ok.false)
     (pass (accepted c.point_number_ok.ensures c.if-not-point_number_ok.false)
     (pass (rw c.size_of-size.ensures at (le-leb _ _ c.if-size-gt65535.false))

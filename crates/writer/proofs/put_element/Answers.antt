@@ -27,12 +27,15 @@ put_header_words-requires c =
     let w = writable c.requires in
     let l = count_room w in
     let e = points_end w c.points_place-start.result c.points_place-start.ensures in
-    ((omega (arith, w.fits), (omega arith, omega (arith, w.size))), (kind_small _ w.call.kind, w.call.fields))
+    record { in_bounds = (omega (arith, w.fits), (omega arith, omega (arith, w.size))); kind_bound = (kind_small _ w.call.kind, w.call.fields) }
 
 pub put_count-requires : goal.put_count-requires
 put_count-requires c =
     let w = writable c.requires in
-    ((omega (arith, c.put_header_words.auto, (count_room w).0, w.fits), omega (arith, (count_room w).1)), w.call.dims)
+    record {
+      in_bounds = (omega (arith, c.put_header_words.auto, (count_room w).0, w.fits), omega (arith, (count_room w).1));
+      dim_value = w.call.dims;
+    }
 
 pub put_points-requires : goal.put_points-requires
 put_points-requires c =
@@ -54,4 +57,4 @@ returns c =
     let counted = c.put_count.ensures ∙ ap (λ x. laid x 18 (count_words a.fields.kind (points_in a.dim a.points.now))) header in
     let points = c.put_points.ensures ∙ ap (λ x. laid x at (longs (map unsigned a.points.now))) counted in
     let tail = c.copy_in.ensures ∙ ap (λ x. copied x (2 * (at + 2 * length a.points.now)) a.tail.now) points in
-    (size, tail ∙ element_laid w a.out.now at c.points_place-start.ensures w.fits (lent_below a.tail.now c.type_inv.tail))
+    record { size = size; bytes = tail ∙ element_laid w a.out.now at c.points_place-start.ensures w.fits (lent_below a.tail.now c.type_inv.tail) }

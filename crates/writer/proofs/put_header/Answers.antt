@@ -4,7 +4,9 @@ use Rattle.writer.proofs.Laid.{fits_is, header_set, header_kept}
 use Rattle.writer.proofs.put_header.Goals as goal
 
 pub put_header_words-requires : goal.put_header_words-requires
-put_header_words-requires c = fits_is _ _ _ (sym c.header_fits.ensures ∙ c.if-header_fits.true)
+put_header_words-requires c =
+    let f = fits_is _ _ _ (sym c.header_fits.ensures ∙ c.if-header_fits.true) in
+    record { in_bounds = f.0; kind_bound = f.1 }
 
 pub returns-then-header_fits : goal.returns-then-header_fits
 returns-then-header_fits c =

@@ -43,7 +43,7 @@ loop-k-preserved c =
     let points = c.args.points.now in (
       omega (arith, c.loop-k-test.true),
       (
-        c.put_signed_long.auto.0 ∙ c.loop-k.invariant.1.0,
+        c.put_signed_long.auto.s ∙ c.loop-k.invariant.1.0,
         c.put_signed_long.ensures
             ∙ ap (λ z. put_long out (c.args.at + 2 * k) (unsigned z)) (to_z-of_z w32 (get_or points k (pos 0)) (record { sfits = c.put_signed_long-arg-in-loop-k-1.given }))
             ∙ next_point c.args.out.now out c.args.at k points c.loop-k-test.true c.requires c.loop-k.invariant.1.1,
