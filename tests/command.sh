@@ -269,7 +269,7 @@ check "tsv: 17 columns" test "$("$program" check --tsv samples tests none | awk 
 plates() { "$program" plates --2d --tsv "$1" 2> /dev/null | cut -f 3-11 | tr '\t' ' ' | sed 's/ $//'; }
 listed=0
 for file in $(find samples tests/real -name '*.dgn' -o -name '*.cel'); do
-    "$top/target/bin/platelist" < "$file" > platelist.out
+    "$top/crates/platelist/out/platelist" < "$file" > platelist.out
     grep -q REFUSED platelist.out && continue
     check "plates of $file" cmp platelist.out <(plates "$file")
     listed=$((listed + $(wc -l < platelist.out)))
@@ -278,11 +278,12 @@ check "plates: how many" test $listed -gt 40
 
 # the first run, in a copy where nothing is built, with a stand-in for rt that fails, then with the archive; and the second
 cd "$top" || exit 1
-mkdir -p "$work/copy/crates" "$work/bin" "$work/few"
+mkdir -p "$work/copy/crates/dgn_c" "$work/bin" "$work/few"
 cp -r dgn archive include c crates.txt rust command "$work/copy" && rm -rf "$work/copy"/*/target "$work/copy"/*/Cargo.lock
-printf '#!/bin/sh\necho "rt: NOT PROVED"\nexit 1\n' > "$work/bin/rt" && chmod +x "$work/bin/rt"
+printf '#!/bin/sh\necho "rt: chose --jobs 2 for words"\necho "rt: NOT PROVED"\nexit 1\n' > "$work/bin/rt" && chmod +x "$work/bin/rt"
 check "a build that fails" ends 2 env PATH="$work/bin:$PATH" "$work/copy/dgn" --version
-check "a build that fails says what it proves and how far it is" says "proving dgn and the crates it depends on (1 of [1-9][0-9])"
+check "a build that fails says what it proves" says "proving dgn_c and the [1-9][0-9] crates it depends on"
+check "a build that fails says how far it is" says "proving words (1 of at most [1-9][0-9])"
 check "a build that fails says so" says "the command is not built"
 for name in bash dirname readlink find flock mkdir touch; do ln -s "$(command -v $name)" "$work/few"; done
 check "a build without cargo" ends 2 env PATH="$work/few" "$work/copy/dgn" --version

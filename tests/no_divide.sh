@@ -67,8 +67,8 @@ check "the archive has no instructions" test "$(instructions "$archive" | wc -l)
 check "the archive divides: $(divides "$archive")" none divides "$archive"
 check "the archive calls $(routines "$archive")" none routines "$archive"
 
-# code FILE: a source without its comments, imports of definitions and contracts
-code() { sed -E 's://.*$::; /^ *ghost use /d; s/⌜[^⌝]*⌝//g' "$1"; }
+# code FILE: a source without its comments, imports of definitions and contracts, each of which is a line
+code() { sed -E 's://.*$::; /^ *ghost use /d; /^ *(requires|ensures)\*?( [a-z_0-9]+)? \{ .* \}[;,]?$/d' "$1"; }
 
 # divisors FILE: the lines that divide, or take a remainder, by anything but a power of two
 divisors() {
@@ -80,12 +80,12 @@ divisors() {
           } }'
 }
 
-# the crates of the archive and those that they name, at any depth
+# the crate of the archive and those that it names, at any depth
 library() {
-    local crates
-    crates=$(sed -nE 's/^crates=\((.*)\)$/\1/p' archive)
-    awk -v crates="$crates" '
-        /^[a-z]/ { name = $1; sub(/:$/, "", name); $1 = ""; names[name] = $0 }
+    local crate
+    crate=$(sed -nE 's/^crate=(.*)$/\1/p' archive)
+    awk -v crates="$crate" '
+        /^[a-z]/ { sub(/ *staticlib/, ""); name = $1; sub(/:$/, "", name); $1 = ""; names[name] = $0 }
         END { n = split(crates, todo); for (i = 1; i <= n; i++) seen[todo[i]] = 1
               for (i = 1; i <= n; i++) { m = split(names[todo[i]], more)
                   for (k = 1; k <= m; k++) if (!(more[k] in seen)) { seen[more[k]] = 1; todo[++n] = more[k] } }
@@ -96,19 +96,19 @@ for text in 'n / 3' 'n % dim' 'n /= 10' 'n %= 6' 'n / (a + b)' 'x / 2 + y / 3' '
     echo "    let q = $text; // by 2" > "$work/source"
     check "$text is not found" some divisors "$work/source"
 done
-printf '%s\n' '// n / 3' 'ghost use Prim.Native.Nat.{_/_, _%_};' '    ensures { λ r. ⌜ r ≡ n / 3 ⌝ }' \
-    '    rest /= 2;' '    w / 256 % 16 + n * 43691 / 131072' > "$work/source"
+printf '%s\n' '// n / 3' 'ghost use Rattle.std.specs.Prelude.{◌/◌, ◌%◌};' '    ensures { result ≡ n / 3 }' \
+    '    requires low { n / 3 < 2 ^ 8 }' '    ensures* kept { n / 7 };' '    rest /= 2;' '    w / 256 % 16 + n * 43691 / 131072' > "$work/source"
 check "a divisor is found where there is none" none divisors "$work/source"
 
 crates=$(library)
-for name in names thirds fields text_writer dgn_texts; do
+for name in dgn_c names thirds fields text_writer dgn_texts; do
     check "$name is no crate of the library" grep -qx "$name" <<< "$crates"
 done
 check "a crate of the programs is one of the library" none grep -xE 'listing|plate_lines|celllist|textlist|platelist' <<< "$crates"
 for name in $crates; do
     for source in crates/"$name"/src/*.rt; do
         check "$(divisors "$source")" none divisors "$source"
-        check "$source has a contract on several lines" none grep -n '[⌜⌝]' <<< "$(code "$source")"
+        check "$source has a contract on several lines" none grep -nwE 'requires|ensures' <<< "$(code "$source")"
     done
 done
 

@@ -91,7 +91,7 @@ full() {
 }
 
 # plates_alike PLATES FILE: whether the example prints of a file what the program platelist prints
-plates_alike() { cmp <("$1" "$2" 2> /dev/null) <(target/bin/platelist < "$2"); }
+plates_alike() { cmp <("$1" "$2" 2> /dev/null) <(crates/platelist/out/platelist < "$2"); }
 
 # more than a program can hold: the sample library's cells a hundred times, and their plates
 { for ((k = 0; k < 100; k++)); do head -c 842 samples/seals.cel; done && printf '\377\377'; } > "$work/catalogue.cel"

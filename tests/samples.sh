@@ -70,8 +70,8 @@ check "README.md does not show what the C host prints" shows "./host samples/nes
 check "plates.c does not build" gcc -Iinclude -o "$work/plates" examples/plates.c "$archive"
 "$work/plates" tests/real/a11_cells_2d.dgn > "$work/plates.out"
 check "README.md does not show what the example of plates prints" shows "./plates tests/real/a11_cells_2d.dgn" "$work/plates.out"
-target/bin/platelist < samples/seals.cel > "$work/plates.out"
-check "README.md does not show what platelist prints" shows "target/bin/platelist < samples/seals.cel" "$work/plates.out"
+crates/platelist/out/platelist < samples/seals.cel > "$work/plates.out"
+check "README.md does not show what platelist prints" shows "crates/platelist/out/platelist < samples/seals.cel" "$work/plates.out"
 
 # no file, from another folder, by a link, a missing file, a folder, two files
 check "list" lists 0 samples/seals.out
@@ -108,7 +108,7 @@ check "a full disk, texts" full "$top/list" --text
 check "a full disk, help" full "$top/list" --help
 check "no standard output" closed "$top/list"
 for name in celllist textlist platelist; do
-    program=target/bin/$name
+    program=crates/$name/out/$name
     check "$name of a folder" cmp <("$program" < samples 2> /dev/null) /dev/null
     "$program" < samples 2> "$work/err" > /dev/null
     check "$name of a folder: what it says" cmp "$work/err" <(echo "$name: standard input cannot be read")
@@ -143,7 +143,8 @@ check "the longest texts" lists 0 <(
 ) --text "$work/texts.dgn"
 
 # the first run, in a copy where nothing is built, with a stand-in for rt: one that fails, then one that builds
-mkdir -p "$work/copy/crates" "$work/copy/samples" "$work/bin"
+mkdir -p "$work/copy/crates"/{celllist,textlist,dgn_c} "$work/copy/samples" "$work/bin"
+for name in celllist textlist; do cp crates/$name/stdin crates/$name/stdout "$work/copy/crates/$name"; done
 cp list archive crates.txt "$work/copy"
 cp samples/seals.cel samples/plate.dgn "$work/copy/samples"
 first() { PATH=$work/bin:$PATH "$work/copy/list" "$@" > "$work/out" 2> "$work/err"; }
@@ -153,12 +154,19 @@ first
 check "a build that fails: status" test $? -eq 2
 check "a build that fails: output" test ! -s "$work/out"
 check "a build that fails: what rt says" said "NOT PROVED"
+# a program that is built and writes something else than what is stored
+printf '#!/bin/sh\nmkdir -p out\nprintf "#!/bin/sh\\n" > out/celllist\nchmod +x out/celllist\necho END 0\n' > "$work/bin/rt"
+first
+check "another output than the stored one: status" test $? -eq 2
+check "another output than the stored one: output" test ! -s "$work/out"
+check "another output than the stored one: why" said "celllist does not write what crates/celllist/stdout has"
+printf '#!/bin/sh\necho "rt: words NOT PROVED (exit 1, 1 s)"\nexit 1\n' > "$work/bin/rt"
 PATH=$work/bin:$PATH "$work/copy/archive" > "$work/out" 2> "$work/err"
 check "an archive that is not proved: status" test $? -eq 2
 check "an archive that is not proved: where it is said why" said "target/archive.log"
 {
-    printf '#!/bin/sh\necho "rt: words proved (1 s)"\necho "fn words::word: proved"\nmkdir -p target/bin target/stamp\n'
-    printf 'cp "%s/$2" target/bin/$2\ntouch target/stamp/$2\n' "$top/target/bin"
+    printf '#!/bin/sh\necho "rt: chose --jobs 2 for words" >&2\necho "fn words::word: proved" >&2\n[ "$1" = run ] || exit 1\n'
+    printf 'name=$(basename "$PWD")\nmkdir -p out\ncp "%s/$name/out/$name" out/$name\nout/$name\n' "$top/crates"
 } > "$work/bin/rt"
 # first_run NAME OUT ARGUMENT..: list with these arguments builds the program NAME, once, and prints what OUT has
 first_run() {
@@ -168,8 +176,8 @@ first_run() {
     check "the first run of $name: status" test $? -eq 0
     check "the first run of $name: output" cmp "$work/out" "$out"
     check "the first run of $name: what is being proved" cmp "$work/err" <(
-        echo "list: proving $name and the crates it depends on (about two minutes the first time)"
-        echo "rt: words proved (1 s)"
+        echo "list: proving $name and the crates it depends on (some minutes the first time)"
+        echo "rt: chose --jobs 2 for words"
     )
     first "$@"
     check "the second run of $name builds again" quiet
@@ -178,11 +186,15 @@ first_run celllist samples/seals.out
 first_run textlist samples/plate.text --text
 touch "$work/copy/crates.txt"
 first
-check "newer sources are not built" said "rt: words proved"
+check "newer sources are not built" said "rt: chose --jobs 2 for words"
+# what rt leaves beside the sources is none of them
+touch "$work/copy/crates/celllist/out/other" "$work/copy/crates/celllist"
+first
+check "rt's own files count as sources" quiet
 
 # a listing that is not whole, by a stand-in for celllist: nothing, no last line, a last line that is cut
 unwhole() {
-    printf '#!/bin/sh\nprintf "%s"\n' "$1" > "$work/copy/target/bin/celllist"
+    printf '#!/bin/sh\nprintf "%s"\n' "$1" > "$work/copy/crates/celllist/out/celllist"
     first
     [ $? -eq 3 ] && [ ! -s "$work/out" ] && said "cannot be read"
 }
@@ -194,11 +206,11 @@ done
 # a celllist that cannot be run, by stand-ins: an interpreter that is not there, a signal before the end, a folder
 unrun() { first; [ $? -eq 2 ] && [ ! -s "$work/out" ] && said "cannot be run"; }
 for stand_in in '#!/none/sh\n' '#!/bin/sh\necho END 0\nkill -9 $$\n'; do
-    printf "$stand_in" > "$work/copy/target/bin/celllist"
+    printf "$stand_in" > "$work/copy/crates/celllist/out/celllist"
     check "a celllist that cannot be run: $stand_in" unrun
 done
-rm "$work/copy/target/bin/celllist"
-mkdir "$work/copy/target/bin/celllist"
+rm "$work/copy/crates/celllist/out/celllist"
+mkdir "$work/copy/crates/celllist/out/celllist"
 check "a celllist that is a folder" unrun
 
 echo "$passed passed, $failed failed"

@@ -59,7 +59,7 @@ pub fn program(path: &str, arguments: &[&str], folder: &str, input: &str) -> Pro
 
 /// One of the repository's programs by its name.
 fn own(name: &str, folder: &str, input: &str) -> Program {
-    program(&format!("{ROOT}/target/bin/{name}"), &[], folder, input)
+    program(&format!("{ROOT}/crates/{name}/out/{name}"), &[], folder, input)
 }
 
 /// The listings of 64 KiB are the same; their times, and that of a process that only reads its input.

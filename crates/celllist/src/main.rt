@@ -3,6 +3,12 @@
 
 #![tactic(auto)]
 
-fn main() {
-    printing::list_input(printing::Listed::Elements, b"celllist");
+fn main(rt: HostRuntime) {
+    printing::list_input(
+        &mut rt.stdin(),
+        &rt.stdout(),
+        &rt.stderr(),
+        printing::Listed::Elements,
+        b"celllist",
+    );
 }

@@ -3,6 +3,12 @@
 
 #![tactic(auto)]
 
-fn main() {
-    printing::list_input(printing::Listed::Plates, b"platelist");
+fn main(rt: HostRuntime) {
+    printing::list_input(
+        &mut rt.stdin(),
+        &rt.stdout(),
+        &rt.stderr(),
+        printing::Listed::Plates,
+        b"platelist",
+    );
 }

@@ -7,7 +7,7 @@
 
 ghost use Rattle.std.specs.Prelude.{◌≤◌, length};
 
-use libc::{STDERR_FILENO, STDIN_FILENO, STDOUT_FILENO};
+use std::io::Read;
 
 // What a listing has lines of.
 #[derive(Clone, Copy)]
@@ -23,10 +23,10 @@ const PART: usize = 16384;
 const LINE: usize = 1068;
 
 // The first n bytes of a part; false where not all of them are written.
-fn print(part: &[u8], n: usize) -> bool
+fn print(out: &impl Print, part: &[u8], n: usize) -> bool
     requires { n ≤ length part.now }
 {
-    io::write_all(STDOUT_FILENO, &part[..n])
+    out.write_all(&part[..n]).is_ok()
 }
 
 // Where the next line begins in a part that has n bytes: behind them, or at the front where it might not fit there.
@@ -37,11 +37,11 @@ fn next_line(n: usize) -> usize
 }
 
 // The n bytes of a part, if its next line begins at the front; false where not all of them are written.
-fn print_full(part: &[u8], n: usize, next: usize) -> bool
+fn print_full(out: &impl Print, part: &[u8], n: usize, next: usize) -> bool
     requires { n ≤ length part.now }
 {
     if next == 0 {
-        return print(part, n);
+        return print(out, part, n);
     }
     true
 }
@@ -89,21 +89,27 @@ fn put_end(listed: Listed, marker: usize, part: &mut [u8], n: usize) -> usize
 }
 
 // The line of a refused file; false where it is not written.
-fn print_refused(number: usize, place: usize) -> bool {
+fn print_refused(out: &impl Print, number: usize, place: usize) -> bool {
     let mut line = [0u8; 128];
     let n = listing::refused_line(&mut line, number, place);
-    print(&line, n)
+    print(out, &line, n)
 }
 
 // The heading, the lines of an accepted file, and the last line; false where not all of them are written.
-fn print_lines(listed: Listed, file: &[u8], elements: usize, marker: usize) -> bool {
+fn print_lines(
+    out: &impl Print,
+    listed: Listed,
+    file: &[u8],
+    elements: usize,
+    marker: usize,
+) -> bool {
     let mut part = [0u8; PART];
     let mut n = put_heading(listed, &mut part);
     let mut w = walking::start();
     let mut k = 0;
     while k < elements {
         let next = next_line(n);
-        if !print_full(&part, n, next) {
+        if !print_full(out, &part, n, next) {
             return false;
         }
         let at = w.place;
@@ -113,55 +119,78 @@ fn print_lines(listed: Listed, file: &[u8], elements: usize, marker: usize) -> b
         k += 1;
     }
     let next = next_line(n);
-    if !print_full(&part, n, next) {
+    if !print_full(out, &part, n, next) {
         return false;
     }
     let n = put_end(listed, marker, &mut part, next);
-    print(&part, n)
+    print(out, &part, n)
 }
 
 // The listing of a file, which is judged once; false where not all of it is written.
-fn print_file(listed: Listed, file: &[u8]) -> bool {
+fn print_file(out: &impl Print, listed: Listed, file: &[u8]) -> bool {
     match files::judge(file, 2) {
-        files::Judged::Refused { number, place } => print_refused(number, place),
+        files::Judged::Refused { number, place } => print_refused(out, number, place),
         files::Judged::Accepted {
             elements,
             deepest: _,
             marker,
-        } => print_lines(listed, file, elements, marker),
+        } => print_lines(out, listed, file, elements, marker),
     }
 }
 
 // Says on standard error, after the program's name, what cannot be done.
-fn say(program: &[u8], what: &[u8]) {
-    io::write_all(STDERR_FILENO, program);
-    io::write_all(STDERR_FILENO, what);
+fn say(errors: &impl Print, program: &[u8], what: &[u8]) {
+    let _ = errors.write_all(program);
+    let _ = errors.write_all(what);
 }
 
 // Says so where not all was written.
-fn report(program: &[u8], written: bool) {
+fn report(errors: &impl Print, program: &[u8], written: bool) {
     if !written {
-        say(program, b": standard output cannot be written\n");
+        say(errors, program, b": standard output cannot be written\n");
     }
 }
 
-// The listing of standard input by a program of a name. Reads at most 65,536 bytes; with one byte more the file is
-// refused. The reading stops at the input's end and where it fails: one more read tells which: at the end of a file it
-// gives 0 again.
-pub fn list_input(listed: Listed, program: &[u8]) {
-    let mut file = io::large_buffer();
-    let n = io::read_full(STDIN_FILENO, &mut file);
-    let mut one = [0u8; 1];
-    let more = libc::read(STDIN_FILENO, &mut one);
-    if more == 0 {
-        report(program, print_file(listed, &file[..n]));
-        return;
-    }
-    if n == 65536 {
-        if more > 0 {
-            report(program, print_refused(1, 0));
-            return;
+// Reads until the buffer is full, the input ends or a read fails: the number of bytes that it put at the front.
+fn read_full<R: Read>(input: &mut R, buf: &mut [u8]) -> usize
+    ensures { result ≤ length buf.new }
+{
+    let mut done = 0;
+    while done < buf.len() {
+        match input.read(&mut buf[done..]) {
+            Ok(0) => return done,
+            Ok(n) => done += n,
+            Err(_) => return done,
         }
     }
-    say(program, b": standard input cannot be read\n");
+    done
+}
+
+// The listing of an input, to an output, by a program of a name; what cannot be done is said where the errors go. Reads at most
+// 65,536 bytes; with one byte more the file is refused. The reading stops at the input's end and where it fails: one more read
+// tells which: at the end of a file it gives 0 again.
+pub fn list_input<R: Read>(
+    input: &mut R,
+    out: &impl Print,
+    errors: &impl Print,
+    listed: Listed,
+    program: &[u8],
+) {
+    let mut file = [0u8; 65536];
+    let n = read_full(input, &mut file);
+    let mut one = [0u8; 1];
+    match input.read(&mut one) {
+        Ok(0) => {
+            report(errors, program, print_file(out, listed, &file[..n]));
+            return;
+        }
+        Ok(_) => {
+            if n == 65536 {
+                report(errors, program, print_refused(out, 1, 0));
+                return;
+            }
+        }
+        Err(_) => {}
+    }
+    say(errors, program, b": standard input cannot be read\n");
 }

@@ -2,6 +2,12 @@
 
 #![tactic(auto)]
 
-fn main() {
-    printing::list_input(printing::Listed::Texts, b"textlist");
+fn main(rt: HostRuntime) {
+    printing::list_input(
+        &mut rt.stdin(),
+        &rt.stdout(),
+        &rt.stderr(),
+        printing::Listed::Texts,
+        b"textlist",
+    );
 }

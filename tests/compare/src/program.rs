@@ -7,7 +7,7 @@ use std::process::{Command, Stdio};
 
 /// What a program writes for these bytes on standard input.
 fn listed(name: &str, input: &[u8]) -> Vec<u8> {
-    let path = format!("{}/../../target/bin/{name}", env!("CARGO_MANIFEST_DIR"));
+    let path = format!("{}/../../crates/{name}/out/{name}", env!("CARGO_MANIFEST_DIR"));
     let mut child = Command::new(path).stdin(Stdio::piped()).stdout(Stdio::piped()).spawn().expect(name);
     let mut stdin = child.stdin.take().unwrap();
     let bytes = input.to_vec();
