@@ -1,17 +1,17 @@
 -- Where the two bits are wrong, bit 6 decides which check fails; else the depth.
-use mathlib.Core.List.{[]}
+use mathlib.Core.List.{List, []}
 use mathlib.Core.Path.{refl, ◌∙◌}
 use borrow.Author.Tests.{le-leb, lt-leb}
-use Rattle.headers.specs.Flags.{reserved_ok, place_ok}
+use Rattle.headers.specs.Checks.{Check}
+use Rattle.headers.specs.Flags.{reserved_ok, place_ok, flag_checks}
 use Rattle.headers.proofs.Checks.{refused, accepted, both_true, pass, stop, tail, first}
 use Rattle.headers.proofs.Laws.{flags_stop}
 use Rattle.headers.proofs.flag_fault.Goals as goal
 use Rattle.headers.proofs.flag_fault.Goals.{Start}
 
 -- the checks of the call
--- left:
--- abbrev of : tie.Start → List Check
--- of a = flag_checks a.args.depth a.args.w
+abbrev of : Start → List Check
+of c = flag_checks c.args.depth c.args.w
 
 pub flags_ok-requires : goal.flags_ok-requires
 flags_ok-requires c = tt

@@ -4,7 +4,7 @@ use mathlib.Core.Path.{◌≡◌, refl}
 use native.Mathlib.Omega.{arith}
 use borrow.Author.Tests.{ne_eqb}
 use Rattle.kinds.specs.Kinds.{fixed_part}
-use Rattle.kinds.proofs.Types.{in_arm, none_of}
+use Rattle.kinds.proofs.Types.{in_arm}
 use Rattle.kinds.proofs.fixed_part.Goals as goal
 
 pub pick-requires : goal.pick-requires
@@ -91,19 +91,20 @@ pub returns-in_default : goal.returns-in_default
 unfolding fixed_part
 returns-in_default c =
     let t = c.args.t in
-    let late = c.in_default.rest in
-    let middle = late.0.0.0 in
-    let early = middle.0.0.0 in
     simp (
-      ne_eqb t 1 early.0.0.0.0.1,
-      ne_eqb t 2 early.0.0.0.1,
-      ne_eqb t 3 early.0.0.1,
-      none_of (4 ∷ 6 ∷ 11 ∷ 21 ∷ []) t early.0.1,
-      ne_eqb t 7 early.1,
-      none_of (12 ∷ 14 ∷ []) t middle.0.0.1,
-      ne_eqb t 15 middle.0.1,
-      ne_eqb t 16 middle.1,
-      ne_eqb t 17 late.0.0.1,
-      ne_eqb t 18 late.0.1,
-      ne_eqb t 19 late.1,
+      ne_eqb t 1 (omega arith),
+      ne_eqb t 2 (omega arith),
+      ne_eqb t 3 (omega arith),
+      ne_eqb t 4 (grind arith),
+      ne_eqb t 6 (grind arith),
+      ne_eqb t 11 (grind arith),
+      ne_eqb t 21 (grind arith),
+      ne_eqb t 7 (omega arith),
+      ne_eqb t 12 (grind arith),
+      ne_eqb t 14 (grind arith),
+      ne_eqb t 15 (omega arith),
+      ne_eqb t 16 (omega arith),
+      ne_eqb t 17 (omega arith),
+      ne_eqb t 18 (omega arith),
+      ne_eqb t 19 (omega arith),
     )

@@ -1,9 +1,9 @@
 -- Each arm names types of the list, and a type in neither arm is none of the list.
 use mathlib.Core.Bool.{true}
 use mathlib.Core.List.{[], ◌∷◌}
-use mathlib.Core.Path.{◌≡◌, refl, sym}
+use mathlib.Core.Path.{◌≡◌, refl}
 use Rattle.kinds.specs.Kinds.{is_counted}
-use Rattle.kinds.proofs.Types.{in_arm, none_in}
+use Rattle.kinds.proofs.Types.{in_arm}
 use Rattle.kinds.proofs.is_counted.Goals as goal
 
 pub returns-in-7 : goal.returns-in-7
@@ -11,6 +11,3 @@ returns-in-7 c = in_arm (λ t. true ≡ is_counted t) (7 ∷ 12 ∷ 14 ∷ 18 �
 
 pub returns-in-19 : goal.returns-in-19
 returns-in-19 c = in_arm (λ t. true ≡ is_counted t) (19 ∷ []) _ (refl, tt) c.in-19.is
-
-pub returns-in_default : goal.returns-in_default
-returns-in_default c = sym (none_in (7 ∷ 12 ∷ 14 ∷ 18 ∷ []) (19 ∷ []) (7 ∷ 12 ∷ 14 ∷ 18 ∷ 19 ∷ []) _ c.in_default.rest.0.1 c.in_default.rest.1 refl)

