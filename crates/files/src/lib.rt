@@ -181,7 +181,7 @@ fn count_ok(s: &[u8], at: usize, t: usize, direct: usize) -> bool
 
 // An element whose own words are read as a header: its components, a list of their own, then its count. Most headers have
 // components; one that has none needs no list.
-#[cycle(judge_element_judge_list)]
+#[cycle(judging)]
 fn judge_element(s: &[u8], at: usize, inner: usize, end: usize, depth: usize, dim: usize) -> Verdict
     requires { (at + 20 ≤ inner) × ((inner ≤ end) × ((depth ≤ 8) × (end ≤ length s.now / 2))) }
     ensures { (under bound : ℕ) → HeadRead dim depth under s.now at bound (Complex inner end) → ElementJudged (list_in dim depth under s.now at bound) result }
@@ -230,7 +230,7 @@ fn judge_element(s: &[u8], at: usize, inner: usize, end: usize, depth: usize, di
 // The elements of a list in order, up to and with the first that ends after `until`, or, where `each` holds, that is a header. No
 // head stands at the marker or at the list's bound, so what stands there is asked only where there is none. The bound lies in
 // the slice; taking the smaller of it and the slice's end lets the compiler drop the tests of reads before it.
-#[cycle(judge_element_judge_list)]
+#[cycle(judging)]
 fn judge_list(
     s: &[u8],
     at: usize,
