@@ -10,22 +10,16 @@ use Rattle.text_fields.specs.Faults.{text_fault}
 use Rattle.text_fields.proofs.Bounds.{called}
 use Rattle.text_fields.proofs.Element.{part_bounds, text_linkages}
 use Rattle.text_fields.proofs.text_fault.Goals as goal
-use Rattle.text_fields.proofs.text_fault.Goals.{Start}
-
--- the checks of the call
--- left:
--- abbrev of : tie.Start → List Check
--- of a = text_checks a.args.dim a.args.fields a.args.text a.args.characters.now a.args.triples.now a.args.tail.now a.args.room
 
 pub returns-then-not-arguments_ok : goal.returns-then-not-arguments_ok
 unfolding text_fault
 returns-then-not-arguments_ok c =
-    first (of (goal.at.returns-then-not-arguments_ok c).Start) (stop (refused c.arguments_ok.ensures c.if-not-arguments_ok.true))
+    first _ (stop (refused c.arguments_ok.ensures c.if-not-arguments_ok.true))
 
 pub returns-then-not-triples_ok : goal.returns-then-not-triples_ok
 unfolding text_fault
 returns-then-not-triples_ok c =
-    first (of (goal.at.returns-then-not-triples_ok c).Start)
+    first _
     (pass (accepted c.arguments_ok.ensures c.if-not-arguments_ok.false)
     (stop (refused c.triples_ok.ensures c.if-not-triples_ok.true)))
 
@@ -40,7 +34,7 @@ overflow_add-size c =
 pub returns-then-size-gt65535 : goal.returns-then-size-gt65535
 unfolding text_fault text_size
 returns-then-size-gt65535 c =
-    first (of (goal.at.returns-then-size-gt65535 c).Start)
+    first _
     (pass (accepted c.arguments_ok.ensures c.if-not-arguments_ok.false)
     (pass (accepted c.triples_ok.ensures c.if-not-triples_ok.false)
     (stop (rw c.words_before_tail-part.ensures at (lt-leb _ _ c.if-size-gt65535.true)))))
@@ -52,7 +46,7 @@ overflow_sub-part c =
 pub returns-then-not-tail_ok : goal.returns-then-not-tail_ok
 unfolding text_fault text_size
 returns-then-not-tail_ok c =
-    first (of (goal.at.returns-then-not-tail_ok c).Start)
+    first _
     (pass (accepted c.arguments_ok.ensures c.if-not-arguments_ok.false)
     (pass (accepted c.triples_ok.ensures c.if-not-triples_ok.false)
     (pass (rw c.words_before_tail-part.ensures at (le-leb _ _ c.if-size-gt65535.false))
@@ -61,7 +55,7 @@ returns-then-not-tail_ok c =
 pub returns-then-room-size : goal.returns-then-room-size
 unfolding text_fault text_size
 returns-then-room-size c =
-    first (of (goal.at.returns-then-room-size c).Start)
+    first _
     (pass (accepted c.arguments_ok.ensures c.if-not-arguments_ok.false)
     (pass (accepted c.triples_ok.ensures c.if-not-triples_ok.false)
     (pass (rw c.words_before_tail-part.ensures at (le-leb _ _ c.if-size-gt65535.false))
@@ -71,7 +65,7 @@ returns-then-room-size c =
 pub returns : goal.returns
 unfolding text_fault text_size
 returns c =
-    first (of (goal.at.returns c).Start)
+    first _
     (pass (accepted c.arguments_ok.ensures c.if-not-arguments_ok.false)
     (pass (accepted c.triples_ok.ensures c.if-not-triples_ok.false)
     (pass (rw c.words_before_tail-part.ensures at (le-leb _ _ c.if-size-gt65535.false))

@@ -16,8 +16,8 @@ pub returns : goal.returns
 returns c =
     let d = c.args.out.now in
     let t = c.args.text in
-    let x = to_z-of_z {w = w32} {z = t.x} (record { sfits = c.struct_told-1.given.1.1.1.1.1.1.1.1.0.1 }) in
-    let y = to_z-of_z {w = w32} {z = t.y} (record { sfits = c.struct_told-2-1.given.1.1.1.1.1.1.1.1.1.0.1 }) in
+    let x = to_z-of_z {w = w32} {z = t.x} (record { sfits = omega arith }) in
+    let y = to_z-of_z {w = w32} {z = t.y} (record { sfits = omega arith }) in
     let two = c.put_signed_long.ensures ∙ ap (λ z. put_long c.put_long.new.s 25 (unsigned z)) x ∙ ap (λ l. put_long l 25 (unsigned t.x)) c.put_long.ensures in
     let three = c.put_signed_long-2.ensures ∙ ap (λ z. put_long c.put_signed_long.new.s 27 (unsigned z)) y ∙ ap (λ l. put_long l 27 (unsigned t.y)) two in
     three ∙ longs_laid d 23 (t.first ∷ unsigned t.x ∷ unsigned t.y ∷ []) (omega (arith, c.requires.0))

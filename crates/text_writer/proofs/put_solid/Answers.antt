@@ -32,9 +32,9 @@ pub returns : goal.returns
 returns c =
     let d = c.args.out.now in
     let t = c.args.text in
-    let x = to_z-of_z {w = w32} {z = t.x} (record { sfits = c.struct_told-1.given.1.1.1.1.1.1.1.1.0.1 }) in
-    let y = to_z-of_z {w = w32} {z = t.y} (record { sfits = c.struct_told-2-1.given.1.1.1.1.1.1.1.1.1.0.1 }) in
-    let z = to_z-of_z {w = w32} {z = t.z} (record { sfits = c.struct_told-3-1.given.1.1.1.1.1.1.1.1.1.1.0.1 }) in
+    let x = to_z-of_z {w = w32} {z = t.x} (record { sfits = omega arith }) in
+    let y = to_z-of_z {w = w32} {z = t.y} (record { sfits = omega arith }) in
+    let z = to_z-of_z {w = w32} {z = t.z} (record { sfits = omega arith }) in
     let two = c.put_long-2.ensures ∙ ap (λ l. put_long l 25 t.second) c.put_long.ensures in
     let three = c.put_long-3.ensures ∙ ap (λ l. put_long l 27 t.third) two in
     let four = c.put_long-4.ensures ∙ ap (λ l. put_long l 29 t.fourth) three in

@@ -1,6 +1,7 @@
 -- Header, numbers, counts, bytes and tail are laid one behind the other (`text_laid`).
-use Prim.Native.Nat.{◌+◌, ◌*◌, ◌/◌}
+use Prim.Native.Nat.{ℕ, ◌+◌, ◌*◌, ◌/◌}
 use mathlib.Core.Path.{◌≡◌, refl, ap, ap₂, ◌∙◌}
+use mathlib.Core.List.{List}
 use native.Mathlib.Omega.{arith}
 use lib.ListN.{length}
 use Rattle.words.specs.Words.{over, put_word}
@@ -13,13 +14,12 @@ use Rattle.text_fields.proofs.Bounds.{numbers_ok_lem}
 use Rattle.text_fields.proofs.Writable.{writable}
 use Rattle.text_writer.proofs.Laid.{parts, text_laid}
 use Rattle.text_writer.proofs.put_text.Goals as goal
-use Rattle.text_writer.proofs.put_text.Goals.{After-text_part-part, After-third-n}
 
-counts_is : (c : After-third-n) → length c.args.characters.now + 256 * c.third-n.result ≡ counts_of c.args.characters.now c.args.triples.now
-counts_is c = ap (λ n. length c.args.characters.now + 256 * n) c.third-n.ensures
+counts_is : (cs ts : List ℕ) {n : ℕ} → n ≡ length ts / 3 → length cs + 256 * n ≡ counts_of cs ts
+counts_is cs ts e = ap (λ n. length cs + 256 * n) e
 
-part_is : (c : After-text_part-part) → c.text_part-part.result ≡ text_part c.args.dim (counts_of c.args.characters.now c.args.triples.now)
-part_is c = c.text_part-part.ensures ∙ ap (text_part c.args.dim) (counts_is c.TODO-After-third-n)
+part_is : (dim : ℕ) (cs ts : List ℕ) {n r : ℕ} → n ≡ length ts / 3 → r ≡ text_part dim (length cs + 256 * n) → r ≡ text_part dim (counts_of cs ts)
+part_is dim cs ts e q = q ∙ ap (text_part dim) (counts_is cs ts e)
 
 pub overflow_mul-counts : goal.overflow_mul-counts
 overflow_mul-counts c = let w = writable c.requires in omega (arith, c.third-n.ensures, w.call.lists.short)
@@ -29,7 +29,7 @@ overflow_add-counts c = let w = writable c.requires in omega (arith, c.third-n.e
 
 pub overflow_add-size : goal.overflow_add-size
 overflow_add-size c =
-    let w = writable c.requires in omega (arith, part_is (goal.at.overflow_add-size c).After-text_part-part, (parts w).ends)
+    let w = writable c.requires in omega (arith, part_is c.args.dim c.args.characters.now c.args.triples.now c.third-n.ensures c.text_part-part.ensures, (parts w).ends)
 
 pub put_numbers-requires : goal.put_numbers-requires
 put_numbers-requires c =
@@ -57,7 +57,7 @@ put_bytes-requires c =
 
 pub overflow_mul-part : goal.overflow_mul-part
 overflow_mul-part c =
-    let p = parts (writable c.requires) in omega (arith, (part_is (goal.at.overflow_mul-part c).After-text_part-part), p.ends)
+    let p = parts (writable c.requires) in omega (arith, (part_is c.args.dim c.args.characters.now c.args.triples.now c.third-n.ensures c.text_part-part.ensures), p.ends)
 
 pub returns : goal.returns
 unfolding text_size
@@ -66,13 +66,15 @@ returns c =
     let w = writable c.requires in
     let place = c.counts_word-place.result in
     let part = c.text_part-part.result in
-    let size = ap (λ n. n + length a.tail.now / 2) (part_is (goal.at.returns c).After-text_part-part) in
+    let size = ap (λ n. n + length a.tail.now / 2) (part_is c.args.dim c.args.characters.now c.args.triples.now c.third-n.ensures c.text_part-part.ensures) in
     let header = c.put_header.ensures ∙ ap (λ n. header_laid a.fields n a.out.now) size in
     let numbers = c.put_numbers.ensures ∙ ap (λ x. laid x 18 (number_words a.dim a.text)) header in
-    let counted = c.put_word.ensures ∙ ap₂ (λ x n. put_word x place n) numbers (counts_is (goal.at.returns c).After-third-n) in
+    let counted = c.put_word.ensures ∙ ap₂ (λ x n. put_word x place n) numbers (counts_is a.characters.now a.triples.now c.third-n.ensures) in
     let letters = c.put_bytes.ensures ∙ ap (λ x. over x (2 * place + 2) (text_bytes a.text a.characters.now a.triples.now)) counted in
-    let tail = c.copy_in.ensures ∙ ap (λ x. copied x (2 * part) a.tail.now) letters in (
-      size,
-      tail ∙ text_laid w a.out.now place part c.counts_word-place.ensures (part_is (goal.at.returns c).After-text_part-part) refl
-          (lent_below a.characters.now c.type_inv.characters) (lent_below a.triples.now c.type_inv.triples) (lent_below a.tail.now c.type_inv.tail),
-    )
+    let tail = c.copy_in.ensures ∙ ap (λ x. copied x (2 * part) a.tail.now) letters in
+    let part_of = part_is a.dim a.characters.now a.triples.now c.third-n.ensures c.text_part-part.ensures in
+    record {
+      size = size;
+      bytes = tail ∙ text_laid w a.out.now place part c.counts_word-place.ensures part_of refl
+          (lent_below a.characters.now c.type_inv.characters) (lent_below a.triples.now c.type_inv.triples) (lent_below a.tail.now c.type_inv.tail);
+    }
