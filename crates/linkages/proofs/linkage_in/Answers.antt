@@ -1,6 +1,5 @@
 -- The loop's invariant is a continuation: every answer of the walk from `here` on with `left` still to pass is the answer of the
 -- walk from `at` on to linkage k. The measure is the words left.
-use Prim.Native.Nat.{◌-◌}
 use mathlib.Core.Path.{◌∙◌}
 use native.Mathlib.Omega.{arith}
 use Rattle.linkages.specs.Linkages.{linkage_in}

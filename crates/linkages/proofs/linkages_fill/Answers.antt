@@ -1,6 +1,5 @@
 -- The loop's invariant is a continuation: every answer of the words from `here` on is the answer of the words from `at` on.
 -- The measure is the words left.
-use Prim.Native.Nat.{◌-◌}
 use native.Mathlib.Omega.{arith}
 use Rattle.linkages.specs.Linkages.{linkages_fill}
 use Rattle.linkages.proofs.Laws.{fitting_none, fitting_some, fill_end, fill_stops, fill_on}
