@@ -8,7 +8,7 @@ use native.Mathlib.Omega.{arith}
 use lib.Dec.{eqb, leb, ltb}
 use lib.IntN.{ℤ, pos, negsuc}
 use lib.Signed.{mag, le_z, lt_z}
-use borrow.Author.Tests.{lt-leb, le-leb, ltb-true, ltb-false, eq-eqb, ne_eqb, not-true, not-false}
+use borrow.Author.Tests.{lt-leb, le-leb, ltb-true, ltb-false, eq-eqb, ne_eqb}
 use mir.Syntax.{w64}
 use mir.Val.{SFits, to_z, of_z}
 use mir.ValLaws.{to_z-of_z}
@@ -77,19 +77,19 @@ module _ (dim : ℕ) (ws : List ℕ) (q : ℕ) {a b c d e f : ℤ} {r : Range} (
 
   -- x is outside; y is; a point of a 2D file lies in it; one of a 3D file by its z
   module _ {x : Bool} (ex : x ≡ between a d (signed (long_at ws q))) where
-    pub not_x : not x ≡ true → false ≡ lies_in r (point_at dim ws q)
-    not_x n = rw (lies, ← ex, not-true x n) refl
+    pub not_x : x ≡ false → false ≡ lies_in r (point_at dim ws q)
+    not_x n = rw (lies, ← ex, n) refl
 
-    module _ (yes_x : not x ≡ false) {y : Bool} (ey : y ≡ between b e (signed (long_at ws (q + 2)))) where
-      pub not_y : not y ≡ true → false ≡ lies_in r (point_at dim ws q)
-      not_y n = rw (lies, ← ex, not-false x yes_x, ← ey, not-true y n) refl
+    module _ (yes_x : x ≡ true) {y : Bool} (ey : y ≡ between b e (signed (long_at ws (q + 2)))) where
+      pub not_y : y ≡ false → false ≡ lies_in r (point_at dim ws q)
+      not_y n = rw (lies, ← ex, yes_x, ← ey, n) refl
 
-      module _ (yes_y : not y ≡ false) where
+      module _ (yes_y : y ≡ true) where
         pub flat_lies : dim ≡ 2 → true ≡ lies_in r (point_at dim ws q)
-        flat_lies n = rw (lies, ← ex, not-false x yes_x, ← ey, not-false y yes_y, eq-eqb dim 2 n) refl
+        flat_lies n = rw (lies, ← ex, yes_x, ← ey, yes_y, eq-eqb dim 2 n) refl
 
         pub solid_lies : (dim ≡ 2 → ⊥) → {z : Bool} → z ≡ between c f (signed (long_at ws (q + 4))) → z ≡ lies_in r (point_at dim ws q)
-        solid_lies n {z} ez = rw (lies, ← ex, not-false x yes_x, ← ey, not-false y yes_y, ne_eqb dim 2 n, ← ez) refl
+        solid_lies n {z} ez = rw (lies, ← ex, yes_x, ← ey, yes_y, ne_eqb dim 2 n, ← ez) refl
 
 ---- the points of an element
 

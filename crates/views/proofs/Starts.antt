@@ -31,7 +31,7 @@ spot_starts (y ∷ xs) p x e = go (eqb y.place p) refl e (spot_starts xs p x)
     go false q e k = let s = k e in (s.0, Memᴰ.tail s.1, s.2)
 
 starts_spot : (xs : List Spot) (p : ℕ) (x : Spot) → Memᴰ x xs → x.place ≡ p → spot_in xs p ≡ none → ⊥
-starts_spot [] p x m e n = Memᴰ.not_nil m
+starts_spot [] p x m e n = Memᴰ.not-nil m
 starts_spot (y ∷ xs) p x m e n = go (eqb y.place p) refl n (Memᴰ.cases_cons m) (λ k. starts_spot xs p x k e)
   where
     go : (b : Bool) → eqb y.place p ≡ b → first_if b y (spot_in xs p) ≡ none → (x ≡ y) ⊎ Memᴰ x xs → (Memᴰ x xs → spot_in xs p ≡ none → ⊥) → ⊥

@@ -1,22 +1,23 @@
 -- By the words that are there, the floats, then by the type; each part is what its call answers.
-use Prim.Native.Nat.{ℕ, ◌+◌, ◌≤◌}
+use Prim.Native.Nat.{ℕ, ◌+◌, ◌/◌, ◌≤◌, ◌<◌}
 use mathlib.Core.Path.{◌≡◌, sym, ◌∙◌}
+use mathlib.Core.List.{List}
 use mathlib.Core.Bool.{true}
 use native.Mathlib.Omega.{arith}
+use lib.ListN.{length}
 use Rattle.words.specs.Words.{words}
+use Rattle.words.proofs.Laws.{length_words}
 use Rattle.kinds.specs.Kinds.{is_curve, fixed_part}
 use Rattle.curve_views.proofs.Laws.{Inside, curve_few, curve_room, curve_cut, curve_reserved, curve_ellipse, curve_arc}
 use Rattle.curve_views.proofs.curve_from.Goals as goal
 
 -- the words of the file, as the code counts them
--- left:
--- module _ (s : List ℕ) (n r : ℕ) (e : r ≡ n) where
---   cut : (at : ℕ) → length s / 2 < at + r → length (words s) < at + n
---   cut at h = let l = length_words s in omega arith
+module _ (s : List ℕ) (n r : ℕ) (e : r ≡ n) where
+  cut : (at : ℕ) → length s / 2 < at + r → length (words s) < at + n
+  cut at h = let l = length_words s in omega arith
 
--- left:
---   whole : (at : ℕ) → at + r ≤ length s / 2 → at + n ≤ length (words s)
---   whole at h = let l = length_words s in omega arith
+  whole : (at : ℕ) → at + r ≤ length s / 2 → at + n ≤ length (words s)
+  whole at h = let l = length_words s in omega arith
 
 -- so all its words are there
 inside : (dim at t n : ℕ) {r : ℕ} → is_curve t ≡ true → r ≡ fixed_part dim t 0 → at + r ≤ n → Inside dim at t n

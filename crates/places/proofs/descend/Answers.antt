@@ -2,7 +2,6 @@
 use Prim.Native.Nat.{◌-◌}
 use mathlib.Core.Path.{sym, ap, ◌∙◌}
 use native.Mathlib.Omega.{arith}
-use borrow.Author.Tests.{not-true}
 use Rattle.words.specs.Words.{words}
 use Rattle.words.proofs.Laws.{lent_below}
 use Rattle.kinds.specs.Kinds.{is_header}
@@ -30,8 +29,7 @@ pub returns-then-not-is_header : goal.returns-then-not-is_header
 returns-then-not-is_header c =
     c.loop-here.invariant.1 _
     (step_own _ _ _ _ _ _ c.extent_words.ensures c.loop-here-test.true c.if-end-place.false
-    (ap is_header (sym c.type_at.ensures) ∙ sym c.is_header.ensures ∙ not-true _
-    c.if-not-is_header.true))
+    (ap is_header (sym c.type_at.ensures) ∙ sym c.is_header.ensures ∙ c.if-not-is_header.true))
 
 pub overflow_add-depth : goal.overflow_add-depth
 overflow_add-depth c = omega arith

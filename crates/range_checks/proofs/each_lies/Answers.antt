@@ -6,7 +6,6 @@ use native.Mathlib.Omega.{arith}
 use lib.ListN.{length}
 use borrow.Author.Tests.{leb-true}
 use Rattle.words.specs.Words.{words}
-use Rattle.headers.proofs.Checks.{refused, accepted}
 use Rattle.range_checks.specs.InRange.{each_lies}
 use Rattle.range_checks.proofs.Laws.{words_few, words_more, each_first}
 use Rattle.range_checks.proofs.each_lies.Goals as goal
@@ -32,7 +31,7 @@ lies_at-requires c =
 pub returns-then-not-lies_at : goal.returns-then-not-lies_at
 returns-then-not-lies_at c =
     let first = each_first c.loop-left.left c.args.range c.args.dim (words c.args.file.now) c.loop-left.here c.loop-left-test.true in
-    sym (c.loop-left.invariant.3 ∙ first ∙ rw (refused c.lies_at.ensures c.if-not-lies_at.true) refl)
+    sym (c.loop-left.invariant.3 ∙ first ∙ rw (sym c.lies_at.ensures ∙ c.if-not-lies_at.true) refl)
 
 pub overflow_add-here : goal.overflow_add-here
 overflow_add-here c =
@@ -52,7 +51,7 @@ loop-left-preserved c =
     let words_is = c.point_words-stride.ensures in
     let more = words_more c.args.dim c.loop-left.left c.loop-left-test.true in
     let first = each_first c.loop-left.left c.args.range c.args.dim (words c.args.file.now) c.loop-left.here c.loop-left-test.true in
-    (omega (arith, i.0), rw words_is (omega (arith, i.1)), i.2, rw words_is (i.3 ∙ first ∙ rw (accepted c.lies_at.ensures c.if-not-lies_at.false) refl))
+    (omega (arith, i.0), rw words_is (omega (arith, i.1)), i.2, rw words_is (i.3 ∙ first ∙ rw (sym c.lies_at.ensures ∙ c.if-not-lies_at.false) refl))
 
 pub returns : goal.returns
 returns c =

@@ -1,13 +1,12 @@
 -- Another type is refused (`other_type`); else its points, which are few, decide (`all_lie`, `not_all`).
 use Prim.Native.Nat.{◌/◌, ◌<◌}
-use mathlib.Core.Path.{◌≡◌, refl, ap, ◌∙◌}
+use mathlib.Core.Path.{◌≡◌, refl, sym, ap, ◌∙◌}
 use mathlib.Core.Bool.{true}
 use native.Mathlib.Omega.{arith}
 use lib.ListN.{length}
 use Rattle.words.specs.Words.{words}
 use Rattle.words.proofs.Laws.{lent_below}
 use Rattle.headers.specs.Header.{type_at}
-use Rattle.headers.proofs.Checks.{refused, accepted}
 use Rattle.places.proofs.OfType.{type_inside}
 use Rattle.points_linkages.proofs.Numbered.{count_small, before_few}
 use Rattle.range_checks.specs.InRange.{is_range_checked}
@@ -20,13 +19,13 @@ test : (c : After-is_range_checked) → c.is_range_checked.result ≡ is_range_c
 test c = c.is_range_checked.ensures ∙ ap is_range_checked c.type_at.ensures
 
 asked : (c : Else-not-is_range_checked) → is_range_checked (type_at (words c.args.file.now) c.args.at) ≡ true
-asked c = accepted (test c.TODO-After-is_range_checked) c.if-not-is_range_checked.false
+asked c = sym (c.is_range_checked.ensures ∙ ap is_range_checked c.type_at.ensures) ∙ c.if-not-is_range_checked.false
 
 inside : (c : Else-not-is_range_checked) → c.args.at < length c.args.file.now / 2
 inside c = type_inside is_range_checked refl c.args.file.now c.args.at (asked c)
 
 pub returns-then-not-is_range_checked : goal.returns-then-not-is_range_checked
-returns-then-not-is_range_checked c = let a = c.args in other_type a.dim (words a.file.now) a.at (refused (test (goal.at.returns-then-not-is_range_checked c).After-is_range_checked) c.if-not-is_range_checked.true)
+returns-then-not-is_range_checked c = let a = c.args in other_type a.dim (words a.file.now) a.at (sym (test (goal.at.returns-then-not-is_range_checked c).After-is_range_checked) ∙ c.if-not-is_range_checked.true)
 
 pub overflow_add-first : goal.overflow_add-first
 overflow_add-first c =

@@ -13,4 +13,4 @@ pub returns-in-4 : goal.returns-in-4
 returns-in-4 c = in_arm (λ t. true ≡ is_range_checked t) (4 ∷ []) _ (refl, tt) c.in-4.is
 
 pub returns-in_default : goal.returns-in_default
-returns-in_default c = sym (none_in (3 ∷ 6 ∷ 11 ∷ []) (4 ∷ []) (3 ∷ 4 ∷ 6 ∷ 11 ∷ []) _ c.in_default.rest.0.1 c.in_default.rest.1 refl)
+returns-in_default c = sym (none_in (3 ∷ 6 ∷ 11 ∷ []) (4 ∷ []) (3 ∷ 4 ∷ 6 ∷ 11 ∷ []) _ c.in_default.in_default-own.rest.0.1 c.in_default.in_default-own.rest.1 refl)

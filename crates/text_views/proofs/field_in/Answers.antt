@@ -28,7 +28,10 @@ text c =
 
 -- so no sum wraps
 small : (c : Else-counts-k) → (c.counts_word.result ≤ 37) × (c.args.at < length c.args.file.now / 2) × (c.word-counts.result < 65536) × (c.args.k < c.word-counts.result / 256)
-small c = ((near c.TODO-After-counts_word).0, (near c.TODO-After-counts_word).1, (text c.TODO-After-word-counts).2, c.if-counts-k.false)
+small c =
+    let early = counts_early c.args.dim in
+    let is = c.counts_word.ensures in
+    (omega arith, text_inside c.args.file.now c.args.at _ c.type_at.ensures c.if-type_at-ne17.false, c.word-counts.ensures.small, c.if-counts-k.false)
 
 pub returns-then-type_at-ne17 : goal.returns-then-type_at-ne17
 unfolding field_in

@@ -20,10 +20,10 @@ same c =
     )
 
 pub overflow_add-at-5 : goal.overflow_add-at-5
-overflow_add-at-5 c = omega (arith, start (goal.at.overflow_add-at-5 c).After-put_signed-5)
+overflow_add-at-5 c = omega (arith, c.requires)
 
 pub offset_bounds-out-at : goal.offset_bounds-out-at
-offset_bounds-out-at c = omega (arith, start (goal.at.offset_bounds-out-at c).After-put_signed-5)
+offset_bounds-out-at c = omega (arith, c.requires)
 
 pub bounds-out-at : goal.bounds-out-at
 bounds-out-at c = omega (arith, same (goal.at.bounds-out-at c).After-put_signed-5, c.requires)

@@ -17,7 +17,7 @@ inside c = spotted_inside _ _ _ _ _ _ (sym c.spotted_at.ensures ∙ c.in-At.is)
 small : (c : After-before_points) → (c.before_points.result ≤ 19) × (2 * c.args.dim ≤ 6) × (2 * c.args.dim * c.args.k ≤ 393216)
 small c =
     let s = c.args.file.now in
-    point_small s (lent_below s c.type_inv.file) _ _ _ _ _ (inside c.TODO-In-At).call
+    point_small s (lent_below s c.type_inv.file) _ _ _ _ _ (spotted_inside _ _ _ _ _ _ (sym c.spotted_at.ensures ∙ c.in-At.is)).call
     c.point_count.ensures c.if-k-point_count.true c.before_points.ensures
 
 pub point_count-requires : goal.point_count-requires
