@@ -31,7 +31,7 @@ pub returns-then-size-part : goal.returns-then-size-part
 unfolding attributes_ok
 returns-then-size-part c =
     λ dim e. rw (
-      sym c.requires.0,
+      sym c.requires.size_value,
       sym c.word.ensures.is,
       eq-eqb _ _ c.if-word-ne1.false,
       sym
@@ -54,7 +54,7 @@ pub returns : goal.returns
 unfolding attributes_ok
 returns c =
     λ dim e. rw (
-      sym c.requires.0,
+      sym c.requires.size_value,
       sym c.word.ensures.is,
       eq-eqb _ _ c.if-word-ne1.false,
       sym

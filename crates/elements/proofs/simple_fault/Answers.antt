@@ -9,12 +9,15 @@ pub is_linked-requires : goal.is_linked-requires
 is_linked-requires c = tt
 
 pub plain_fault-requires : goal.plain_fault-requires
-plain_fault-requires c = (c.requires.0, (sym (c.is_linked.ensures) ∙ c.if-is_linked.true, c.requires.1))
+plain_fault-requires c = record {
+  t_value = c.requires.t_value;
+  t_value_2 = (sym c.is_linked.ensures ∙ c.if-is_linked.true, c.requires.t_value_2);
+}
 
 pub returns-then-is_linked : goal.returns-then-is_linked
 returns-then-is_linked c =
     rw
-    (stands_plain c.args.dim c.args.under c.args.t c.requires.1.0
+    (stands_plain c.args.dim c.args.under c.args.t c.requires.t_value_2.0
     (sym c.is_linked.ensures ∙ c.if-is_linked.true))
     c.plain_fault.ensures
 
@@ -24,5 +27,5 @@ raw_fault-requires c = tt
 pub returns : goal.returns
 returns c =
     c.raw_fault.ensures ∙ raw_same c.args.dim c.args.under (words c.args.s.now)
-    c.args.at c.args.t c.args.size c.requires.0.0 c.requires.1.0
+    c.args.at c.args.t c.args.size c.requires.t_value.0 c.requires.t_value_2.0
     (sym c.is_linked.ensures ∙ c.if-is_linked.false)
