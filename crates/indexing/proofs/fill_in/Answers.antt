@@ -16,11 +16,11 @@ pub slice_bounds-sort-end-2 : goal.slice_bounds-sort-end-2
 slice_bounds-sort-end-2 c =
     let gathered = c.gather in
     sym (part_again c.args.file.now c.args.to c.args.index.now _ (ap (λ n. 8 * n) c.requires.counted) (omega (arith, c.requires.fits))
-    gathered.new.0 gathered.auto.0)
+    gathered.new.s gathered.auto.s)
 
 pub returns : goal.returns
 returns c =
     let gathered = c.gather in
     let sorts = c.sort in
     builds_done c.args.file.now c.args.to c.args.index.now _ (ap (λ n. 8 * n) c.requires.counted) (omega (arith, c.requires.fits))
-    gathered.new.0 sorts.new.0 _ gathered.auto.0 gathered.ensures.entries sorts.auto.0 sorts.ensures c.clear.ensures
+    gathered.new.s sorts.new.s _ gathered.auto.s gathered.ensures.entries sorts.auto.s sorts.ensures c.clear.ensures

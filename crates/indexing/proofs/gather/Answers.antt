@@ -17,12 +17,6 @@ use Rattle.indexing.specs.Indexing.{over}
 use Rattle.indexing.proofs.Fills.{left_none, left_one, left_all, meets, met_count}
 use Rattle.indexing.proofs.gather.Goals as goal
 
--- what is known of the cells that are left at a place
--- left:
--- pub record Ahead (s₀ file : List ℕ) (to i : ℕ) (s : List ℕ) (cs : List Cell) : Type 0 where
---   pub stored : over (entries_of (cells_to file to)) (entries s₀) ≡ take i (entries s) ++ over (entries_of cs) (drop i (entries s))
---   pub count : length (cells_to file to) ≡ i + length cs
-
 pub loop-at-init : goal.loop-at-init
 loop-at-init c =
     let a = c.args in
@@ -68,7 +62,7 @@ loop-at-preserved c =
       (
         loop.invariant.1.0,
         (
-          met.auto.0 ∙ k,
+          met.auto.s ∙ k,
           λ cs f.
               let ahead = loop.invariant.1.1.1 (cell_here (words s) loop.at loop.at ++ cs) (left_one (words s) loop.at end cs c.loop-at-test.true (rw c.size_at.ensures at f)) in
               record {

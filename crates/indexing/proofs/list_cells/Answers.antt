@@ -16,5 +16,5 @@ gather-requires c = omega (arith, c.if-file-gt1048576.false)
 
 pub returns : goal.returns
 returns c =
-    lists_all c.args.file.now c.args.to c.args.s.now _ _ c.if-file-gt1048576.false c.gather.auto.0 c.gather.ensures
+    lists_all c.args.file.now c.args.to c.args.s.now _ _ c.if-file-gt1048576.false c.gather.auto.s c.gather.ensures
     (λ i. (c.type_inv.s i).fits)
