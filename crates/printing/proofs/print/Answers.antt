@@ -1,7 +1,0 @@
--- `printing::print` is safe: its `requires` says that the part has n bytes.
-use mathlib.Core.Path.{sym}
-use lib.Seq.{length-take-le}
-use Rattle.printing.proofs.print.Goals as goal
-
-pub slice_bounds-write_all-end : goal.slice_bounds-write_all-end
-slice_bounds-write_all-end c = sym (length-take-le c.args.n c.args.part.now c.requires)
