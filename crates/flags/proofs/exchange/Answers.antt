@@ -14,7 +14,7 @@ shape_of-used-then-end-here c = c.loop-left.invariant.long
 pub returns-then-end-here : goal.returns-then-end-here
 returns-then-end-here c =
     let done = exchange_stop _ _ _ _ _ _ c.loop-left.rest _ c.loop-left.weight c.loop-left.left c.loop-left.invariant (omega (arith, c.if-end-here.true)) in
-    (done.flags, done.bytes)
+    record { flags = done.flags; bytes = done.bytes }
 
 pub overflow_mul-bits : goal.overflow_mul-bits
 overflow_mul-bits c =
@@ -65,4 +65,4 @@ returns c =
     let m = c.loop-left in
     let none : m.left ≡ 0 = omega (arith, c.loop-left-test.false) in
     let done = exchange_end _ _ _ _ _ _ m.rest _ m.weight (subst (Exchanges _ _ _ _ m.used m.here m.rest m.bits m.weight) none m.invariant) in
-    (done.flags, done.bytes)
+    record { flags = done.flags; bytes = done.bytes }

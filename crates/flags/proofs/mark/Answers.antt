@@ -10,7 +10,9 @@ use Rattle.flags.proofs.Places.{behind_more}
 use Rattle.flags.proofs.mark.Goals as goal
 
 pub returns-then-used-end : goal.returns-then-used-end
-returns-then-used-end c = marks_none _ _ _ _ _ c.if-used-end.true
+returns-then-used-end c =
+    let done = marks_none _ _ _ _ _ c.if-used-end.true in
+    record { bytes = done.0; old = done.1 }
 
 pub loop-here-init : goal.loop-here-init
 loop-here-init c = marks_begin _ _ _ _ _
@@ -22,7 +24,7 @@ pub overflow_cast-old : goal.overflow_cast-old
 overflow_cast-old c =
     let m = c.loop-here in
     let small = bits_small m.used m.here c.args.end [] (omega (arith, c.if-used-end.false, m.invariant.long)) in
-    omega (arith, ap (λ (r : Sixteen). r.bits) c.exchange-old.ensures.0, small)
+    omega (arith, ap (λ (r : Sixteen). r.bits) c.exchange-old.ensures.flags, small)
 
 pub overflow_add-i : goal.overflow_add-i
 overflow_add-i c =
@@ -32,14 +34,14 @@ pub loop-here-smaller : goal.loop-here-smaller
 loop-here-smaller c =
     let m = c.loop-here in
     let more = behind_more 15 (words m.used) m.here _ c.loop-here-test.true in
-    omega (arith, ap (λ (r : Sixteen). r.next) c.exchange-old.ensures.0, more)
+    omega (arith, ap (λ (r : Sixteen). r.next) c.exchange-old.ensures.flags, more)
 
 pub loop-here-preserved : goal.loop-here-preserved
 loop-here-preserved c =
     let m = c.loop-here in
     marks_turn _ _ _ _ _ m.used m.out m.here m.i m.invariant (omega (arith, c.if-used-end.false, m.invariant.long)) c.loop-here-test.true
     _ c.pick-new.ensures c.exchange-old.result c.exchange-old.new.used c.put_word.new.s
-    c.exchange-old.ensures.0 c.exchange-old.ensures.1 c.put_word.ensures
+    c.exchange-old.ensures.flags c.exchange-old.ensures.bytes c.put_word.ensures
 
 pub shape_of-used : goal.shape_of-used
 shape_of-used c = c.loop-here.invariant.long
@@ -50,4 +52,5 @@ shape_of-out c = c.loop-here.invariant.out_long
 pub returns : goal.returns
 returns c =
     let m = c.loop-here in
-    marks_end _ _ _ _ _ m.used m.out m.here m.i m.invariant (omega (arith, c.if-used-end.false, m.invariant.long)) (omega (arith, c.loop-here-test.false))
+    let done = marks_end _ _ _ _ _ m.used m.out m.here m.i m.invariant (omega (arith, c.if-used-end.false, m.invariant.long)) (omega (arith, c.loop-here-test.false)) in
+    record { bytes = done.0; old = done.1 }

@@ -27,7 +27,7 @@ loop-i-preserved c =
     let m = c.loop-i in
     let payload = c.args.payload.now in
     restores_turn _ _ _ _ m.used m.here m.i m.invariant (omega (arith, c.if-used-end.false, m.invariant.long)) (omega (arith, length_words payload, c.loop-i-test.true))
-    c.word.result c.word.ensures.is c.exchange-old.result c.exchange-old.new.used c.exchange-old.ensures.0 c.exchange-old.ensures.1
+    c.word.result c.word.ensures.is c.exchange-old.result c.exchange-old.new.used c.exchange-old.ensures.flags c.exchange-old.ensures.bytes
 
 pub shape_of-used : goal.shape_of-used
 shape_of-used c = c.loop-i.invariant.long

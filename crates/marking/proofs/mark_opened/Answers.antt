@@ -53,4 +53,4 @@ returns c =
     mark_done _ _ _ _ _ _ _ c.requires (lent_below c.args.file.now c.slice_known-1.given) _ _
     c.mark_fault-number.ensures c.if-number-ne0.false _ _ c.end_of-end.ensures
     (c.flag_size-n.ensures ∙ ap flag_size c.count.ensures) c.if-journal-jused.false
-    _ _ _ c.mark.ensures.0 c.mark.ensures.1 c.put_six.ensures
+    _ _ _ c.mark.ensures.bytes c.mark.ensures.old c.put_six.ensures

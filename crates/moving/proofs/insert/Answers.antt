@@ -12,7 +12,7 @@ pub insert_opened-requires : goal.insert_opened-requires
 insert_opened-requires c =
     let o = opened_ready c.args.dim c.args.file.now c.args.used c.args.journal.now
     c.args.jused _ _ c.open_at.ensures _ _ c.in-Ready.is in
-    (o.0, (o.1, sym c.size_ok.ensures ∙ c.if-not-size_ok.false))
+    record { fact = o.0; marker_value = o.1; piece_value = sym c.size_ok.ensures ∙ c.if-not-size_ok.false }
 
 pub returns-in-Refused : goal.returns-in-Refused
 returns-in-Refused c =

@@ -11,10 +11,10 @@ use Rattle.moving.proofs.insert_opened.Goals as goal
 use Rattle.moving.proofs.insert_opened.Goals.{After-insert_fault}
 
 pub slice_bounds-insert_fault-end : goal.slice_bounds-insert_fault-end
-slice_bounds-insert_fault-end c = used_within (c.requires.0)
+slice_bounds-insert_fault-end c = used_within (c.requires.fact)
 
 pub slice_bounds-insert_fault-end-2 : goal.slice_bounds-insert_fault-end-2
-slice_bounds-insert_fault-end-2 c = sym (length-take-le _ _ (used_within (c.requires.0)))
+slice_bounds-insert_fault-end-2 c = sym (length-take-le _ _ (used_within (c.requires.fact)))
 
 -- the bytes of the file and of the piece
 below : (c : After-insert_fault) → Below 256 c.args.file.now
@@ -25,38 +25,38 @@ piece_below c = lent_below c.args.piece.now c.type_inv.piece
 
 pub overflow_sub-file : goal.overflow_sub-file
 overflow_sub-file c =
-    used_within c.requires.0
+    used_within c.requires.fact
 
 pub returns-then-file-used : goal.returns-then-file-used
 returns-then-file-used c =
     answered c.refused.ensures
-    (insert_room _ _ _ _ _ _ _ c.requires.0 (below (goal.at.returns-then-file-used c).After-insert_fault) _ c.requires.1.0 _ _
-    (piece_below (goal.at.returns-then-file-used c).After-insert_fault) c.requires.1.1
+    (insert_room _ _ _ _ _ _ _ c.requires.fact (below (goal.at.returns-then-file-used c).After-insert_fault) _ c.requires.marker_value _ _
+    (piece_below (goal.at.returns-then-file-used c).After-insert_fault) c.requires.piece_value
     (fine_of _ (sym c.insert_fault.ensures ∙ c.in-Allowed.is))
     c.if-file-used.true)
 
 pub overflow_sub-journal : goal.overflow_sub-journal
 overflow_sub-journal c =
-    jused_within c.requires.0
+    jused_within c.requires.fact
 
 pub returns-then-journal-jused-lt12 : goal.returns-then-journal-jused-lt12
 returns-then-journal-jused-lt12 c =
     answered c.refused-then-journal-jused-lt12.ensures
-    (insert_full _ _ _ _ _ _ _ c.requires.0 (below (goal.at.returns-then-journal-jused-lt12 c).After-insert_fault) _ c.requires.1.0 _ _
-    (piece_below (goal.at.returns-then-journal-jused-lt12 c).After-insert_fault) c.requires.1.1
+    (insert_full _ _ _ _ _ _ _ c.requires.fact (below (goal.at.returns-then-journal-jused-lt12 c).After-insert_fault) _ c.requires.marker_value _ _
+    (piece_below (goal.at.returns-then-journal-jused-lt12 c).After-insert_fault) c.requires.piece_value
     (fine_of _ (sym c.insert_fault.ensures ∙ c.in-Allowed.is))
     c.if-file-used.false c.if-journal-jused-lt12.true)
 
 pub returns-in-Refused : goal.returns-in-Refused
 returns-in-Refused c =
-    insert_refused _ _ _ _ _ _ _ c.requires.0 (below (goal.at.returns-in-Refused c).After-insert_fault) _ c.requires.1.0 _ _
-    (piece_below (goal.at.returns-in-Refused c).After-insert_fault) c.requires.1.1 _ _
+    insert_refused _ _ _ _ _ _ _ c.requires.fact (below (goal.at.returns-in-Refused c).After-insert_fault) _ c.requires.marker_value _ _
+    (piece_below (goal.at.returns-in-Refused c).After-insert_fault) c.requires.piece_value _ _
     (refusal_of _ _ _ (sym c.insert_fault.ensures ∙ c.in-Refused.is))
 
 pub returns-else-journal-jused-lt12 : goal.returns-else-journal-jused-lt12
 returns-else-journal-jused-lt12 c =
-    insert_done _ _ _ _ _ _ _ c.requires.0 (below (goal.at.returns-else-journal-jused-lt12 c).After-insert_fault) _ c.requires.1.0 _ _
-    (piece_below (goal.at.returns-else-journal-jused-lt12 c).After-insert_fault) c.requires.1.1
+    insert_done _ _ _ _ _ _ _ c.requires.fact (below (goal.at.returns-else-journal-jused-lt12 c).After-insert_fault) _ c.requires.marker_value _ _
+    (piece_below (goal.at.returns-else-journal-jused-lt12 c).After-insert_fault) c.requires.piece_value
     (fine_of _ (sym c.insert_fault.ensures ∙ c.in-Allowed.is))
     c.if-file-used.false c.if-journal-jused-lt12.false _ _ _ c.insert_piece.ensures
     c.header_number.ensures c.push.ensures

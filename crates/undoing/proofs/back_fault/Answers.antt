@@ -1,13 +1,12 @@
 -- The test of the reversal decides, then that of the index.
 use mathlib.Core.Path.{refl}
-use borrow.Author.Tests.{not-true, not-false}
 use Rattle.undoing.proofs.back_fault.Goals as goal
 
 pub returns-then-not-reverses : goal.returns-then-not-reverses
-returns-then-not-reverses c = rw (not-true c.args.reverses c.if-not-reverses.true) refl
+returns-then-not-reverses c = rw c.if-not-reverses.true refl
 
 pub returns-then-full : goal.returns-then-full
-returns-then-full c = rw (not-false c.args.reverses c.if-not-reverses.false, c.if-full.true) refl
+returns-then-full c = rw (c.if-not-reverses.false, c.if-full.true) refl
 
 pub returns : goal.returns
-returns c = rw (not-false c.args.reverses c.if-not-reverses.false, c.if-full.false) refl
+returns c = rw (c.if-not-reverses.false, c.if-full.false) refl

@@ -8,7 +8,11 @@ pub undo_opened-requires : goal.undo_opened-requires
 undo_opened-requires c =
     let o = opened_ready c.args.dim c.args.file.now c.args.used c.args.journal.now
     c.args.jused _ _ c.open_at.ensures _ _ c.in-Ready.is in
-    (open_by c.args.dim c.args.file.now c.args.used c.args.journal.now c.args.jused c.place_in-place.ensures o.0, (o.1, c.record_by-last.ensures.within (jused_within o.0)))
+    record {
+      fact = open_by c.args.dim c.args.file.now c.args.used c.args.journal.now c.args.jused c.place_in-place.ensures o.0;
+      marker_value = o.1;
+      last_read = c.record_by-last.ensures.within (jused_within o.0);
+    }
 
 pub returns-in-Refused : goal.returns-in-Refused
 returns-in-Refused c =
