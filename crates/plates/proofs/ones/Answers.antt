@@ -9,4 +9,4 @@ pub overflow_cast-result : goal.overflow_cast-result
 overflow_cast-result c = omega (arith, ones_all 16 (c.word-mask.result) (c.word-mask.ensures.small), ones_most 16 (c.word-mask.result))
 
 pub returns : goal.returns
-returns c = (ones_all 16 (c.word-mask.result) (c.word-mask.ensures.small) ∙ ap (ones_in 16) (c.word-mask.ensures.is), omega (arith, ones_all 16 (c.word-mask.result) (c.word-mask.ensures.small), ones_most 16 (c.word-mask.result)))
+returns c = record { value = ones_all 16 (c.word-mask.result) (c.word-mask.ensures.small) ∙ ap (ones_in 16) (c.word-mask.ensures.is); upper_bound = omega (arith, ones_all 16 (c.word-mask.result) (c.word-mask.ensures.small), ones_most 16 (c.word-mask.result)) }
