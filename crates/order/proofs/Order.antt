@@ -52,7 +52,7 @@ order_few ws at end (x ∷ xs) p = let h = order_few ws (at + size_at ws at) end
 
 -- each of them starts from there on, and behind the own words of those before it
 starts_from : (ws : List ℕ) (at end : ℕ) (xs : List Spot) → InOrder ws at xs end → (x : Spot) → Memᴰ x xs → at ≤ x.place
-starts_from ws at end [] p x m = absurd (Memᴰ.not_nil m)
+starts_from ws at end [] p x m = absurd (Memᴰ.not-nil m)
 starts_from ws at end (z ∷ zs) p x m = go (starts_from ws (at + size_at ws at) end zs p.1 x) (Memᴰ.cases_cons m)
   where
     go : (Memᴰ x zs → at + size_at ws at ≤ x.place) → (x ≡ z) ⊎ Memᴰ x zs → at ≤ x.place
@@ -61,7 +61,7 @@ starts_from ws at end (z ∷ zs) p x m = go (starts_from ws (at + size_at ws at)
 
 pub order_apart : (ws : List ℕ) (at end : ℕ) (xs : List Spot) → InOrder ws at xs end → (x y : Spot) → Memᴰ x xs → Memᴰ y xs → x.place < y.place →
     x.place + size_at ws x.place ≤ y.place
-order_apart ws at end [] p x y m n h = absurd (Memᴰ.not_nil m)
+order_apart ws at end [] p x y m n h = absurd (Memᴰ.not-nil m)
 order_apart ws at end (z ∷ zs) p x y m n h = go (λ a b. order_apart ws (at + size_at ws at) end zs p.1 x y a b h) (Memᴰ.cases_cons m) (Memᴰ.cases_cons n)
   where
     here : (u : Spot) → u ≡ z → u.place ≡ at

@@ -25,7 +25,7 @@ loop-at-smaller c = omega (arith, c.loop-at-test.true, c.size_at-at.ensures)
 
 pub loop-at-preserved : goal.loop-at-preserved
 loop-at-preserved c = (
-  c.put_live.auto.0 ∙ c.loop-at.invariant.0,
+  c.put_live.auto.t ∙ c.loop-at.invariant.0,
   rw c.size_at-at.ensures
       (fill_more _ _ _ _ c.loop-at.invariant.1 c.loop-at-test.true
       (omega (arith, c.loop-at-test.true, c.requires.room, c.loop-at.invariant.0)) _ c.put_live.ensures),
