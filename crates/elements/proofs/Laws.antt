@@ -20,7 +20,7 @@ use Rattle.headers.proofs.Checks.{both_true, pass_all}
 use Rattle.headers.specs.Checks.{Check, check, first_fault}
 use Rattle.elements.specs.declared.Head.{Head}
 use Rattle.elements.specs.declared.Head.TheVariants.{Bad, Plain, Complex}
-use Rattle.kinds.proofs.Types.{header_long, linked_long, fixed_any, unsized_no_text, unsized_pointless, not_header, raw_unsized, raw_no_curve, raw_part, header_unsized, header_no_curve, CurveType, curve_type, curve_part, stands_raw}
+use Rattle.kinds.proofs.Types.{header_long, linked_long, fixed_any, unsized_no_text, unsized_pointless, not_header, raw_unsized, raw_no_curve, raw_part, header_unsized, header_no_curve, curve_type, curve_part, stands_raw}
 
 -- all tests of an element pass
 pub record Checked (dim depth under : ℕ) (ws : List ℕ) (at bound : ℕ) : Type 0 where

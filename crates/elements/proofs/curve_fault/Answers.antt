@@ -1,17 +1,14 @@
 -- Check by check. The size, once tested, bounds the places that are read after it.
 use Prim.Native.Nat.{ℕ}
-use mathlib.Core.Bool.{true}
-use mathlib.Core.List.{List, []}
+use mathlib.Core.List.{[]}
 use mathlib.Core.Path.{◌≡◌, refl, sym, ap, ◌∙◌}
 use native.Mathlib.Omega.{arith}
 use lib.Dec.{leb}
-use lib.ListN.{drop}
 use borrow.Author.Tests.{le-leb, lt-leb}
 use Rattle.words.specs.Words.{words}
 use Rattle.kinds.specs.Kinds.{fixed_part}
-use Rattle.kinds.proofs.Types.{CurveType, curve_type}
+use Rattle.kinds.proofs.Types.{curve_type}
 use Rattle.headers.specs.Header.{sizing_at}
-use Rattle.headers.specs.Checks.{Check}
 use Rattle.headers.proofs.Checks.{pass, stop, tail, first}
 use Rattle.elements.specs.Attributes.{linkages_ok}
 use Rattle.elements.specs.Rules.{fixed_ok, curve_floats_ok}

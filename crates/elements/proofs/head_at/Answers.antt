@@ -1,7 +1,6 @@
 -- Check by check: what the tests before a return say of the checks decides the fault there, and no fault gives the bounds of
 -- every sum and, with the type, the answer.
 use Prim.Native.Nat.{ℕ, ◌-◌, ◌+◌, ◌≤◌, ◌<◌}
-use mathlib.Core.Bool.{Bool, true, false}
 use mathlib.Core.List.{List, [], ◌∷◌, ◌++◌}
 use mathlib.Core.Path.{◌≡◌, refl, sym, ap, ◌∙◌}
 use native.Mathlib.Omega.{arith}
@@ -12,9 +11,8 @@ use Rattle.headers.specs.Header.{type_at, size_at}
 use Rattle.kinds.specs.Kinds.{is_header, may_stand}
 use Rattle.elements.specs.Attributes.{linkages_ok}
 use Rattle.headers.specs.Flags.{reserved_ok, place_ok}
-use Rattle.elements.specs.Rules.{fixed_ok, text_fields_ok, curve_floats_ok, content_checks, checks, fault_of, HeadRead}
+use Rattle.elements.specs.Rules.{fixed_ok, text_fields_ok, curve_floats_ok, content_checks, checks, fault_of}
 use Rattle.headers.specs.Checks.{Check, check, first_fault}
-use Rattle.elements.specs.declared.Head.TheVariants.{Bad}
 use Rattle.headers.proofs.Checks.{pass, stop, tail, first, fault_here, fault_later}
 use Rattle.elements.proofs.Laws.{simple_same, element_within, header_within, read_bad, read_plain, read_complex}
 use Rattle.elements.proofs.head_at.Goals as goal

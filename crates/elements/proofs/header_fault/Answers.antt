@@ -4,7 +4,6 @@ use mathlib.Core.Bool.{true}
 use mathlib.Core.List.{List, [], ◌∷◌}
 use mathlib.Core.Path.{◌≡◌, refl, sym, ◌∙◌}
 use native.Mathlib.Omega.{arith}
-use lib.ListN.{drop}
 use Rattle.words.specs.Words.{words}
 use Rattle.kinds.specs.Kinds.{may_stand}
 use Rattle.elements.specs.Attributes.{linkages_ok}

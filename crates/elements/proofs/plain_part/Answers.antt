@@ -6,15 +6,15 @@ use mathlib.Core.Path.{◌≡◌, sym, ap, ◌∙◌}
 use native.Mathlib.Omega.{arith}
 use lib.Dec.{leb}
 use borrow.Author.Tests.{ne_eqb, le-leb, lt-leb}
-use Rattle.words.specs.Words.{words}
+use Rattle.words.specs.Words.{words, Below}
 use Rattle.words.proofs.Laws.{lent_below, words_below}
-use Rattle.kinds.specs.Kinds.{is_pointed, is_sized, sizing_word, fixed_part}
+use Rattle.kinds.specs.Kinds.{is_pointed, fixed_part}
 use Rattle.kinds.proofs.Types.{plain_pointed, pointed_part, pointed_sized}
 use Rattle.headers.specs.Header.{type_at, size_at, sizing_at}
 use Rattle.elements.specs.Rules.{sized_ok, points_ok, fixed_ok}
 use Rattle.elements.proofs.Laws.{plain_fixed, fixed_sized}
 use Rattle.elements.proofs.plain_part.Goals as goal
-use Rattle.elements.proofs.plain_part.Goals.{After-shared_slice_known-1, After-word-n, Else-t-eq3}
+use Rattle.elements.proofs.plain_part.Goals.{After-word-n, Else-t-eq3}
 
 -- N is there and right, where the type has points
 abbrev points : ℕ → List ℕ → ℕ → Bool
@@ -28,13 +28,11 @@ Post dim t size ws at r =
 right : (dim t size : ℕ) (ws : List ℕ) (at r : ℕ) → t ≡ type_at ws at → size ≡ size_at ws at → r ≡ fixed_part dim t (sizing_at dim ws at) → points dim ws at ≡ true → Post dim t size ws at r
 right dim t size ws at r e z i p = (sym (plain_fixed dim ws at t size e z r i p), λ _. i)
 
-wrong : (c : After-shared_slice_known-1) → points c.args.dim (words c.args.s.now) c.args.at ≡ false → Post c.args.dim c.args.t c.args.size (words c.args.s.now) c.args.at 65540
-wrong c p =
-    let s = c.args.s.now in
-    let z = c.requires.t_value.1 in
-    let small = words_below s (lent_below s c.type_inv.s) (c.args.at + 1) in
-    let f = fixed_sized c.args.dim (words s) c.args.at false p in
-    (lt-leb 65540 c.args.size (omega arith) ∙ sym f, λ e. absurd (false≢true (sym f ∙ e)))
+wrong : (dim t size : ℕ) (s : List ℕ) (at : ℕ) → Below 256 s → size ≡ size_at (words s) at → points dim (words s) at ≡ false → Post dim t size (words s) at 65540
+wrong dim t size s at b z p =
+    let small = words_below s b (at + 1) in
+    let f = fixed_sized dim (words s) at false p in
+    (lt-leb 65540 size (omega arith) ∙ sym f, λ e. absurd (false≢true (sym f ∙ e)))
 
 -- what is left after type 3 has points, and word 18 sizes it
 pointed : (c : Else-t-eq3) → is_pointed c.args.t ≡ true
@@ -65,19 +63,22 @@ returns-then-t-eq3 c =
 pub returns-then-size-lt19 : goal.returns-then-size-lt19
 returns-then-size-lt19 c =
     let g = goal.at.returns-then-size-lt19 c in
-    wrong g.After-shared_slice_known-1 (rw (sized g.Else-t-eq3 (pointed g.Else-t-eq3), lt-leb 19 c.args.size c.if-size-lt19.true))
+    wrong c.args.dim c.args.t c.args.size c.args.s.now c.args.at (lent_below c.args.s.now c.type_inv.s) c.requires.t_value.1
+    (rw (sized g.Else-t-eq3 (pointed g.Else-t-eq3), lt-leb 19 c.args.size c.if-size-lt19.true))
 
 pub returns-then-n-lt2 : goal.returns-then-n-lt2
 returns-then-n-lt2 c =
     let g = goal.at.returns-then-n-lt2 c in
     let p = pointed g.Else-t-eq3 in
-    wrong g.After-shared_slice_known-1 (counted g.After-word-n p (sized g.Else-t-eq3 p) ∙ simp (lt-leb 2 c.word-n.result (omega arith)))
+    wrong c.args.dim c.args.t c.args.size c.args.s.now c.args.at (lent_below c.args.s.now c.type_inv.s) c.requires.t_value.1
+    (counted g.After-word-n p (sized g.Else-t-eq3 p) ∙ simp (lt-leb 2 c.word-n.result (omega arith)))
 
 pub returns-then-n-gt101 : goal.returns-then-n-gt101
 returns-then-n-gt101 c =
     let g = goal.at.returns-then-n-gt101 c in
     let p = pointed g.Else-t-eq3 in
-    wrong g.After-shared_slice_known-1 (counted g.After-word-n p (sized g.Else-t-eq3 p) ∙ simp (le-leb 2 c.word-n.result (omega arith), lt-leb c.word-n.result 101 (omega arith)))
+    wrong c.args.dim c.args.t c.args.size c.args.s.now c.args.at (lent_below c.args.s.now c.type_inv.s) c.requires.t_value.1
+    (counted g.After-word-n p (sized g.Else-t-eq3 p) ∙ simp (le-leb 2 c.word-n.result (omega arith), lt-leb c.word-n.result 101 (omega arith)))
 
 pub returns : goal.returns
 returns c =

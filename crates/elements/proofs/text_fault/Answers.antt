@@ -12,7 +12,7 @@ use Rattle.texts.proofs.Laws.{text_past}
 use Rattle.headers.specs.Header.{type_at, size_at}
 use Rattle.headers.proofs.Checks.{pass, stop, tail, first}
 use Rattle.elements.specs.Attributes.{linkages_ok}
-use Rattle.elements.specs.Rules.{fixed_ok, text_fields_ok, curve_floats_ok}
+use Rattle.elements.specs.Rules.{fixed_ok, text_fields_ok}
 use Rattle.elements.specs.Simple.{simple_checks}
 use Rattle.elements.proofs.Laws.{linked_size, linkages_linked, floats_none, text_part_is, text_fixed, text_fields}
 use Rattle.elements.proofs.text_fault.Goals as goal
