@@ -148,7 +148,7 @@ for name in celllist textlist; do cp crates/$name/stdin crates/$name/stdout "$wo
 cp list archive crates.txt "$work/copy"
 cp samples/seals.cel samples/plate.dgn "$work/copy/samples"
 first() { PATH=$work/bin:$PATH "$work/copy/list" "$@" > "$work/out" 2> "$work/err"; }
-printf '#!/bin/sh\necho "rt: words NOT PROVED (exit 1, 1 s)"\nexit 1\n' > "$work/bin/rt"
+printf '#!/bin/sh\necho "rt: words NOT PROVED (exit 1, 1 s)" >&2\nexit 1\n' > "$work/bin/rt"
 chmod +x "$work/bin/rt"
 first
 check "a build that fails: status" test $? -eq 2
@@ -160,7 +160,7 @@ first
 check "another output than the stored one: status" test $? -eq 2
 check "another output than the stored one: output" test ! -s "$work/out"
 check "another output than the stored one: why" said "celllist does not write what crates/celllist/stdout has"
-printf '#!/bin/sh\necho "rt: words NOT PROVED (exit 1, 1 s)"\nexit 1\n' > "$work/bin/rt"
+printf '#!/bin/sh\necho "rt: words NOT PROVED (exit 1, 1 s)" >&2\nexit 1\n' > "$work/bin/rt"
 PATH=$work/bin:$PATH "$work/copy/archive" > "$work/out" 2> "$work/err"
 check "an archive that is not proved: status" test $? -eq 2
 check "an archive that is not proved: where it is said why" said "target/archive.log"
