@@ -1,5 +1,4 @@
 -- The loop's invariant: what the descent finds from the element at `here` on is what it finds from where it began.
-use Prim.Native.Nat.{◌-◌}
 use mathlib.Core.Path.{sym, ap, ◌∙◌}
 use native.Mathlib.Omega.{arith}
 use Rattle.words.specs.Words.{words}
