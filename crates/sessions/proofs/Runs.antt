@@ -59,9 +59,9 @@ ran_other dim q r last c cs e x =
 called_ran : (dim : ℕ) (r last : Run) (cs : List Call) → Called dim r cs last → Ran dim r last cs
 called_ran dim r last [] (runs.none _) = record { calls = []; pieces = λ p. p; is = refl }
 called_ran dim r last (c ∷ cs) (runs.next _ _ _ a file journal index _ t rest) =
-    ran_next dim _ r last c cs (after_next dim r c a file journal index t) (called_ran dim _ last cs rest)
+    ran_next dim _ r last c cs (after_next dim r c a file journal index t) (called_ran dim (record { session = leaves a r.session file journal index; book = noted r.book c (was_refused a) }) last cs rest)
 called_ran dim r last (c ∷ cs) (runs.other _ d _ _ n p file journal index _ t rest) =
-    ran_other dim _ r last c cs (after_other d r c n p file journal index t) (called_ran dim _ last cs rest)
+    ran_other dim _ r last c cs (after_other d r c n p file journal index t) (called_ran dim (record { session = leaves (Refused n p) r.session file journal index; book = noted r.book c true }) last cs rest)
 
 -- so what holds of every run of steps holds of the calls
 pub called_run : (P : Run → Type 0) (dim : ℕ) (s : Session) → ((cs : List Call) → PiecesBytes cs → P (run_of dim s cs)) → (cs : List Call) (last : Run) → PiecesBytes cs →

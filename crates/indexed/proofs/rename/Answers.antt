@@ -20,7 +20,7 @@ lent e =
       index = e.args.index.now;
       iused = e.args.iused;
       ok = sym e.lent_ok.ensures ∙ e.if-not-lent_ok.false;
-      below = lent_below e.args.file.now e.type_inv.file;
+      below = lent_below e.args.file.now e.slice_known-1.given;
       journal_below = lent_below e.args.journal.now e.type_inv.journal;
     }
 

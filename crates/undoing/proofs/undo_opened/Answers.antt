@@ -12,7 +12,7 @@ use Rattle.opening.proofs.Steps.{answered}
 use Rattle.undoing.proofs.Ways.{undo_nothing}
 use Rattle.undoing.proofs.Reversals.{read_bad, read_flags, read_flag, read_name, read_renamed, read_inserted, read_within, read_even, read_removed}
 use Rattle.undoing.proofs.undo_opened.Goals as goal
-use Rattle.undoing.proofs.undo_opened.Goals.{In-Removed-2}
+use Rattle.undoing.proofs.undo_opened.Goals.{In-Removed}
 
 pub returns-then-jused-eq0 : goal.returns-then-jused-eq0
 returns-then-jused-eq0 c = let o = c.requires.fact in answered c.refused.ensures (undo_nothing _ _ _ o.ready c.if-jused-eq0.true)
@@ -69,18 +69,18 @@ undo_inserted-requires c =
     c.args.jused _ _ _ (ap place_in c.in-Inserted.is) c.requires.fact
 
 -- the words that were removed stand in the journal
-within : (c : In-Removed-2) → c.in-Removed.before + 2 * c.in-Removed.count ≤ length c.args.journal.now
+within : (c : In-Removed) → c.in-Removed.before + 2 * c.in-Removed.count ≤ length c.args.journal.now
 within c =
     read_within _ _ _ _ _ c.requires.fact.ready c.if-jused-eq0.false false _ c.requires.last_read _ _ _ _ c.in-Removed.is
 
 pub overflow_mul-count-in-Removed : goal.overflow_mul-count-in-Removed
-overflow_mul-count-in-Removed c = omega (arith, within (goal.at.overflow_mul-count-in-Removed c).In-Removed-2, journal_most c.requires.fact)
+overflow_mul-count-in-Removed c = omega (arith, within (goal.at.overflow_mul-count-in-Removed c).In-Removed, journal_most c.requires.fact)
 
 pub overflow_add-before-in-Removed : goal.overflow_add-before-in-Removed
-overflow_add-before-in-Removed c = omega (arith, within (goal.at.overflow_add-before-in-Removed c).In-Removed-2, journal_most c.requires.fact)
+overflow_add-before-in-Removed c = omega (arith, within (goal.at.overflow_add-before-in-Removed c).In-Removed, journal_most c.requires.fact)
 
 pub slice_bounds-undo_removed-end : goal.slice_bounds-undo_removed-end
-slice_bounds-undo_removed-end c = within (goal.at.slice_bounds-undo_removed-end c).In-Removed-2
+slice_bounds-undo_removed-end c = within (goal.at.slice_bounds-undo_removed-end c).In-Removed
 
 pub undo_removed-requires : goal.undo_removed-requires
 undo_removed-requires c = record {
