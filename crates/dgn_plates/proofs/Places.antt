@@ -3,16 +3,20 @@ use Prim.Native.Nat.{ℕ, ◌-◌}
 use mathlib.Core.Path.{◌≡◌, refl, ap, ◌∙◌}
 use mathlib.Core.List.{List, [], ◌∷◌, map}
 use mathlib.Core.Option.{some}
+use lib.IntN.{ℤ}
 use lib.ListN.{drop}
 use Rattle.words.specs.Words.{words}
 use Rattle.files.specs.Judge.{judge_of}
 use Rattle.files.specs.Spots.{Spot, spots_of, spot_in}
 use Rattle.files.specs.declared.Judged.TheVariants.{Accepted}
 use Rattle.plates.proofs.Promises.{plate_given}
+use Rattle.order.specs.Order.{place_of}
 use Rattle.order.specs.Fitting.{part_of}
+use Rattle.order.proofs.Fitting.{Going}
 use Rattle.order.proofs.Order.{FoundIn, found_drop, file_found}
 use Rattle.order.proofs.Items.{items_are}
-use Rattle.dgn_plates.specs.Plates.{plate_entry, plate_items, plates_part, plates_from}
+use Rattle.dgn_plates.specs.Plates.{Entry, in_plates, plate_entry, plate_items, plates_part, plates_from}
+use Rattle.dgn_plates.proofs.Slices.{lays_plates}
 
 module _ (dim : ℕ) (s : List ℕ) (e d m : ℕ) (j : judge_of dim s ≡ Accepted e d m) where
   items_each : (x : Spot) → spot_in (spots_of dim (words s)) x.place ≡ some x → plate_items (words s) x.place ≡ plate_entry dim s x
@@ -28,3 +32,12 @@ module _ (dim : ℕ) (s : List ℕ) (e d m : ℕ) (j : judge_of dim s ≡ Accept
   plates_are room k =
       let xs = spots_of dim (words s) in
       ap (part_of room k) (items_are dim s e d m j (plate_items (words s)) k ∙ items_map (drop k xs) (found_drop xs xs k (file_found dim s e d m j)))
+
+-- the plate of element number i
+abbrev pub items_of : List ℕ → ℕ → List Entry
+items_of file i = plate_items (words file) (place_of (words file) i)
+
+-- what was put so far
+abbrev pub So-far : List ℕ → ℕ → ℕ → List ℤ → List ℤ → ℕ → ℕ → Type 0
+So-far file elements k numbers₀ numbers i used =
+    Going in_plates lays_plates (part_of (in_plates.room numbers₀) k (plates_from (elements - k) (words file) k)) numbers₀ (items_of file) elements i used numbers

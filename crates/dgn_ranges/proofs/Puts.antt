@@ -6,6 +6,8 @@ use native.Mathlib.Omega.{arith}
 use lib.IntN.{ℤ, pos}
 use lib.ListN.{length, set}
 use borrow.Author.Tests.{le-leb, lt-leb}
+use Rattle.words.specs.Words.{words}
+use Rattle.order.specs.Order.{place_of}
 use Rattle.order.specs.declared.Taken.TheVariants.{Full, Used}
 use Rattle.order.specs.Fitting.{in_numbers, ElementPut}
 use Rattle.order.proofs.Fitting.{lays_numbers, nothing_put}
@@ -26,3 +28,7 @@ module _ (dim : ℕ) (ws : List ℕ) (at : ℕ) (places : List ℤ) (used : ℕ)
 
     pub put_place : used < length places → (z : ℤ) → z ≡ pos at → ElementPut in_numbers (entry_at dim ws at) places used (Used (used + 1)) (set places used z)
     put_place h z q = rw e (let yes = le-leb 1 (length places - used) (omega arith) in record { is = rw yes refl; given = rw yes (rw q refl) })
+
+-- the place of element number i, where its answer is no
+abbrev pub places_of : ℕ → List ℕ → ℕ → List ℤ
+places_of dim file i = entry_at dim (words file) (place_of (words file) i)

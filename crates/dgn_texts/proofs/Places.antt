@@ -24,6 +24,10 @@ use Rattle.order.proofs.Order.{FoundIn, found_drop, file_found, count_is}
 use Rattle.text_views.specs.TextViews.{text_in, text_of}
 use Rattle.dgn_texts.specs.Texts.{entry_by, text_entry, texts_part, walk_of, entry_at, texts_from, from_number}
 
+-- the numbers that are taken of element number i
+abbrev pub numbers_of : ℕ → List ℕ → ℕ → ℕ → List ℤ
+numbers_of dim file k i = from_number k i (entry_at dim (words file) (walk_of (words file) i))
+
 ---- from element number k on
 
 -- elements before number k have no numbers, so that taking from the first on is taking from k on

@@ -45,27 +45,27 @@ overflow_add-i c =
 
 -- the place of the next element is small
 next_small : (c : After-size_at-size) → (c.loop-i.place + c.size_at-size.result < c.loop-i.place + 65538)
-next_small c = omega (arith, c.size_at-size.ensures, size_small c.args.file.now (bytes c.TODO-At-loop-i) c.loop-i.place)
+next_small c = omega (arith, c.size_at-size.ensures, size_small c.args.file.now (lent_below c.args.file.now c.type_inv.file) c.loop-i.place)
 
 pub overflow_add-place : goal.overflow_add-place
 overflow_add-place c =
     omega (arith, next_small (goal.at.overflow_add-place c).After-size_at-size, (inside (goal.at.overflow_add-place c).In-loop-i).1)
 
 pub loop-i-smaller-then-goes_on : goal.loop-i-smaller-then-goes_on
-loop-i-smaller-then-goes_on c = omega (arith, c.loop-i-test.taken)
+loop-i-smaller-then-goes_on c = omega (arith, c.loop-i-test.true)
 
 pub loop-i-preserved-then-goes_on : goal.loop-i-preserved-then-goes_on
 loop-i-preserved-then-goes_on c =
     let l = c.loop-i in
     let ws = words c.args.file.now in (
       omega (arith, c.loop-i-test.true),
-      c.put_one.auto.1.1.1.1.0 ∙ l.inv.1,
-      tour_on ws l.place l.depth l.ends l.headers c.args.top l.i _ l.inv.2 c.size_at-size.ensures l.end l.inv.4 (c.goes_on.ensures c.if-goes_on.true),
-      walk_turn ws c.args.top c.args.k l.i l.place l.depth l.ends l.headers l.above c.args.views.now l.views _ l.inv.2 l.inv.5 l.inv.3 c.put_one.ensures,
-      l.inv.4,
-      l.inv.5,
-      l.inv.6,
-      l.inv.7,
+      c.put_one.auto.views ∙ l.invariant.1,
+      tour_on ws l.place l.depth l.ends l.headers c.args.top l.i _ l.invariant.2 c.size_at-size.ensures l.end l.invariant.4 (c.goes_on.ensures c.if-goes_on.true),
+      walk_turn ws c.args.top c.args.k l.i l.place l.depth l.ends l.headers l.above c.args.views.now l.views _ l.invariant.2 l.invariant.5 l.invariant.3 c.put_one.ensures,
+      l.invariant.4,
+      l.invariant.5,
+      l.invariant.6,
+      l.invariant.7,
     )
 
 shallow : (c : After-extent_words) → c.loop-i.depth < 8
@@ -95,21 +95,21 @@ pub overflow_add-place-then-opens_list : goal.overflow_add-place-then-opens_list
 overflow_add-place-then-opens_list c = omega (arith, next_small (goal.at.overflow_add-place-then-opens_list c).After-size_at-size, (inside (goal.at.overflow_add-place-then-opens_list c).In-loop-i).1)
 
 pub loop-i-smaller-then-opens_list : goal.loop-i-smaller-then-opens_list
-loop-i-smaller-then-opens_list c = omega (arith, c.loop-i-test.taken)
+loop-i-smaller-then-opens_list c = omega (arith, c.loop-i-test.true)
 
 pub loop-i-preserved-then-opens_list : goal.loop-i-preserved-then-opens_list
 loop-i-preserved-then-opens_list c =
     let l = c.loop-i in
     let ws = words c.args.file.now in (
-      omega (arith, c.loop-i-test.taken),
-      c.put_one.kept.1.1.1.1.0 ∙ l.inv.1,
-      tour_in ws l.place l.depth l.ends l.headers c.args.top l.i _ l.inv.2 c.size_at-size.ensures (inside (goal.at.loop-i-preserved-then-opens_list c).In-loop-i).0
+      omega (arith, c.loop-i-test.true),
+      c.put_one.auto.views ∙ l.invariant.1,
+      tour_in ws l.place l.depth l.ends l.headers c.args.top l.i _ l.invariant.2 c.size_at-size.ensures (inside (goal.at.loop-i-preserved-then-opens_list c).In-loop-i).0
           (sym c.opens_list.ensures ∙ c.if-opens_list.true) _ c.extent_words.ensures,
-      walk_turn ws c.args.top c.args.k l.i l.place l.depth l.ends l.headers l.above c.args.views.now l.views _ l.inv.2 l.inv.5 l.inv.3 c.put_one.ensures,
-      end_opened l.ends (l.depth + 1) _ l.inv.6 (omega (arith, shallow (goal.at.loop-i-preserved-then-opens_list c).After-extent_words)),
-      above_opened l.headers l.depth l.place l.inv.7 (shallow (goal.at.loop-i-preserved-then-opens_list c).After-extent_words),
-      length-set l.ends (l.depth + 1) _ ∙ l.inv.6,
-      length-set l.headers (l.depth + 1) _ ∙ l.inv.7,
+      walk_turn ws c.args.top c.args.k l.i l.place l.depth l.ends l.headers l.above c.args.views.now l.views _ l.invariant.2 l.invariant.5 l.invariant.3 c.put_one.ensures,
+      end_opened l.ends (l.depth + 1) _ l.invariant.6 (omega (arith, shallow (goal.at.loop-i-preserved-then-opens_list c).After-extent_words)),
+      above_opened l.headers l.depth l.place l.invariant.7 (shallow (goal.at.loop-i-preserved-then-opens_list c).After-extent_words),
+      length-set l.ends (l.depth + 1) _ ∙ l.invariant.6,
+      length-set l.headers (l.depth + 1) _ ∙ l.invariant.7,
     )
 
 pub overflow_add-place-else-opens_list : goal.overflow_add-place-else-opens_list
@@ -118,21 +118,21 @@ overflow_add-place-else-opens_list c =
 
 pub loop-i-smaller : goal.loop-i-smaller
 loop-i-smaller c =
-    omega (arith, c.loop-i-test.taken)
+    omega (arith, c.loop-i-test.true)
 
 pub loop-i-preserved : goal.loop-i-preserved
 loop-i-preserved c =
     let l = c.loop-i in
     let ws = words c.args.file.now in (
       omega (arith, c.loop-i-test.true),
-      c.put_one.auto.1.1.1.1.0 ∙ l.inv.1,
-      tour_over ws l.place l.depth l.ends l.headers c.args.top l.i _ l.inv.2 c.size_at-size.ensures (inside (goal.at.loop-i-preserved c).In-loop-i).0
+      c.put_one.auto.views ∙ l.invariant.1,
+      tour_over ws l.place l.depth l.ends l.headers c.args.top l.i _ l.invariant.2 c.size_at-size.ensures (inside (goal.at.loop-i-preserved c).In-loop-i).0
           (sym c.opens_list.ensures ∙ c.if-opens_list.false) _ c.closed_to-depth.ensures,
-      walk_turn ws c.args.top c.args.k l.i l.place l.depth l.ends l.headers l.above c.args.views.now l.views _ l.inv.2 l.inv.5 l.inv.3 c.put_one.ensures,
+      walk_turn ws c.args.top c.args.k l.i l.place l.depth l.ends l.headers l.above c.args.views.now l.views _ l.invariant.2 l.invariant.5 l.invariant.3 c.put_one.ensures,
       c.end_in-end.ensures,
       c.above_in-above.ensures,
-      l.inv.6,
-      l.inv.7,
+      l.invariant.6,
+      l.invariant.7,
     )
 
 pub shape_of-views : goal.shape_of-views

@@ -30,10 +30,10 @@ returns-in-Refused c =
     replied_as (curve_of a.dim a.file.now a.place) a.numbers.now a.floats.now c.if-numbers-lt7.false c.if-floats-lt5.false _ (ap curve_reply (sym c.curve_at-curve.ensures ∙ c.in-Refused.is))
 
 pub shape_of-numbers : goal.shape_of-numbers
-shape_of-numbers c = c.put_curve.auto.0
+shape_of-numbers c = c.put_curve.auto.numbers
 
 pub shape_of-floats : goal.shape_of-floats
-shape_of-floats c = c.put_curve.auto.1.1.0
+shape_of-floats c = c.put_curve.auto.floats
 
 pub returns : goal.returns
 returns c =

@@ -23,10 +23,10 @@ pub bounds-numbers-first-2 : goal.bounds-numbers-first-2
 bounds-numbers-first-2 c = simp length-set (omega arith)
 
 pub shape_of-numbers : goal.shape_of-numbers
-shape_of-numbers c = c.put_curve.auto.0 ∙ simp length-set
+shape_of-numbers c = c.put_curve.auto.numbers ∙ simp length-set
 
 pub shape_of-floats : goal.shape_of-floats
-shape_of-floats c = c.put_curve.auto.1.1.0
+shape_of-floats c = c.put_curve.auto.floats
 
 pub returns : goal.returns
 returns c =

@@ -1,33 +1,20 @@
 -- The loop's invariant: what was put so far stands before what the rest of the room takes.
-use Prim.Native.Nat.{ℕ, ◌-◌}
+use Prim.Native.Nat.{◌-◌}
 use mathlib.Core.Path.{◌≡◌, ◌∙◌}
-use mathlib.Core.List.{List}
 use native.Mathlib.Omega.{arith}
-use lib.IntN.{ℤ}
 use lib.ListN.{length}
-use lib.Ieee.{Float}
 use Rattle.words.specs.Words.{words, word_at}
 use Rattle.words.proofs.Laws.{lent_below}
 use Rattle.kinds.specs.FirstWord.{deleted_of}
 use Rattle.headers.proofs.Laws.{size_small}
 use Rattle.order.specs.Order.{place_of}
 use Rattle.order.proofs.Order.{place_small, place_next, start_there}
-use Rattle.order.specs.Fitting.{part_of}
-use Rattle.order.proofs.Fitting.{Going, going_start, going_done, now_room, turn_full, turn_more}
-use Rattle.dgn_curves.specs.Curves.{Entry, entry_by, both, in_both, curve_items, curves_from}
+use Rattle.order.proofs.Fitting.{going_start, going_done, now_room, turn_full, turn_more}
+use Rattle.dgn_curves.specs.Curves.{entry_by, both, in_both}
 use Rattle.dgn_curves.proofs.Slices.{lays_both, same_numbers, same_floats}
-use Rattle.dgn_curves.proofs.Places.{items_here}
+use Rattle.dgn_curves.proofs.Places.{items_of, items_here}
 use Rattle.dgn_curves.proofs.put_curves.Goals as goal
 use Rattle.dgn_curves.proofs.put_curves.Goals.{After-put_curve, At-loop-i}
-
--- the curves of element number i
-abbrev items_of : ℕ → List ℕ → ℕ → List Entry
-items_of dim file i = curve_items dim (words file) (place_of (words file) i)
-
--- what was put so far
-abbrev So-far : List ℕ → ℕ → ℕ → ℕ → List ℤ → List Float → List ℤ → List Float → ℕ → ℕ → Type 0
-So-far file dim elements k numbers₀ floats₀ numbers floats i used =
-    Going in_both lays_both (part_of (in_both.room (both numbers₀ floats₀)) k (curves_from (elements - k) dim (words file) k)) (both numbers₀ floats₀) (items_of dim file) elements i used (both numbers floats)
 
 -- the slices keep their lengths
 kept_numbers : (c : At-loop-i) → length c.loop-i.numbers ≡ length c.args.numbers.now
@@ -60,11 +47,11 @@ put_curve-requires c =
 
 pub shape_of-numbers-in-Full : goal.shape_of-numbers-in-Full
 shape_of-numbers-in-Full c =
-    c.put_curve.auto.1.1.1.0 ∙ kept_numbers (goal.at.shape_of-numbers-in-Full c).At-loop-i
+    c.put_curve.auto.numbers ∙ kept_numbers (goal.at.shape_of-numbers-in-Full c).At-loop-i
 
 pub shape_of-floats-in-Full : goal.shape_of-floats-in-Full
 shape_of-floats-in-Full c =
-    c.put_curve.auto.1.1.1.1.0 ∙ kept_floats (goal.at.shape_of-floats-in-Full c).At-loop-i
+    c.put_curve.auto.floats ∙ kept_floats (goal.at.shape_of-floats-in-Full c).At-loop-i
 
 -- the items of this turn
 here : (c : After-put_curve) → let ws = words c.args.file.now in let at = c.loop-i.at in entry_by c.curve_in-curve.result at (deleted_of (word_at ws at)) ≡ items_of c.args.dim c.args.file.now c.loop-i.i

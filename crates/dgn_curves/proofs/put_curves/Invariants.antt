@@ -3,6 +3,7 @@ use Prim.Native.Nat.{◌-◌, ◌≤◌}
 use mathlib.Core.Path.{◌≡◌}
 use Rattle.words.specs.Words.{words}
 use Rattle.order.specs.Order.{place_of}
+use Rattle.dgn_curves.proofs.Places.{So-far}
 use Rattle.dgn_curves.proofs.put_curves.Given as goal
 
 abbrev pub invariant-loop-i : goal.invariant-loop-i

@@ -27,4 +27,4 @@ pub shape_of-text : goal.shape_of-text
 shape_of-text c = simp length-set (omega arith)
 
 pub returns : goal.returns
-returns c = letters_put c.args.text.now c.args.t2 (search rules)
+returns c = letters_put c.args.text.now c.args.letters (search rules)

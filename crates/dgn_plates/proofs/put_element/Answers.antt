@@ -28,7 +28,7 @@ pub put_cell-requires : goal.put_cell-requires
 put_cell-requires c = simp length-set (omega arith)
 
 pub shape_of-numbers : goal.shape_of-numbers
-shape_of-numbers c = c.put_cell.auto.1.1.0 ∙ simp length-set
+shape_of-numbers c = c.put_cell.auto.numbers ∙ simp length-set
 
 pub returns : goal.returns
 returns c =

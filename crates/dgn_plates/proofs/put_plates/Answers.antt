@@ -1,30 +1,18 @@
 -- The loop's invariant: what was put so far stands before what the rest of the room takes.
-use Prim.Native.Nat.{ℕ, ◌-◌}
+use Prim.Native.Nat.{◌-◌}
 use mathlib.Core.Path.{◌≡◌, ap, ◌∙◌}
-use mathlib.Core.List.{List}
 use native.Mathlib.Omega.{arith}
-use lib.IntN.{ℤ}
 use lib.ListN.{length}
 use Rattle.words.specs.Words.{words}
 use Rattle.words.proofs.Laws.{lent_below}
 use Rattle.headers.proofs.Laws.{size_small}
-use Rattle.order.specs.Order.{place_of}
 use Rattle.order.proofs.Order.{place_small, place_next, start_there}
-use Rattle.order.specs.Fitting.{part_of}
-use Rattle.order.proofs.Fitting.{Going, going_start, going_done, now_room, turn_full, turn_more}
-use Rattle.dgn_plates.specs.Plates.{Entry, in_plates, plate_items, plates_from}
+use Rattle.order.proofs.Fitting.{going_start, going_done, now_room, turn_full, turn_more}
+use Rattle.dgn_plates.specs.Plates.{in_plates, plate_items}
 use Rattle.dgn_plates.proofs.Slices.{lays_plates, same_numbers}
+use Rattle.dgn_plates.proofs.Places.{items_of}
 use Rattle.dgn_plates.proofs.put_plates.Goals as goal
 use Rattle.dgn_plates.proofs.put_plates.Goals.{After-put_element, At-loop-i}
-
--- the plate of element number i
-abbrev items_of : List ℕ → ℕ → List Entry
-items_of file i = plate_items (words file) (place_of (words file) i)
-
--- what was put so far
-abbrev So-far : List ℕ → ℕ → ℕ → List ℤ → List ℤ → ℕ → ℕ → Type 0
-So-far file elements k numbers₀ numbers i used =
-    Going in_plates lays_plates (part_of (in_plates.room numbers₀) k (plates_from (elements - k) (words file) k)) numbers₀ (items_of file) elements i used numbers
 
 -- the slice keeps its length
 kept_numbers : (c : At-loop-i) → length c.loop-i.numbers ≡ length c.args.numbers.now
@@ -52,7 +40,7 @@ put_element-requires c =
 
 pub shape_of-numbers-in-Full : goal.shape_of-numbers-in-Full
 shape_of-numbers-in-Full c =
-    c.put_element.auto.1.1.0 ∙ kept_numbers (goal.at.shape_of-numbers-in-Full c).At-loop-i
+    c.put_element.auto.numbers ∙ kept_numbers (goal.at.shape_of-numbers-in-Full c).At-loop-i
 
 pub returns-in-Full : goal.returns-in-Full
 returns-in-Full c =

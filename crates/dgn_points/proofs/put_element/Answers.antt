@@ -58,7 +58,7 @@ put_longs-requires c =
     )
 
 pub shape_of-numbers : goal.shape_of-numbers
-shape_of-numbers c = c.put_longs.auto.1.1.1.0 ∙ simp length-set
+shape_of-numbers c = c.put_longs.auto.numbers ∙ simp length-set
 
 pub returns : goal.returns
 returns c =

@@ -1,22 +1,16 @@
 -- The loop's invariant: what was put so far stands before what the rest of the room takes.
-use Prim.Native.Nat.{ℕ, ◌-◌}
+use Prim.Native.Nat.{◌-◌}
 use mathlib.Core.Path.{ap, ◌∙◌}
-use mathlib.Core.List.{List}
 use native.Mathlib.Omega.{arith}
-use lib.IntN.{ℤ}
 use Rattle.words.specs.Words.{words}
 use Rattle.words.proofs.Laws.{lent_below}
 use Rattle.headers.proofs.Laws.{size_small}
-use Rattle.order.specs.Order.{place_of}
 use Rattle.order.proofs.Order.{place_small, place_next, start_there}
 use Rattle.order.specs.Fitting.{in_numbers}
 use Rattle.order.proofs.Fitting.{lays_numbers, going_start, going_done, now_room, turn_full, turn_more}
 use Rattle.dgn_points.specs.Points.{point_numbers}
+use Rattle.dgn_points.proofs.Places.{numbers_of}
 use Rattle.dgn_points.proofs.put_points.Goals as goal
-
--- the numbers of element number i
-abbrev numbers_of : ℕ → List ℕ → ℕ → List ℤ
-numbers_of dim file i = point_numbers dim (words file) (place_of (words file) i)
 
 pub returns-then-elements-k : goal.returns-then-elements-k
 returns-then-elements-k c = going_done in_numbers lays_numbers (going_start in_numbers lays_numbers c.args.numbers.now (numbers_of c.args.dim c.args.file.now) c.args.elements c.args.k) c.if-elements-k.true
@@ -35,7 +29,7 @@ put_element-requires c =
 
 pub shape_of-numbers-in-Full : goal.shape_of-numbers-in-Full
 shape_of-numbers-in-Full c =
-    c.put_element.auto.1.1.1.0 ∙ now_room in_numbers lays_numbers c.loop-i.invariant.2
+    c.put_element.auto.numbers ∙ now_room in_numbers lays_numbers c.loop-i.invariant.2
 
 pub returns-in-Full : goal.returns-in-Full
 returns-in-Full c =

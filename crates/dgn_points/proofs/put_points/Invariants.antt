@@ -7,6 +7,7 @@ use Rattle.order.specs.Order.{place_of}
 use Rattle.order.specs.Fitting.{part_of, in_numbers}
 use Rattle.order.proofs.Fitting.{lays_numbers, Going}
 use Rattle.dgn_points.specs.Points.{points_from}
+use Rattle.dgn_points.proofs.Places.{numbers_of}
 use Rattle.dgn_points.proofs.put_points.Given as goal
 
 abbrev pub invariant-loop-i : goal.invariant-loop-i

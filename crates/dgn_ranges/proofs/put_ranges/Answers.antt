@@ -1,22 +1,16 @@
 -- The loop's invariant: what was put so far stands before what the rest of the room takes.
-use Prim.Native.Nat.{ℕ, ◌-◌}
+use Prim.Native.Nat.{◌-◌}
 use mathlib.Core.Path.{ap, ◌∙◌}
-use mathlib.Core.List.{List}
 use native.Mathlib.Omega.{arith}
-use lib.IntN.{ℤ}
 use Rattle.words.specs.Words.{words}
 use Rattle.words.proofs.Laws.{lent_below}
 use Rattle.headers.proofs.Laws.{size_small}
-use Rattle.order.specs.Order.{place_of}
 use Rattle.order.specs.Fitting.{in_numbers}
 use Rattle.order.proofs.Order.{place_small, place_next, start_there}
 use Rattle.order.proofs.Fitting.{lays_numbers, going_start, going_done, now_room, turn_full, turn_more}
 use Rattle.dgn_ranges.specs.Ranges.{entry_at}
+use Rattle.dgn_ranges.proofs.Puts.{places_of}
 use Rattle.dgn_ranges.proofs.put_ranges.Goals as goal
-
--- the place of element number i, where its answer is no
-abbrev places_of : ℕ → List ℕ → ℕ → List ℤ
-places_of dim file i = entry_at dim (words file) (place_of (words file) i)
 
 pub returns-then-elements-k : goal.returns-then-elements-k
 returns-then-elements-k c =
@@ -40,7 +34,7 @@ put_element-requires c =
 
 pub shape_of-places-in-Full : goal.shape_of-places-in-Full
 shape_of-places-in-Full c =
-    c.put_element.auto.1.1.1.0 ∙ now_room in_numbers lays_numbers c.loop-i.invariant.2
+    c.put_element.auto.places ∙ now_room in_numbers lays_numbers c.loop-i.invariant.2
 
 pub returns-in-Full : goal.returns-in-Full
 returns-in-Full c =

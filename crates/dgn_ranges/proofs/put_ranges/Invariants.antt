@@ -7,6 +7,7 @@ use Rattle.order.specs.Order.{place_of}
 use Rattle.order.specs.Fitting.{part_of, in_numbers}
 use Rattle.order.proofs.Fitting.{lays_numbers, Going}
 use Rattle.dgn_ranges.specs.Ranges.{ranges_from}
+use Rattle.dgn_ranges.proofs.Puts.{places_of}
 use Rattle.dgn_ranges.proofs.put_ranges.Given as goal
 
 abbrev pub invariant-loop-i : goal.invariant-loop-i

@@ -35,7 +35,7 @@ pub overflow_cast-start : goal.overflow_cast-start
 overflow_cast-start c = omega (arith, near (goal.at.overflow_cast-start c).After-counts_word)
 
 pub shape_of-numbers : goal.shape_of-numbers
-shape_of-numbers c = c.put_text.auto.0 ∙ simp length-set
+shape_of-numbers c = c.put_text.auto.out ∙ simp length-set
 
 pub returns : goal.returns
 returns c =

@@ -14,13 +14,9 @@ use Rattle.order.specs.Fitting.{in_numbers, part_of}
 use Rattle.order.proofs.Fitting.{lays_numbers, Going, going_start, going_done, now_room, turn_full, turn_more}
 use Rattle.dgn_texts.specs.Texts.{walk_of, entry_at, texts_from, from_number}
 use Rattle.dgn_texts.proofs.Walks.{walking_start, walk_in, walk_out, walk_on}
-use Rattle.dgn_texts.proofs.Places.{from_first}
+use Rattle.dgn_texts.proofs.Places.{numbers_of, from_first}
 use Rattle.dgn_texts.proofs.put_texts.Goals as goal
 use Rattle.dgn_texts.proofs.put_texts.Goals.{After-size_at, In-loop-i, Then-opens_list}
-
--- the numbers that are taken of element number i
-abbrev numbers_of : ℕ → List ℕ → ℕ → ℕ → List ℤ
-numbers_of dim file k i = from_number k i (entry_at dim (words file) (walk_of (words file) i))
 
 -- the element lies in the file
 inside : (c : In-loop-i) → (c.loop-i.place < length (words c.args.file.now)) × (length (words c.args.file.now) ≤ 524288) × (c.loop-i.place < length c.args.file.now)
@@ -40,11 +36,6 @@ here c =
 next_is : (c : After-size_at) → c.loop-i.place + c.size_at.result ≡ c.loop-i.place + size_at (words c.args.file.now) c.loop-i.place
 next_is c =
     ap (λ n. c.loop-i.place + n) c.size_at.ensures
-
--- and what was put with it stands before what the rest takes
-went : (c : After-size_at) → let a = c.args in Going in_numbers lays_numbers (part_of (length a.numbers.now) a.k (texts_from (a.elements - a.k) a.dim (words a.file.now) a.k)) a.numbers.now (numbers_of a.dim a.file.now a.k) a.elements (c.loop-i.i + 1) c.in-Used.more c.put_from.new.dim.1.1.1.1.1.0
-went c =
-    turn_more in_numbers lays_numbers c.loop-i.invariant.2 _ (here c.TODO-In-loop-i) c.loop-i-test.true _ _ _ c.in-Used.is c.put_from.ensures
 
 pub returns-then-elements-k : goal.returns-then-elements-k
 returns-then-elements-k c =
@@ -69,7 +60,7 @@ put_from-requires c =
 
 pub shape_of-numbers-in-Full : goal.shape_of-numbers-in-Full
 shape_of-numbers-in-Full c =
-    c.put_from.auto.1.1.1.1.1.1.0 ∙ now_room in_numbers lays_numbers c.loop-i.invariant.2
+    c.put_from.auto.numbers ∙ now_room in_numbers lays_numbers c.loop-i.invariant.2
 
 pub returns-in-Full : goal.returns-in-Full
 returns-in-Full c =
@@ -108,7 +99,7 @@ loop-i-smaller-then-opens_list c =
 
 pub loop-i-preserved-then-opens_list : goal.loop-i-preserved-then-opens_list
 loop-i-preserved-then-opens_list c =
-    (omega (arith, c.loop-i-test.true), walk_in c.loop-i.invariant.1 (inside (goal.at.loop-i-preserved-then-opens_list c).In-loop-i).0 _ (next_is (goal.at.loop-i-preserved-then-opens_list c).After-size_at) (sym c.opens_list.ensures ∙ c.if-opens_list.true) _ c.extent_words.ensures, went (goal.at.loop-i-preserved-then-opens_list c).After-size_at)
+    (omega (arith, c.loop-i-test.true), walk_in c.loop-i.invariant.1 (inside (goal.at.loop-i-preserved-then-opens_list c).In-loop-i).0 _ (next_is (goal.at.loop-i-preserved-then-opens_list c).After-size_at) (sym c.opens_list.ensures ∙ c.if-opens_list.true) _ c.extent_words.ensures, turn_more in_numbers lays_numbers c.loop-i.invariant.2 _ (here (goal.at.loop-i-preserved-then-opens_list c).In-loop-i) c.loop-i-test.true _ _ _ c.in-Used.is c.put_from.ensures)
 
 pub loop-i-smaller-then-next-end : goal.loop-i-smaller-then-next-end
 loop-i-smaller-then-next-end c =
@@ -116,7 +107,7 @@ loop-i-smaller-then-next-end c =
 
 pub loop-i-preserved-then-next-end : goal.loop-i-preserved-then-next-end
 loop-i-preserved-then-next-end c =
-    (omega (arith, c.loop-i-test.true), walk_out c.loop-i.invariant.1 (inside (goal.at.loop-i-preserved-then-next-end c).In-loop-i).0 _ (next_is (goal.at.loop-i-preserved-then-next-end c).After-size_at) (sym c.opens_list.ensures ∙ c.if-opens_list.false) _ c.closed_to-depth.ensures _ c.end_in-end.ensures, went (goal.at.loop-i-preserved-then-next-end c).After-size_at)
+    (omega (arith, c.loop-i-test.true), walk_out c.loop-i.invariant.1 (inside (goal.at.loop-i-preserved-then-next-end c).In-loop-i).0 _ (next_is (goal.at.loop-i-preserved-then-next-end c).After-size_at) (sym c.opens_list.ensures ∙ c.if-opens_list.false) _ c.closed_to-depth.ensures _ c.end_in-end.ensures, turn_more in_numbers lays_numbers c.loop-i.invariant.2 _ (here (goal.at.loop-i-preserved-then-next-end c).In-loop-i) c.loop-i-test.true _ _ _ c.in-Used.is c.put_from.ensures)
 
 pub loop-i-smaller : goal.loop-i-smaller
 loop-i-smaller c =
@@ -124,7 +115,7 @@ loop-i-smaller c =
 
 pub loop-i-preserved : goal.loop-i-preserved
 loop-i-preserved c =
-    (omega (arith, c.loop-i-test.true), walk_on c.loop-i.invariant.1 (inside (goal.at.loop-i-preserved c).In-loop-i).0 _ (next_is (goal.at.loop-i-preserved c).After-size_at) (sym c.opens_list.ensures ∙ c.if-opens_list.false) c.if-next-end.false, went (goal.at.loop-i-preserved c).After-size_at)
+    (omega (arith, c.loop-i-test.true), walk_on c.loop-i.invariant.1 (inside (goal.at.loop-i-preserved c).In-loop-i).0 _ (next_is (goal.at.loop-i-preserved c).After-size_at) (sym c.opens_list.ensures ∙ c.if-opens_list.false) c.if-next-end.false, turn_more in_numbers lays_numbers c.loop-i.invariant.2 _ (here (goal.at.loop-i-preserved c).In-loop-i) c.loop-i-test.true _ _ _ c.in-Used.is c.put_from.ensures)
 
 pub shape_of-numbers : goal.shape_of-numbers
 shape_of-numbers c = now_room in_numbers lays_numbers c.loop-i.invariant.2

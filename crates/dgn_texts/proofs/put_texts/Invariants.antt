@@ -6,6 +6,7 @@ use Rattle.order.specs.Fitting.{in_numbers, part_of}
 use Rattle.order.proofs.Fitting.{lays_numbers, Going}
 use Rattle.dgn_texts.specs.Texts.{texts_from}
 use Rattle.dgn_texts.proofs.Walks.{Walking}
+use Rattle.dgn_texts.proofs.Places.{numbers_of}
 use Rattle.dgn_texts.proofs.put_texts.Given as goal
 
 abbrev pub invariant-loop-i : goal.invariant-loop-i
