@@ -1,11 +1,8 @@
 -- The ways of the call: a slice is too short, a refusal, or the numbers and floats of an ellipse or an arc at the front of the slices.
 use Prim.Native.Nat.{ℕ, ◌≤◌, ◌<◌}
 use mathlib.Core.Path.{◌≡◌, refl, sym, ◌∙◌}
-use mathlib.Core.Logic.{◌⊎◌, inl, inr}
 use mathlib.Core.List.{List, [], ◌∷◌}
 use native.Mathlib.Omega.{arith}
-use denote.Enum.Declared.{tag_of}
-use types.Run.{OneOf}
 use lib.IntN.{ℤ}
 use lib.ListN.{length}
 use lib.Seq.{sets}
@@ -13,7 +10,6 @@ use lib.Ieee.{Float}
 use borrow.Author.Tests.{le-leb, lt-leb}
 use Rattle.curve_views.specs.declared.Curve.{Curve}
 use Rattle.curve_views.specs.declared.Curve.TheVariants as curves
-use Rattle.curve_views.specs.contracts.Curve.{the_type}
 use Rattle.curve_numbers.specs.Numbers.{curve_numbers, curve_floats, put_numbers, put_floats}
 use Rattle.answers.specs.Answers.{Reply, done, refuse, returned, slice_left}
 use Rattle.answers.specs.Besides.{besides}
@@ -22,14 +18,10 @@ use Rattle.answers.proofs.Besides.{besides_done, besides_short}
 use Rattle.dgn_curve.specs.CurveReplies.{curve_reply, with_floats, CurveReplied}
 
 -- an answer that is no refusal
-pub not_refused : (c : Curve) → OneOf (0 ∷ 1 ∷ []) (tag_of the_type c) → curve_reply c ≡ done (curve_numbers c)
+pub not_refused : (c : Curve) → ((n p : ℕ) → c ≡ curves.Refused n p → ⊥) → curve_reply c ≡ done (curve_numbers c)
 not_refused (curves.Ellipse primary secondary turn origin) o = refl
 not_refused (curves.Arc start sweep primary secondary turn origin) o = refl
-not_refused (curves.Refused number place) o = go o
-  where
-    go : {P : Type 0} → (◌≡◌ {A = ℕ} 2 0) ⊎ (◌≡◌ {A = ℕ} 2 1) → P
-    go (inl e) = absurd (omega arith)
-    go (inr e) = absurd (omega arith)
+not_refused (curves.Refused number place) o = absurd (o number place refl)
 
 module _ (c : Curve) (numbers : List ℤ) (floats : List Float) where
   pub few_numbers : length numbers < 7 → CurveReplied c numbers floats 1 numbers floats
@@ -47,7 +39,7 @@ module _ (c : Curve) (numbers : List ℤ) (floats : List Float) where
     replied_as r e = known r (rw (le-leb 5 (length floats) l) e) h
 
     -- the slices with its numbers and floats
-    pub put_there : (numbers' : List ℤ) (floats' : List Float) → OneOf (0 ∷ 1 ∷ []) (tag_of the_type c) → numbers' ≡ put_numbers numbers 0 floats 0 c → floats' ≡ put_floats numbers 0 floats 0 c →
+    pub put_there : (numbers' : List ℤ) (floats' : List Float) → ((n p : ℕ) → c ≡ curves.Refused n p → ⊥) → numbers' ≡ put_numbers numbers 0 floats 0 c → floats' ≡ put_floats numbers 0 floats 0 c →
         CurveReplied c numbers floats 0 numbers' floats'
     unfolding put_numbers put_floats
     put_there numbers' floats' o p q =

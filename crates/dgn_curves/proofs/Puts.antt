@@ -1,11 +1,8 @@
 -- One curve behind those that are used: none of an element that is none, no room, or its numbers and floats in their slices.
 use Prim.Native.Nat.{ℕ, suc, ◌+◌, ◌-◌, ◌*◌, ◌≤◌, ◌<◌}
 use mathlib.Core.Path.{◌≡◌, refl, sym, ap, ap₂, ◌∙◌}
-use mathlib.Core.Logic.{◌⊎◌, inl, inr}
 use mathlib.Core.List.{List, [], ◌∷◌, ◌++◌, append-nil}
 use native.Mathlib.Omega.{arith}
-use denote.Enum.Declared.{tag_of}
-use types.Run.{OneOf}
 use lib.IntN.{ℤ, pos}
 use lib.ListN.{length, set, length-set}
 use lib.Seq.{sets}
@@ -13,7 +10,6 @@ use lib.Ieee.{Float}
 use borrow.Author.Tests.{le-leb, lt-leb}
 use Rattle.curve_views.specs.declared.Curve.{Curve}
 use Rattle.curve_views.specs.declared.Curve.TheVariants as curves
-use Rattle.curve_views.specs.contracts.Curve.{the_type}
 use Rattle.curve_numbers.specs.Numbers.{curve_numbers, curve_floats, put_numbers, put_floats}
 use Rattle.order.specs.declared.Taken.TheVariants.{Full, Used}
 use Rattle.order.specs.Fitting.{ElementPut}
@@ -28,20 +24,16 @@ record One (c : Curve) (place deleted : ℕ) : Type 0 where
   numbers : entry_numbers entry ≡ pos place ∷ pos deleted ∷ curve_numbers c
   floats : entry_floats entry ≡ curve_floats c
 
-one : (c : Curve) (place deleted : ℕ) → OneOf (0 ∷ 1 ∷ []) (tag_of the_type c) → One c place deleted
+one : (c : Curve) (place deleted : ℕ) → ((n p : ℕ) → c ≡ curves.Refused n p → ⊥) → One c place deleted
 one (curves.Ellipse primary secondary turn origin) place deleted o = record { entry = _; is = refl; numbers = refl; floats = refl }
 one (curves.Arc start sweep primary secondary turn origin) place deleted o = record { entry = _; is = refl; numbers = refl; floats = refl }
-one (curves.Refused number fault) place deleted o = go o
-  where
-    go : {P : Type 0} → (◌≡◌ {A = ℕ} 2 0) ⊎ (◌≡◌ {A = ℕ} 2 1) → P
-    go (inl e) = absurd (omega arith)
-    go (inr e) = absurd (omega arith)
+one (curves.Refused number fault) place deleted o = absurd (o number fault refl)
 
 module _ (c : Curve) (place deleted : ℕ) (numbers : List ℤ) (floats : List Float) (used : ℕ) where
   pub put_none : (n p : ℕ) → c ≡ curves.Refused n p → ElementPut in_both (entry_by c place deleted) (both numbers floats) used (Used used) (both numbers floats)
   put_none n p q = rw q (nothing_put in_both lays_both (both numbers floats) used)
 
-  module _ (o : OneOf (0 ∷ 1 ∷ []) (tag_of the_type c)) where
+  module _ (o : (n p : ℕ) → c ≡ curves.Refused n p → ⊥) where
     pub put_full : in_both.room (both numbers floats) - used < 1 → ElementPut in_both (entry_by c place deleted) (both numbers floats) used Full (both numbers floats)
     put_full h =
         let x = one c place deleted o in

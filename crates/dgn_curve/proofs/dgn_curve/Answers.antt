@@ -39,4 +39,4 @@ pub returns : goal.returns
 returns c =
     let a = c.args in
     rw (← c.curve_at-curve.ensures)
-    (put_there _ a.numbers.now a.floats.now c.if-numbers-lt7.false c.if-floats-lt5.false _ _ c.in_default.keys2 c.put_curve.ensures.0 c.put_curve.ensures.1)
+    (put_there _ a.numbers.now a.floats.now c.if-numbers-lt7.false c.if-floats-lt5.false _ _ c.in_default.not-Refused c.put_curve.ensures.0 c.put_curve.ensures.1)
