@@ -11,25 +11,25 @@ use Rattle.dgn_text_writer.proofs.text_given.Goals as goal
 
 pub returns-then-text-ne12 : goal.returns-then-text-ne12
 unfolding text_given
-returns-then-text-ne12 c = and_no _ (ne_eqb _ _ c.if-text-ne12.taken)
+returns-then-text-ne12 c = and_no _ (ne_eqb _ _ c.if-text-ne12.true)
 
 pub returns-then-not-is_coordinate : goal.returns-then-not-is_coordinate
 unfolding text_given
 returns-then-not-is_coordinate c =
-    and_on (eq-eqb _ _ c.if-text-ne12.left)
-    (and_no _ (refused (c.is_coordinate.ensures ∙ ap is_coordinate (back (number_at c.args.text.now 8) (record { sfits = c.is_coordinate-arg-1.given }))) c.if-not-is_coordinate.taken))
+    and_on (eq-eqb _ _ c.if-text-ne12.false)
+    (and_no _ (refused (c.is_coordinate.ensures ∙ ap is_coordinate (back (number_at c.args.text.now 8) (record { sfits = c.is_coordinate-arg-1.given }))) c.if-not-is_coordinate.true))
 
 pub returns-then-not-is_coordinate-2 : goal.returns-then-not-is_coordinate-2
 unfolding text_given
 returns-then-not-is_coordinate-2 c =
-    and_on (eq-eqb _ _ c.if-text-ne12.left)
-    (and_on (accepted (c.is_coordinate.ensures ∙ ap is_coordinate (back (number_at c.args.text.now 8) (record { sfits = c.is_coordinate-arg-1.given }))) c.if-not-is_coordinate.left)
-    (and_no _ (refused (c.is_coordinate-2.ensures ∙ ap is_coordinate (back (number_at c.args.text.now 9) (record { sfits = c.is_coordinate-arg-2-1.given }))) c.if-not-is_coordinate-2.taken)))
+    and_on (eq-eqb _ _ c.if-text-ne12.false)
+    (and_on (accepted (c.is_coordinate.ensures ∙ ap is_coordinate (back (number_at c.args.text.now 8) (record { sfits = c.is_coordinate-arg-1.given }))) c.if-not-is_coordinate.false)
+    (and_no _ (refused (c.is_coordinate-2.ensures ∙ ap is_coordinate (back (number_at c.args.text.now 9) (record { sfits = c.is_coordinate-arg-2-1.given }))) c.if-not-is_coordinate-2.true)))
 
 pub returns : goal.returns
 unfolding text_given
 returns c =
-    and_on (eq-eqb _ _ c.if-text-ne12.left)
-    (and_on (accepted (c.is_coordinate.ensures ∙ ap is_coordinate (back (number_at c.args.text.now 8) (record { sfits = c.is_coordinate-arg-1.given }))) c.if-not-is_coordinate.left)
-    (and_on (accepted (c.is_coordinate-2.ensures ∙ ap is_coordinate (back (number_at c.args.text.now 9) (record { sfits = c.is_coordinate-arg-2-1.given }))) c.if-not-is_coordinate-2.left)
+    and_on (eq-eqb _ _ c.if-text-ne12.false)
+    (and_on (accepted (c.is_coordinate.ensures ∙ ap is_coordinate (back (number_at c.args.text.now 8) (record { sfits = c.is_coordinate-arg-1.given }))) c.if-not-is_coordinate.false)
+    (and_on (accepted (c.is_coordinate-2.ensures ∙ ap is_coordinate (back (number_at c.args.text.now 9) (record { sfits = c.is_coordinate-arg-2-1.given }))) c.if-not-is_coordinate-2.false)
     ((c.is_coordinate-3.ensures ∙ ap is_coordinate (back (number_at c.args.text.now 10) (record { sfits = c.is_coordinate-arg-3-1.given }))))))
