@@ -1,6 +1,5 @@
 -- No room for the answer, no numbers of a text, no header fields, or the writer's own answer (write_answers, proofs/Writing).
 use mathlib.Core.Path.{sym, ◌∙◌}
-use Rattle.headers.proofs.Checks.{refused, accepted}
 use Rattle.write_answers.proofs.Writing.{given_is, given_not, not_answered, not_given, written}
 use Rattle.dgn_text_writer.proofs.Small.{fault_table, fault_given, no_text, no_fields}
 use Rattle.dgn_text_writer.proofs.dgn_write_text.Goals as goal
@@ -9,17 +8,17 @@ pub returns-then-out-lt1 : goal.returns-then-out-lt1
 returns-then-out-lt1 c = not_answered _ _ _ _ _ c.if-out-lt1.true
 
 pub returns-then-not-text_given : goal.returns-then-not-text_given
-returns-then-not-text_given c = not_given _ _ _ _ _ (no_text _ _ _ _ _ _ _ (refused c.text_given.ensures c.if-not-text_given.true)) c.if-out-lt1.false
+returns-then-not-text_given c = not_given _ _ _ _ _ (no_text _ _ _ _ _ _ _ (sym c.text_given.ensures ∙ c.if-not-text_given.true)) c.if-out-lt1.false
 
 pub text_of-numbers-requires : goal.text_of-numbers-requires
-text_of-numbers-requires c = accepted c.text_given.ensures c.if-not-text_given.false
+text_of-numbers-requires c = sym c.text_given.ensures ∙ c.if-not-text_given.false
 
 pub returns-in-Header : goal.returns-in-Header
 returns-in-Header c =
     let g = given_is _ _ (sym c.fields_in.ensures ∙ c.in-Header.is) in
-    let k = accepted c.text_given.ensures c.if-not-text_given.false in
+    let k = sym c.text_given.ensures ∙ c.if-not-text_given.false in
     written _ _ _ _ _ _ _ _ _ _ (fault_given _ _ _ _ _ _ _ k g.0) (fault_table _ _ _ _ _ _ _) c.if-out-lt1.false (rw (g.1, c.text_of-numbers.ensures) at c.write_text.ensures) c.put_written.ensures
 
 pub returns-in-Nothing : goal.returns-in-Nothing
 returns-in-Nothing c =
-    not_given _ _ _ _ _ (no_fields _ _ _ _ _ _ _ (accepted c.text_given.ensures c.if-not-text_given.false) (given_not _ (sym c.fields_in.ensures ∙ c.in-Nothing.is))) c.if-out-lt1.false
+    not_given _ _ _ _ _ (no_fields _ _ _ _ _ _ _ (sym c.text_given.ensures ∙ c.if-not-text_given.false) (given_not _ (sym c.fields_in.ensures ∙ c.in-Nothing.is))) c.if-out-lt1.false
