@@ -1,7 +1,7 @@
 -- The six tests are the definition's, in its order: one that fails makes the conjunction false (`and_no`), one that passes leaves the
 -- rest (`and_on`).
 use Prim.Native.Nat.{◌<◌}
-use mathlib.Core.Path.{◌≡◌, ◌∙◌}
+use mathlib.Core.Path.{◌≡◌, sym, ◌∙◌}
 use mathlib.Core.Bool.{Bool, true, false}
 use native.Mathlib.Omega.{arith}
 use lib.IntN.{ℤ}
@@ -10,16 +10,15 @@ use mir.Syntax.{w64}
 use mir.Val.{to_z, of_z}
 use Rattle.ranges.specs.Ranges.{is_coordinate}
 use Rattle.ranges.proofs.Ranges.{tested}
-use Rattle.headers.proofs.Checks.{refused, accepted}
 use Rattle.fields.proofs.Bounds.{and_no, and_on, and_last}
 use Rattle.fields.proofs.range_ok.Goals as goal
 
 -- what each test says of its field
 no : (z : ℤ) → mag z < 9223372036854775808 → {r : Bool} → r ≡ is_coordinate (to_z w64 (of_z w64 z)) → r ≡ false → is_coordinate z ≡ false
-no z h e t = refused (tested z h e) t
+no z h e t = sym (tested z h e) ∙ t
 
 yes : (z : ℤ) → mag z < 9223372036854775808 → {r : Bool} → r ≡ is_coordinate (to_z w64 (of_z w64 z)) → r ≡ true → is_coordinate z ≡ true
-yes z h e t = accepted (tested z h e) t
+yes z h e t = sym (tested z h e) ∙ t
 
 pub returns-then-not-is_coordinate : goal.returns-then-not-is_coordinate
 returns-then-not-is_coordinate c =

@@ -3,7 +3,6 @@ use Prim.Native.Nat.{◌+◌, ◌-◌, ◌*◌}
 use mathlib.Core.Path.{refl, sym, ◌∙◌}
 use native.Mathlib.Omega.{arith}
 use Rattle.fields.proofs.Bounds.{and_no, and_on}
-use Rattle.headers.proofs.Checks.{refused, accepted}
 use Rattle.text_fields.proofs.Triples.{triple_next, triples_end}
 use Rattle.text_fields.proofs.triples_ok.Goals as goal
 
@@ -21,11 +20,11 @@ overflow_cast-triples-in-loop-k-2 c = omega (arith, c.type_inv.triples (3 * c.lo
 
 pub returns-then-not-field_ok : goal.returns-then-not-field_ok
 returns-then-not-field_ok c =
-    and_no _ (refused c.field_ok.ensures c.if-not-field_ok.true) ∙ sym (c.loop-k.invariant.1 ∙ triple_next _ _ _ (rw c.third-n.ensures at c.loop-k-test.true))
+    and_no _ (sym c.field_ok.ensures ∙ c.if-not-field_ok.true) ∙ sym (c.loop-k.invariant.1 ∙ triple_next _ _ _ (rw c.third-n.ensures at c.loop-k-test.true))
 
 pub loop-k-preserved : goal.loop-k-preserved
 loop-k-preserved c =
-    (omega (arith, c.loop-k-test.true), c.loop-k.invariant.1 ∙ triple_next _ _ _ (rw c.third-n.ensures at c.loop-k-test.true) ∙ sym (and_on (accepted c.field_ok.ensures c.if-not-field_ok.false) refl))
+    (omega (arith, c.loop-k-test.true), c.loop-k.invariant.1 ∙ triple_next _ _ _ (rw c.third-n.ensures at c.loop-k-test.true) ∙ sym (and_on (sym c.field_ok.ensures ∙ c.if-not-field_ok.false) refl))
 
 pub returns : goal.returns
 returns c = sym (c.loop-k.invariant.1 ∙ triples_end _ _ _ (rw c.third-n.ensures at c.loop-k-test.false))

@@ -1,15 +1,14 @@
 -- The test decides which case of the definition it is.
-use mathlib.Core.Path.{refl, ap, ◌∙◌}
-use Rattle.headers.proofs.Checks.{refused, accepted}
+use mathlib.Core.Path.{refl, sym, ap, ◌∙◌}
 use Rattle.write_answers.specs.declared.Given.TheVariants.{Header}
 use Rattle.write_answers.proofs.Writing.{given_sixteen}
 use Rattle.write_answers.proofs.fields_in.Goals as goal
 
 pub returns-then-not-fields_given : goal.returns-then-not-fields_given
-returns-then-not-fields_given c = rw (refused c.fields_given.ensures c.if-not-fields_given.true) refl
+returns-then-not-fields_given c = rw (sym c.fields_given.ensures ∙ c.if-not-fields_given.true) refl
 
 pub fields_of-requires : goal.fields_of-requires
-fields_of-requires c = given_sixteen _ (accepted c.fields_given.ensures c.if-not-fields_given.false)
+fields_of-requires c = given_sixteen _ (sym c.fields_given.ensures ∙ c.if-not-fields_given.false)
 
 pub returns : goal.returns
-returns c = ap Header c.fields_of.ensures ∙ rw (accepted c.fields_given.ensures c.if-not-fields_given.false) refl
+returns c = ap Header c.fields_of.ensures ∙ rw (sym c.fields_given.ensures ∙ c.if-not-fields_given.false) refl
