@@ -1,16 +1,16 @@
 -- The characters that the code lends are those of the definition: what is beyond the file's end is cut off by both. By the type an
 -- element has a line or none.
-use Prim.Native.Nat.{ℕ, ◌+◌, ◌*◌, ◌-◌, ◌≤◌, ◌<◌, min}
+use Prim.Native.Nat.{ℕ, ◌+◌, ◌*◌, ◌-◌, min}
 use mathlib.Core.Path.{◌≡◌, refl, sym, ap, ◌∙◌}
 use mathlib.Core.Bool.{Bool, true, false}
-use mathlib.Core.List.{List, []}
+use mathlib.Core.List.{List}
 use native.Mathlib.Omega.{arith}
 use lib.Dec.{eqb, leb}
 use lib.ListN.{length, take, drop, length-drop, drop_of_length-le}
 use lib.Seq.{take_all, take-nil}
 use borrow.Author.Tests.{leb-true, leb-false, eq-eqb, ne_eqb}
 use Rattle.words.specs.Words.{words, word_at}
-use Rattle.texts.specs.Texts.{characters_in, counts_word, counts_at, first_character}
+use Rattle.texts.specs.Texts.{characters_in, counts_word, first_character}
 use Rattle.kinds.specs.FirstWord.{type_of, deleted_of}
 use Rattle.headers.specs.Header.{type_at}
 use Rattle.listing.specs.Lines.{WritesLine}
