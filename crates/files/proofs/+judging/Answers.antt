@@ -1,5 +1,4 @@
 -- The ways on and out are in proofs/Going.
-use Prim.Native.Nat.{◌+◌, ◌-◌, ◌*◌, ◌<◌}
 use mathlib.Core.Path.{refl, sym, ◌∙◌}
 use native.Mathlib.Omega.{arith}
 use Rattle.files.proofs.Laws.{list_none}
