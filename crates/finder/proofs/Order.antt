@@ -33,7 +33,7 @@ pub tree_order : (dim : ℕ) (ws : List ℕ) (depth under : ℕ) (header : Optio
 tree_order dim ws depth under header at end nil w s e = omega arith
 tree_order dim ws depth under header at end (node own k r) w s e =
     let l = length_node own k r in
-    let inside = tree_order dim ws _ _ (some at) (at + length own) (at + weight own k) k w.1 (components_stand own k r s) (omega arith) in
+    let inside = tree_order dim ws (suc depth) _ (some at) (at + length own) (at + weight own k) k w.1 (components_stand own k r s) (omega arith) in
     let after = tree_order dim ws depth under header (at + weight own k) end r w.2 (rest_stand own k r s) (omega arith) in
     let under_it = spots (suc depth) (some at) (at + length own) k in
     let after_it = spots depth header (at + weight own k) r in

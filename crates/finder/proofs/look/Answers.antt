@@ -1,5 +1,4 @@
 -- The loop's invariant: what the elements from a place on answer, after n others, is what all of the part answer.
-use Prim.Native.Nat.{◌-◌}
 use mathlib.Core.Path.{sym, ◌∙◌}
 use native.Mathlib.Omega.{arith}
 use Rattle.words.proofs.Laws.{lent_below}

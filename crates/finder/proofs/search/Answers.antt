@@ -11,7 +11,7 @@ use Rattle.finder.proofs.Looks.{searched_none, search_refused, arrived_fault, en
 use Prim.Native.Nat.{◌-◌, ◌/◌}
 use lib.ListN.{length}
 use Rattle.finder.proofs.search.Goals as goal
-use Rattle.finder.proofs.search.Goals.{At-loop-number, In-Element-2}
+use Rattle.finder.proofs.search.Goals.{At-loop-number}
 
 pub returns-then-not-call_ok : goal.returns-then-not-call_ok
 returns-then-not-call_ok c = (c.refused.ensures) ∙ search_refused _ _ _ _ _ 1 0 (sym (judge_call _ _ (sym (c.call_ok.ensures) ∙ c.if-not-call_ok.true)))
@@ -23,9 +23,6 @@ loop-number-init c = searched_none (c.refused-answer.ensures)
 call : (c : At-loop-number) → call_ok c.args.dim c.args.file.now ≡ true
 call c =
     sym c.call_ok.ensures ∙ c.if-not-call_ok.false
-
-element : (c : In-Element-2) → Element c.in-Element.header c.in-Element.end c.in-Element.before ≡ reached_of c.args.dim (words c.args.file.now) c.loop-number.here (length c.args.file.now / 2) (length c.args.file.now / 2) true
-element c = sym c.in-Element.is ∙ c.reach.ensures
 
 pub returns-in-Refused : goal.returns-in-Refused
 returns-in-Refused c =
@@ -43,27 +40,27 @@ returns-in-End c =
     (sym c.in-End.is ∙ c.reach.ensures) c.past.ensures
 
 pub past-requires-in-Element : goal.past-requires-in-Element
-past-requires-in-Element c = header_may c.loop-number.invariant (call (goal.at.past-requires-in-Element c).At-loop-number) (element (goal.at.past-requires-in-Element c).In-Element-2)
+past-requires-in-Element c = header_may c.loop-number.invariant (call (goal.at.past-requires-in-Element c).At-loop-number) (sym c.in-Element.is ∙ c.reach.ensures)
 
 pub loop-number-smaller-in-At : goal.loop-number-smaller-in-At
 loop-number-smaller-in-At c =
-    header_less c.loop-number.invariant (call (goal.at.loop-number-smaller-in-At c).At-loop-number) (element (goal.at.loop-number-smaller-in-At c).In-Element-2)
+    header_less c.loop-number.invariant (call (goal.at.loop-number-smaller-in-At c).At-loop-number) (sym c.in-Element.is ∙ c.reach.ensures)
 
 pub loop-number-preserved-in-At : goal.loop-number-preserved-in-At
 loop-number-preserved-in-At c =
-    header_hit c.loop-number.invariant (call (goal.at.loop-number-preserved-in-At c).At-loop-number) (element (goal.at.loop-number-preserved-in-At c).In-Element-2) c.past-in-Element.ensures
+    header_hit c.loop-number.invariant (call (goal.at.loop-number-preserved-in-At c).At-loop-number) (sym c.in-Element.is ∙ c.reach.ensures) c.past-in-Element.ensures
     c.in-At.is
 
 pub look-answer-requires : goal.look-answer-requires
 look-answer-requires c =
-    header_look c.loop-number.invariant (call (goal.at.look-answer-requires c).At-loop-number) (element (goal.at.look-answer-requires c).In-Element-2) c.past-in-Element.ensures
+    header_look c.loop-number.invariant (call (goal.at.look-answer-requires c).At-loop-number) (sym c.in-Element.is ∙ c.reach.ensures) c.past-in-Element.ensures
     c.in-Refused-past.is
 
 pub loop-number-smaller : goal.loop-number-smaller
 loop-number-smaller c =
-    header_less c.loop-number.invariant (call (goal.at.loop-number-smaller c).At-loop-number) (element (goal.at.loop-number-smaller c).In-Element-2)
+    header_less c.loop-number.invariant (call (goal.at.loop-number-smaller c).At-loop-number) (sym c.in-Element.is ∙ c.reach.ensures)
 
 pub loop-number-preserved : goal.loop-number-preserved
 loop-number-preserved c =
-    header_more c.loop-number.invariant (call (goal.at.loop-number-preserved c).At-loop-number) (element (goal.at.loop-number-preserved c).In-Element-2) c.past-in-Element.ensures
+    header_more c.loop-number.invariant (call (goal.at.loop-number-preserved c).At-loop-number) (sym c.in-Element.is ∙ c.reach.ensures) c.past-in-Element.ensures
     c.in-Refused-past.is _ c.look-answer.ensures

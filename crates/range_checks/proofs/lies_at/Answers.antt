@@ -2,6 +2,9 @@
 use Prim.Native.Nat.{◌+◌}
 use mathlib.Core.Path.{◌≡◌}
 use native.Mathlib.Omega.{arith}
+use mir.Syntax.{w64}
+use mir.Val.{SFits}
+use borrow.Author.Rules.{rules}
 use Rattle.words.specs.Words.{words, long_at, signed}
 use Rattle.range_checks.specs.InRange.{between}
 use Rattle.range_checks.proofs.Laws.{held, not_x, not_y, flat_lies, solid_lies, words_least, words_solid}
@@ -10,17 +13,23 @@ use Rattle.range_checks.proofs.lies_at.Goals.{After-between, After-between-in-Lo
 
 test_x : (c : After-between) → c.between.result ≡ between c.in-Longs.low_x c.in-Longs.high_x (signed (long_at (words c.args.file.now) c.args.first))
 test_x c =
-    held c.in-Longs.low_x c.in-Longs.high_x c.known_signed.result c.in-Longs.known_told-1-own.given.0.1 c.in-Longs.known_told-1-own.given.1.1.1.0.1 c.known_signed.type_inv _
+    let low : SFits w64 c.in-Longs.low_x = search rules in
+    let high : SFits w64 c.in-Longs.high_x = search rules in
+    held c.in-Longs.low_x c.in-Longs.high_x c.known_signed.result low.sfits high.sfits c.known_signed.type_inv _
     c.known_signed.ensures c.between.ensures
 
 test_y : (c : After-between-in-Longs) → c.between-in-Longs.result ≡ between c.in-Longs.low_y c.in-Longs.high_y (signed (long_at (words c.args.file.now) (c.args.first + 2)))
 test_y c =
-    held c.in-Longs.low_y c.in-Longs.high_y c.known_signed-in-Longs.result c.in-Longs.known_told-1-own.given.1.0.1 c.in-Longs.known_told-1-own.given.1.1.1.1.0.1 c.known_signed-in-Longs.type_inv _
+    let low : SFits w64 c.in-Longs.low_y = search rules in
+    let high : SFits w64 c.in-Longs.high_y = search rules in
+    held c.in-Longs.low_y c.in-Longs.high_y c.known_signed-in-Longs.result low.sfits high.sfits c.known_signed-in-Longs.type_inv _
     c.known_signed-in-Longs.ensures c.between-in-Longs.ensures
 
 test_z : (c : After-between-in-Longs-2) → c.between-in-Longs-2.result ≡ between c.in-Longs.low_z c.in-Longs.high_z (signed (long_at (words c.args.file.now) (c.args.first + 4)))
 test_z c =
-    held c.in-Longs.low_z c.in-Longs.high_z c.known_signed-in-Longs-2.result c.in-Longs.known_told-1-own.given.1.1.0.1 c.in-Longs.known_told-1-own.given.1.1.1.1.1.0.1 c.known_signed-in-Longs-2.type_inv _
+    let low : SFits w64 c.in-Longs.low_z = search rules in
+    let high : SFits w64 c.in-Longs.high_z = search rules in
+    held c.in-Longs.low_z c.in-Longs.high_z c.known_signed-in-Longs-2.result low.sfits high.sfits c.known_signed-in-Longs-2.type_inv _
     c.known_signed-in-Longs-2.ensures c.between-in-Longs-2.ensures
 
 pub known_signed-requires : goal.known_signed-requires
