@@ -19,7 +19,7 @@ use Rattle.views.proofs.Starts.{spot_starts}
 use Rattle.order.proofs.Order.{order_apart, file_order}
 use Rattle.text_views.specs.TextViews.{character_bytes}
 use Rattle.text_views.proofs.Inside.{Held, characters_held}
-use Rattle.text_parts.specs.Own.{Apart, Own, CharactersOwn, TextsApart}
+use Rattle.text_parts.specs.Own.{Apart, CharactersOwn, TextsApart}
 
 first_60 : (dim : ℕ) → first_character dim ≡ cond (eqb dim 2) 60 76
 first_60 dim = go (eqb dim 2)

@@ -2,14 +2,9 @@
 -- there (Looks). A refused file is answered as it is judged.
 use mathlib.Core.Path.{◌≡◌, sym, ◌∙◌}
 use mathlib.Core.Bool.{true}
-use Rattle.words.specs.Words.{words}
 use Rattle.limits.specs.Limits.{call_ok}
-use Rattle.files.specs.Reach.{reached_of}
-use Rattle.files.specs.declared.Reached.TheVariants.{Element}
 use Rattle.files.proofs.Laws.{judge_call}
 use Rattle.finder.proofs.Looks.{searched_none, search_refused, arrived_fault, end_may, end_answer, header_may, header_less, header_hit, header_look, header_more}
-use Prim.Native.Nat.{◌-◌, ◌/◌}
-use lib.ListN.{length}
 use Rattle.finder.proofs.search.Goals as goal
 use Rattle.finder.proofs.search.Goals.{At-loop-number}
 
