@@ -1,5 +1,5 @@
 -- The invariant: the triples from number k on decide (`triple_next`); at the end none is left (`triples_end`).
-use Prim.Native.Nat.{◌+◌, ◌-◌, ◌*◌}
+use Prim.Native.Nat.{◌+◌, ◌*◌}
 use mathlib.Core.Path.{refl, sym, ◌∙◌}
 use native.Mathlib.Omega.{arith}
 use Rattle.fields.proofs.Bounds.{and_no, and_on}

@@ -2,7 +2,7 @@
 use mathlib.Core.Path.{ap, ◌∙◌}
 use Prim.Native.Nat.{◌+◌, ◌*◌}
 use native.Mathlib.Omega.{arith}
-use Rattle.words.specs.Words.{put_word, put_long}
+use Rattle.words.specs.Words.{put_long}
 use Rattle.text_fields.proofs.Bounds.{numbers}
 use Rattle.text_writer.proofs.Laid.{size_laid}
 use Rattle.text_writer.proofs.put_size.Goals as goal

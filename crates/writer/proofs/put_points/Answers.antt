@@ -2,7 +2,7 @@
 use lib.IntN.{pos}
 use mir.Syntax.{w32}
 use mir.ValLaws.{to_z-of_z}
-use Prim.Native.Nat.{◌+◌, ◌-◌, ◌*◌}
+use Prim.Native.Nat.{◌+◌, ◌*◌}
 use mathlib.Core.Path.{◌≡◌, refl, ap, ◌∙◌}
 use mathlib.Core.List.{map}
 use native.Mathlib.Omega.{arith}
