@@ -42,9 +42,9 @@ shape_of-out-in-Flat c = simp length-set
 pub returns-in-Flat : goal.returns-in-Flat
 returns-in-Flat c =
     rw (
-      to_z-of_z w64 c.in-Flat.x (record { sfits = c.known_told-1.given.0.1 }),
+      to_z-of_z w64 c.in-Flat.x (record { sfits = c.in-Flat.known_told-1-own.given.0.1 }),
       to_z-of_z w64
-          c.in-Flat.y (record { sfits = c.known_told-1.given.1.0.1 }),
+          c.in-Flat.y (record { sfits = c.in-Flat.known_told-1-own.given.1.0.1 }),
     )
     (answered 3 _ _ c.args.out.now
     (ap point_reply (sym c.point_at.ensures ∙ c.in-Flat.is)) c.if-out-lt3.false)
@@ -55,11 +55,11 @@ shape_of-out-in-Solid c = simp length-set
 pub returns-in-Solid : goal.returns-in-Solid
 returns-in-Solid c =
     rw (
-      to_z-of_z w64 c.in-Solid.x (record { sfits = c.known_told-in-Solid-1.given.0.1 }),
+      to_z-of_z w64 c.in-Solid.x (record { sfits = c.in-Solid.known_told-in-Solid-1-own.given.0.1 }),
       to_z-of_z w64
-          c.in-Solid.y (record { sfits = c.known_told-in-Solid-1.given.1.0.1 }),
+          c.in-Solid.y (record { sfits = c.in-Solid.known_told-in-Solid-1-own.given.1.0.1 }),
       to_z-of_z w64
-          c.in-Solid.z (record { sfits = c.known_told-in-Solid-1.given.1.1.0.1 }),
+          c.in-Solid.z (record { sfits = c.in-Solid.known_told-in-Solid-1-own.given.1.1.0.1 }),
     )
     (answered 3 _ _ c.args.out.now
     (ap point_reply (sym c.point_at.ensures ∙ c.in-Solid.is)) c.if-out-lt3.false)

@@ -23,7 +23,7 @@ overflow_add-result c = let b = field_refused_small _ _ _ _ _ _ (sym c.field_at.
 
 pub returns-in-Read : goal.returns-in-Read
 returns-in-Read c =
-    rw (to_z_pos w64 c.in-Read.first (omega arith), to_z_pos w64 c.in-Read.length (omega arith), to_z-of_z w64 c.in-Read.justification (record { sfits = c.known_told-1.given.1.1.0.1 }))
+    rw (to_z_pos w64 c.in-Read.first (omega arith), to_z_pos w64 c.in-Read.length (omega arith), to_z-of_z w64 c.in-Read.justification (record { sfits = c.in-Read.known_told-1-own.given.1.1.0.1 }))
     (answered 3 _ _ c.args.out.now (ap field_reply (sym c.field_at.ensures ∙ c.in-Read.is)) c.if-out-lt3.false)
 
 pub returns-in-Refused : goal.returns-in-Refused
