@@ -143,7 +143,7 @@ module _ (dim d : ℕ) (r last : Run) (x : Export) (xs : List Export) (out : Lis
 called_ran : (dim : ℕ) (r last : Run) (xs : List Export) → Called dim r xs last → Ran dim r last xs
 called_ran dim r last [] (exports.none _) = record { made = []; pieces = λ p. p; called = calls.none r }
 called_ran dim r last (x ∷ xs) (exports.next _ _ _ d out n file journal index t _ a same rest) =
-    ran_next dim d r last x xs out n file journal index t same (answer_outcome r.session out n file journal index t d x a) (called_ran dim _ last xs rest)
+    ran_next dim d r last x xs out n file journal index t same (answer_outcome r.session out n file journal index t d x a) (called_ran dim (after r x n file journal index t) last xs rest)
 
 -- so what holds of every run of steps holds of the functions' calls
 pub export_run : (P : Run → Type 0) (dim : ℕ) (s : Session) → ((cs : List Call) → PiecesBytes cs → P (run_of dim s cs)) → (xs : List Export) (last : Run) → PiecesBytes (calls_of xs) →

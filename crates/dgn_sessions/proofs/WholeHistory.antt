@@ -95,7 +95,7 @@ module _ (journal : List ℕ) where
       let out : List ℕ = replicate 5 0 in
       let t = sets (replicate 5 0) 0 (record_numbers r e.0) in
       let b = five r e.0 out t (omega arith) refl in
-      let rest = walk_there rs (subst (λ u. Shows journal u rs) (sym b.1) e.2) in
+      let rest = walk_there {used = get_or t 4 0} rs (subst (λ u. Shows journal u rs) (sym b.1) e.2) in
       (take 4 t ∷ rest.0, rest.1, goes_on out t (omega arith) (answered 5 (record_reply journal used) (done (record_numbers r e.0)) out e.1 (omega arith)) rest.2)
 
 ---- every list of calls
