@@ -1,5 +1,4 @@
 -- The loop's invariant: the first k numbers are put. The measure is what is left of them.
-use Prim.Native.Nat.{◌-◌}
 use mathlib.Core.Path.{refl, ◌∙◌}
 use native.Mathlib.Omega.{arith}
 use native.Mathlib.Numerals.{add-one}

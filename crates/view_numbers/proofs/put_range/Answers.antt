@@ -5,6 +5,7 @@ use lib.ListN.{length-set}
 use lib.Seq.{sets}
 use mir.Syntax.{w64}
 use mir.ValLaws.{to_z-of_z}
+use borrow.Author.Rules.{rules}
 use Rattle.view_numbers.specs.Numbers.{range_numbers}
 use Rattle.view_numbers.proofs.Laws.{range_put}
 use Rattle.view_numbers.proofs.put_range.Goals as goal
@@ -37,12 +38,12 @@ shape_of-out-in-Longs c = simp length-set refl
 pub returns-in-Longs : goal.returns-in-Longs
 returns-in-Longs c =
     rw (
-      to_z-of_z w64 c.in-Longs.low_x (record { sfits = c.in-Longs.known_told-1-own.given.0.1 }),
-      to_z-of_z w64 c.in-Longs.low_y (record { sfits = c.in-Longs.known_told-1-own.given.1.0.1 }),
-      to_z-of_z w64 c.in-Longs.low_z (record { sfits = c.in-Longs.known_told-1-own.given.1.1.0.1 }),
-      to_z-of_z w64 c.in-Longs.high_x (record { sfits = c.in-Longs.known_told-1-own.given.1.1.1.0.1 }),
-      to_z-of_z w64 c.in-Longs.high_y (record { sfits = c.in-Longs.known_told-1-own.given.1.1.1.1.0.1 }),
-      to_z-of_z w64 c.in-Longs.high_z (record { sfits = c.in-Longs.known_told-1-own.given.1.1.1.1.1.0.1 }),
+      to_z-of_z w64 c.in-Longs.low_x (search rules),
+      to_z-of_z w64 c.in-Longs.low_y (search rules),
+      to_z-of_z w64 c.in-Longs.low_z (search rules),
+      to_z-of_z w64 c.in-Longs.high_x (search rules),
+      to_z-of_z w64 c.in-Longs.high_y (search rules),
+      to_z-of_z w64 c.in-Longs.high_z (search rules),
     )
     (range_put c.args.out.now c.args.at c.in-Longs.low_x c.in-Longs.low_y c.in-Longs.low_z c.in-Longs.high_x c.in-Longs.high_y c.in-Longs.high_z
     ∙ ap (λ r. sets c.args.out.now c.args.at (range_numbers r)) (sym c.in-Longs.is))

@@ -1,5 +1,4 @@
 -- The loop's invariant: the first k numbers are copied as signed ones. The measure is what is left of them.
-use Prim.Native.Nat.{◌-◌}
 use mathlib.Core.Path.{◌≡◌, refl, ◌∙◌}
 use mathlib.Core.List.{map}
 use native.Mathlib.Omega.{arith}
