@@ -1,5 +1,4 @@
 -- The loop's invariant: so many counted and those from here on are all.
-use Prim.Native.Nat.{◌-◌}
 use mathlib.Core.Path.{sym, ◌∙◌}
 use native.Mathlib.Omega.{arith}
 use Rattle.words.specs.Words.{words}
