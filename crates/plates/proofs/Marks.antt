@@ -1,6 +1,6 @@
 -- A mark of a direct component takes it out of the live ones: the others stand before it or behind its extent, so their words, and the
 -- cell's, are as they were.
-use Prim.Native.Nat.{ℕ, ◌+◌, ◌-◌, ◌≤◌, ◌<◌}
+use Prim.Native.Nat.{ℕ, ◌+◌, ◌≤◌, ◌<◌}
 use mathlib.Core.Path.{◌≡◌, refl, sym, ap, ◌∙◌, subst}
 use mathlib.Core.Bool.{Bool, true, false}
 use mathlib.Core.List.{List, [], ◌∷◌, ◌++◌}
@@ -10,7 +10,7 @@ use native.Mathlib.Omega.{arith}
 use lib.Seq.{ext_get_or}
 use lib.Dec.{eqb}
 use borrow.Author.Tests.{eqb-true, eq-eqb, ne_eqb}
-use Rattle.words.specs.Words.{words, word_at, Below}
+use Rattle.words.specs.Words.{word_at, Below}
 use Rattle.kinds.specs.FirstWord.{type_of, deleted_of}
 use Rattle.kinds.specs.Kinds.{is_cell, name_word}
 use Rattle.headers.specs.Header.{type_at, size_at, sizing_at, extent_words}

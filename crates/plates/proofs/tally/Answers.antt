@@ -1,5 +1,4 @@
 -- The loop's invariant: what is counted and what the rest comes to make up the counts of all; no count is above the place.
-use Prim.Native.Nat.{◌-◌}
 use mathlib.Core.Path.{refl, ap, ◌∙◌}
 use native.Mathlib.Omega.{arith}
 use lib.ListN.{length-set}
