@@ -1,18 +1,17 @@
 -- The ways out of writing an index, and of building one of a file: what is written up to the marker is the file's index.
 use Prim.Native.Nat.{ℕ, ◌*◌, ◌≤◌, ◌<◌}
-use mathlib.Core.Path.{◌≡◌, refl, sym, ap, ◌∙◌}
-use mathlib.Core.Bool.{Bool, true, false, cond, ◌&&◌}
+use mathlib.Core.Path.{◌≡◌, refl, ap, ◌∙◌}
+use mathlib.Core.Bool.{Bool, true, false, cond}
 use mathlib.Core.List.{List}
 use native.Mathlib.Omega.{arith}
 use lib.ListN.{length}
 use lib.Dec.{leb}
-use borrow.Author.Tests.{le-leb, lt-leb, leb-true}
+use borrow.Author.Tests.{le-leb, lt-leb}
 use Rattle.words.specs.Words.{words}
 use Rattle.entries.specs.Entries.{shown}
-use Rattle.sorting.specs.Order.{ordered}
 use Rattle.files.specs.Judge.{judge_of}
 use Rattle.files.specs.declared.Judged.TheVariants as judged
-use Rattle.cells.specs.Index.{entries_of, index_of, index_bytes}
+use Rattle.cells.specs.Index.{index_of, index_bytes}
 use Rattle.cells.proofs.Whole.{judged_cells}
 use Rattle.indexing.specs.declared.Put.{Put}
 use Rattle.indexing.specs.declared.Put.TheVariants as put

@@ -1,5 +1,4 @@
 -- The loop's invariant: the entries stored, and then those of the cells from here on put over what follows, are all; and so the count.
-use Prim.Native.Nat.{◌+◌, ◌-◌}
 use mathlib.Core.Path.{refl, sym, ap, ◌∙◌}
 use mathlib.Core.List.{[], ◌++◌}
 use lib.ListN.{length, take-append-drop}
