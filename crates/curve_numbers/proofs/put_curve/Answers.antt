@@ -5,7 +5,6 @@ use lib.Seq.{sets}
 use Rattle.curve_numbers.specs.Numbers.{curve_numbers, curve_floats}
 use Rattle.curve_numbers.proofs.Laws.{no_numbers, no_floats, both_put}
 use Rattle.curve_numbers.proofs.put_curve.Goals as goal
-use Rattle.curve_numbers.proofs.put_curve.Goals.{After-slice_known-in-Arc-1, After-slice_known-in-Ellipse-1, In-Refused}
 
 pub returns-then-numbers-lt7 : goal.returns-then-numbers-lt7
 returns-then-numbers-lt7 c = let a = c.args in no_numbers a.numbers.now a.at a.floats.now a.from a.curve (omega arith)
@@ -32,10 +31,10 @@ pub put_floats-requires-in-Arc : goal.put_floats-requires-in-Arc
 put_floats-requires-in-Arc c = omega (arith, c.if-floats-lt5.false, c.if-floats-from.false)
 
 pub shape_of-numbers-in-Ellipse : goal.shape_of-numbers-in-Ellipse
-shape_of-numbers-in-Ellipse c = c.put_longs.auto.0
+shape_of-numbers-in-Ellipse c = c.put_longs.auto.numbers
 
 pub shape_of-floats-in-Ellipse : goal.shape_of-floats-in-Ellipse
-shape_of-floats-in-Ellipse c = c.put_floats.auto.0
+shape_of-floats-in-Ellipse c = c.put_floats.auto.floats
 
 pub returns-in-Ellipse : goal.returns-in-Ellipse
 returns-in-Ellipse c =
@@ -46,10 +45,10 @@ returns-in-Ellipse c =
     (c.put_floats.ensures ∙ ap (λ x. sets a.floats.now a.from (curve_floats x)) (sym c.in-Ellipse.is))
 
 pub shape_of-numbers-in-Arc : goal.shape_of-numbers-in-Arc
-shape_of-numbers-in-Arc c = c.put_longs-in-Arc.auto.0
+shape_of-numbers-in-Arc c = c.put_longs-in-Arc.auto.numbers
 
 pub shape_of-floats-in-Arc : goal.shape_of-floats-in-Arc
-shape_of-floats-in-Arc c = c.put_floats-in-Arc.auto.0
+shape_of-floats-in-Arc c = c.put_floats-in-Arc.auto.floats
 
 pub returns-in-Arc : goal.returns-in-Arc
 returns-in-Arc c =

@@ -7,7 +7,7 @@ use Rattle.curve_numbers.specs.Numbers.{origin_floats}
 use Rattle.curve_numbers.proofs.put_floats.Goals as goal
 
 pub shape_of-floats-in-Flat : goal.shape_of-floats-in-Flat
-shape_of-floats-in-Flat c = c.put_five.auto.0
+shape_of-floats-in-Flat c = c.put_five.auto.floats
 
 pub returns-in-Flat : goal.returns-in-Flat
 unfolding of_bits
@@ -16,7 +16,7 @@ returns-in-Flat c =
     c.put_five.ensures ∙ ap (λ o. sets a.floats.now a.at (a.primary ∷ a.secondary ∷ origin_floats o)) (sym c.in-Flat.is)
 
 pub shape_of-floats-in-Solid : goal.shape_of-floats-in-Solid
-shape_of-floats-in-Solid c = c.put_five-in-Solid.auto.0
+shape_of-floats-in-Solid c = c.put_five-in-Solid.auto.floats
 
 pub returns-in-Solid : goal.returns-in-Solid
 returns-in-Solid c =

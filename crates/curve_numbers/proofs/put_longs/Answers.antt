@@ -5,7 +5,7 @@ use Rattle.curve_numbers.specs.Numbers.{long_numbers}
 use Rattle.curve_numbers.proofs.put_longs.Goals as goal
 
 pub shape_of-numbers-in-Flat : goal.shape_of-numbers-in-Flat
-shape_of-numbers-in-Flat c = c.put_seven.auto.0
+shape_of-numbers-in-Flat c = c.put_seven.auto.numbers
 
 pub returns-in-Flat : goal.returns-in-Flat
 returns-in-Flat c =
@@ -13,7 +13,7 @@ returns-in-Flat c =
     c.put_seven.ensures ∙ ap (λ t. sets a.numbers.now a.at (long_numbers a.kind a.start a.sweep t)) (sym c.in-Flat.is)
 
 pub shape_of-numbers-in-Solid : goal.shape_of-numbers-in-Solid
-shape_of-numbers-in-Solid c = c.put_seven-in-Solid.auto.0
+shape_of-numbers-in-Solid c = c.put_seven-in-Solid.auto.numbers
 
 pub returns-in-Solid : goal.returns-in-Solid
 returns-in-Solid c =
