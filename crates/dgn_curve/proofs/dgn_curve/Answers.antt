@@ -27,7 +27,7 @@ overflow_add-result c =
 pub returns-in-Refused : goal.returns-in-Refused
 returns-in-Refused c =
     let a = c.args in
-    replied_as (curve_of a.dim a.file.now a.place) a.numbers.now a.floats.now c.if-numbers-lt7.false c.if-floats-lt5.false _ (ap curve_reply (sym c.curve_at-curve.ensures ∙ c.in-Refused.is))
+    replied_as (curve_of a.dim a.file.now a.place) a.numbers.now a.floats.now c.if-numbers-lt7.false (omega arith) _ (ap curve_reply (sym c.curve_at-curve.ensures ∙ c.in-Refused.is))
 
 pub shape_of-numbers : goal.shape_of-numbers
 shape_of-numbers c = c.put_curve.auto.numbers
@@ -39,4 +39,4 @@ pub returns : goal.returns
 returns c =
     let a = c.args in
     rw (← c.curve_at-curve.ensures)
-    (put_there _ a.numbers.now a.floats.now c.if-numbers-lt7.false c.if-floats-lt5.false _ _ c.in_default.not-Refused c.put_curve.ensures.0 c.put_curve.ensures.1)
+    (put_there _ a.numbers.now a.floats.now c.if-numbers-lt7.false (omega arith) _ _ c.in_default.not-Refused c.put_curve.ensures.0 c.put_curve.ensures.1)

@@ -1,4 +1,5 @@
 -- A slice that is too short leaves all as it was; a number that is no flag is refused; else the session's own step.
+use native.Mathlib.Omega.{arith}
 use mathlib.Core.Path.{refl}
 use mathlib.Core.Option.{none}
 use Rattle.edit_answers.proofs.Sessions.{not_left, bare_stepped, mark_left, mark_not}
@@ -15,5 +16,5 @@ put_edited-requires c = tt
 
 pub returns : goal.returns
 returns c =
-    mark_left _ _ _ _ _ c.mark-answer.result _ _ _ none _ c.if-out-lt2.false c.if-deleted-gt1.false (bare_stepped _ _ _ refl c.mark-answer.ensures)
+    mark_left _ _ _ _ _ c.mark-answer.result _ _ _ none _ c.if-out-lt2.false (omega arith) (bare_stepped _ _ _ refl c.mark-answer.ensures)
     c.put_edited.ensures
