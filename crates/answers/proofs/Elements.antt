@@ -1,7 +1,7 @@
 -- The elements of an accepted file in small numbers: no more than its words, none deeper than 8, each and its header at a
 -- word of the file.
 use Prim.Native.Nat.{ℕ, suc, ◌+◌, ◌%◌, ◌<◌, ◌≤◌}
-use mathlib.Core.Path.{◌≡◌, refl, sym, ap, ◌∙◌, subst}
+use mathlib.Core.Path.{◌≡◌, refl, subst}
 use mathlib.Core.Bool.{Bool, true, false, and-eq-true_iff}
 use mathlib.Core.List.{List, [], ◌∷◌, ◌++◌}
 use mathlib.Core.Option.{Option, none, some}
@@ -15,11 +15,11 @@ use Rattle.headers.specs.Header.{type_at}
 use Rattle.limits.specs.Limits.{dim_ok, size_ok, call_ok}
 use Rattle.files.specs.Judge.{judge_of}
 use Rattle.files.specs.Spots.{Spot, spots_of, first_if, spot_in}
-use Rattle.files.specs.declared.Judged.TheVariants.{Accepted}
 use Rattle.grammar.proofs.Forest.{Forest, nil, node, flat, weight, Wf, spots, length_node}
 use Rattle.grammar.proofs.Stands.{stands_fit}
 use Rattle.grammar.proofs.Whole.{file_tree}
 use Rattle.grammar.proofs.Exact.{accepted_is}
+use Rattle.files.specs.Accepted.{accepted_with}
 
 -- a call on a file has at most 524,288 words
 pub call_words : (dim : ℕ) (s : List ℕ) → call_ok dim s ≡ true → length (words s) ≤ 524288
@@ -75,7 +75,7 @@ module _ (dim b : ℕ) where
       ((record { place = refl; below = here; deep = w.0.deep; header = h }, standing_append b x y i.0 j.0), omega (arith, i.1, j.1))
 
 -- the elements of an accepted file
-module _ (dim : ℕ) (s : List ℕ) (e d m : ℕ) (q : judge_of dim s ≡ Accepted e d m) where
+module _ (dim : ℕ) (s : List ℕ) (e d m : ℕ) (q : judge_of dim s ≡ accepted_with e d m) where
   all_standing : AllStanding (length (words s)) (spots_of dim (words s)) × (length (spots_of dim (words s)) ≤ length (words s))
   all_standing =
       let t = file_tree (accepted_is dim s e d m q).file in

@@ -1,6 +1,6 @@
 -- A refusal of a file, of a call on it by one of its own numbers, or of a call for elements of some types, is small.
 use Prim.Native.Nat.{ℕ, ◌<◌}
-use mathlib.Core.Path.{◌≡◌, refl}
+use mathlib.Core.Path.{◌≡◌, refl, ◌∙◌}
 use mathlib.Core.Logic.{inl, inr}
 use mathlib.Core.Bool.{Bool, true, false}
 use mathlib.Core.List.{List, [], ◌∷◌}
@@ -11,20 +11,21 @@ use Rattle.words.proofs.Laws.{length_words}
 use Rattle.limits.specs.Limits.{call_ok}
 use Rattle.files.specs.Judge.{judge_of}
 use Rattle.files.specs.Refused.{RefusedBy}
-use Rattle.files.specs.declared.Judged.TheVariants.{Refused}
 use Rattle.files.proofs.Laws.{judge_call}
 use Rattle.grammar.specs.FirstFault.{Refusal}
 use Rattle.grammar.proofs.FirstFault.{number_within, refusal_place}
 use Rattle.places.specs.Places.{spotted_at}
 use Rattle.places.specs.declared.Above.{Above}
-use Rattle.places.specs.declared.Spotted.TheVariants as spotted
 use Rattle.places.specs.OfType.{TypeRefused}
 use Rattle.places.proofs.Places.{spotted_inside}
 use Rattle.answers.specs.Answers.{Small}
 use Rattle.answers.proofs.Elements.{call_words}
+use Rattle.places.specs.Spotted.{spotted_with}
+use Rattle.refusals.specs.Refusals.{refused_with}
+use Rattle.refusals.proofs.Laws.{number_is, place_is}
 
 module _ (dim : ℕ) (s : List ℕ) (n p : ℕ) where
-  pub file_small : judge_of dim s ≡ Refused n p → Small n p
+  pub file_small : judge_of dim s ≡ refused_with n p → Small n p
   file_small q = go (call_ok dim s) refl (refusal_place dim s n p q)
     where
       go : (b : Bool) → call_ok dim s ≡ b → Refusal (length (words s)) n p → Small n p
@@ -36,8 +37,8 @@ module _ (dim : ℕ) (s : List ℕ) (n p : ℕ) where
           (omega arith, omega arith, omega arith)
       go false c r =
           let e = judge_call dim s c in
-          let number : 1 ≡ n = cc in
-          let place : 0 ≡ p = cc in
+          let number : 1 ≡ n = number_is (e ∙ q) in
+          let place : 0 ≡ p = place_is (e ∙ q) in
           (omega arith, omega arith, omega arith)
 
   -- 12 or 13 at 0
@@ -55,7 +56,7 @@ module _ (dim : ℕ) (s : List ℕ) (n p : ℕ) where
 
 module _ (dim : ℕ) (s : List ℕ) (at : ℕ) where
   -- an element that is found starts at a small place
-  pub found_small : (end depth : ℕ) (above : Above) → spotted_at dim s at ≡ spotted.At end depth above → at < 524288
+  pub found_small : (end depth : ℕ) (above : Above) → spotted_at dim s at ≡ spotted_with end depth above → at < 524288
   found_small end depth above e =
       let i = spotted_inside dim s at end depth above e in
       let w = call_words dim s i.call in

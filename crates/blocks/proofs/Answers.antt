@@ -1,9 +1,9 @@
 -- What a test of whole bytes says of the call: accepted ones are written where there is room, a bad block is 22.
 use Rattle.std.proofs.Common.{◌≡◌, ℕ, zero, suc, ◌+◌, ◌<◌, ◌≤◌, Bool, true, false, cond, eqb, List, length, drop, sym, refl, ◌∙◌, zero-add, arith, ne_eqb, eqb-true}
 use mathlib.Core.Bool.{and-eq-true_iff}
+use Rattle.refusals.specs.Refusals.{refused_with}
 use Rattle.blocks.specs.Blocks.{good, blocks_in, bad_from, first_bad, flat_of, stored_ok, accepted}
 use Rattle.blocks.specs.Calls.{within, from_blocks}
-use Rattle.blocks.specs.declared.Moved.TheVariants.{Refused}
 
 module _ (s : List ℕ) (e : accepted s ≡ true) where
   tests : (stored_ok (length s) ≡ true) × (eqb (first_bad s) (blocks_in (length s)) ≡ true)
@@ -32,5 +32,5 @@ pub first_within : (s : List ℕ) → first_bad s ≤ blocks_in (length s)
 unfolding first_bad
 first_within s = let b = bad_within (blocks_in (length s)) 0 s in omega arith
 
-pub bad_answer : (s : List ℕ) (room b : ℕ) → stored_ok (length s) ≡ true → first_bad s ≡ b → b < blocks_in (length s) → from_blocks s room ≡ Refused 22 b
+pub bad_answer : (s : List ℕ) (room b : ℕ) → stored_ok (length s) ≡ true → first_bad s ≡ b → b < blocks_in (length s) → from_blocks s room ≡ refused_with 22 b
 bad_answer s room b l e h = rw (l, e, ne_eqb b (blocks_in (length s)) (λ q. omega (arith, q, h))) refl

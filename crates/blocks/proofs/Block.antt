@@ -1,10 +1,9 @@
 -- Laws of one block: the block of a chunk is sound and gives the chunk back; a sound block is that of its chunk.
-use Rattle.std.proofs.Common.{◌≡◌, ℕ, zero, suc, ◌+◌, ◌-◌, ◌*◌, ◌/◌, ◌%◌, ◌<◌, ◌≤◌, Bool, true, false, cond, ◌&&◌, T, eqb, ltb, leb, List, [], ◌∷◌, ◌++◌, length, get_or, take, drop, set, replicate, sym, refl, ap, ◌∙◌, subst, append_assoc, add-zero, zero-add, arith, length-append, length-drop, take-append-drop, length-take, length-take-le, get_or-drop, drop-cons, get_or-take, take-take, take_at, get_or-append-add, take-add, drop_at, eq-eqb, eqb-true, le-leb, leb-true}
+use Rattle.std.proofs.Common.{◌≡◌, ℕ, zero, suc, ◌+◌, ◌-◌, ◌*◌, ◌/◌, ◌%◌, ◌<◌, ◌≤◌, Bool, true, ◌&&◌, eqb, List, [], ◌∷◌, ◌++◌, length, get_or, take, drop, replicate, sym, refl, ap, ◌∙◌, append_assoc, add-zero, zero-add, arith, length-append, length-drop, take-append-drop, length-take-le, get_or-drop, take_at, get_or-append-add, take-add, drop_at, eq-eqb, eqb-true, le-leb, leb-true}
 use mathlib.Core.Bool.{and-eq-true_iff}
 use lib.ListN.{length-replicate}
-use lib.Seq.{take-append-le}
-use Rattle.words.specs.Words.{words, bytes, Below, word_at}
-use Rattle.words.proofs.Laws.{length_words, words_append, words_bytes, words_take, words_drop, word_in}
+use Rattle.words.specs.Words.{words, bytes, Below}
+use Rattle.words.proofs.Laws.{length_words, words_append, words_bytes}
 use Rattle.blocks.specs.Blocks.{sum, completing, padded, closed, block, used, chunk, rest, zeros, sound}
 
 ---- two tests

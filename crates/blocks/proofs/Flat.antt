@@ -1,11 +1,11 @@
 -- The bytes that good blocks hold, block by block.
-use Rattle.std.proofs.Common.{◌≡◌, ℕ, zero, suc, ◌+◌, ◌-◌, ◌*◌, ◌/◌, ◌%◌, ◌<◌, ◌≤◌, Bool, true, false, cond, List, [], ◌∷◌, ◌++◌, length, get_or, take, drop, sym, refl, ap, ◌∙◌, subst, append_assoc, append-nil, zero-add, arith, length-append, length-drop, length-take, get_or-drop, get_or-take, take-take, drop-drop}
+use Rattle.std.proofs.Common.{◌≡◌, ℕ, zero, suc, ◌+◌, ◌-◌, ◌*◌, ◌<◌, ◌≤◌, true, List, ◌++◌, length, get_or, take, drop, sym, refl, ap, ◌∙◌, subst, append_assoc, append-nil, zero-add, arith, length-append, length-drop, length-take, get_or-drop, get_or-take, take-take, drop-drop}
 use Rattle.words.specs.Words.{words, word_at, over}
 use Rattle.words.proofs.Laws.{words_take, words_drop}
 use Rattle.words.proofs.Over.{over_over}
-use Rattle.blocks.specs.Blocks.{used, chunk, good, most, bad_from, flat_from}
+use Rattle.blocks.specs.Blocks.{used, chunk, good, bad_from, flat_from}
 use Rattle.copies.specs.Copies.{copied}
-use Rattle.blocks.proofs.Block.{Sound, length_chunk}
+use Rattle.blocks.proofs.Block.{length_chunk}
 use Rattle.copies.proofs.Copies.{copied_fits}
 use Rattle.blocks.proofs.Journal.{good_sound, bad_next, most_small, take_short}
 

@@ -2,9 +2,9 @@
 use Rattle.std.proofs.Common.{◌≡◌, ℕ, zero, suc, ◌+◌, ◌-◌, ◌*◌, ◌/◌, ◌%◌, ◌<◌, ◌≤◌, true, List, [], ◌∷◌, ◌++◌, length, take, drop, sym, refl, ap, ◌∙◌, subst, append_assoc, append-nil, zero-add, arith, length-append, length-drop, length-take-le, take_all, take-take, drop_at}
 use lib.Seq.{take-append-le, take-append-add, drop-append-le}
 use Rattle.limits.specs.Limits.{size_ok}
+use Rattle.refusals.specs.Refusals.{refused_with}
 use Rattle.blocks.specs.Blocks.{block, blocks_for, stored_from, stored, used, accepted}
 use Rattle.blocks.specs.Calls.{from_blocks}
-use Rattle.blocks.specs.declared.Moved.TheVariants.{Refused}
 use Rattle.blocks.specs.Promises.{CutBetween, FullBlocks, Swapped, PartFullMoved}
 use Rattle.blocks.proofs.Block.{length_block, block_used}
 use Rattle.blocks.proofs.Journal.{length_stored, take_short, flat_ok, flat_parts, stored_accepted, journal_back}
@@ -151,4 +151,4 @@ part_full_moved a b c room x y some z w ok =
     let room_left = stored_ok_lem (length ((stored a ++ block c) ++ stored b)) (omega arith) (omega arith) in
     let place : length (stored a ++ block c) / 512 - 1 ≡ length a / 508 = omega arith in
     let bad = behind_part_full (stored a ++ block c) (stored b) room good (omega arith) u (omega arith) room_left in
-    ap (λ t. from_blocks t room) (sym (append_assoc (stored a) (block c) (stored b))) ∙ bad ∙ ap (Refused 22) place
+    ap (λ t. from_blocks t room) (sym (append_assoc (stored a) (block c) (stored b))) ∙ bad ∙ ap (refused_with 22) place

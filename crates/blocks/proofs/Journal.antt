@@ -1,5 +1,5 @@
 -- Laws of a journal in blocks: the two ways undo each other, and what is accepted is what is stored.
-use Rattle.std.proofs.Common.{◌≡◌, ℕ, zero, suc, ◌+◌, ◌-◌, ◌*◌, ◌/◌, ◌%◌, ◌<◌, ◌≤◌, Bool, true, false, cond, ◌&&◌, eqb, ltb, leb, List, [], ◌∷◌, ◌++◌, length, take, drop, sym, refl, ap, ◌∙◌, subst, append-nil, zero-add, arith, length-append, length-drop, take-append-drop, drop_of_length-le, length-take, take_all, take_at, drop_at, ltb-false, ltb-true, eq-eqb, eqb-true, le-leb, leb-true}
+use Rattle.std.proofs.Common.{◌≡◌, ℕ, zero, suc, ◌+◌, ◌-◌, ◌*◌, ◌%◌, ◌<◌, ◌≤◌, Bool, true, false, cond, eqb, ltb, leb, List, [], ◌∷◌, ◌++◌, length, take, drop, sym, refl, ap, ◌∙◌, subst, append-nil, zero-add, arith, length-append, length-drop, take-append-drop, drop_of_length-le, length-take, take_all, take_at, drop_at, ltb-false, ltb-true, eq-eqb, eqb-true, le-leb, leb-true}
 use mathlib.Core.Bool.{and-eq-true_iff}
 use Rattle.words.specs.Words.{Below}
 use Rattle.limits.specs.Limits.{size_ok}

@@ -2,10 +2,10 @@
 use Rattle.std.proofs.Common.{◌≡◌, ℕ, zero, suc, ◌+◌, ◌*◌, ◌%◌, ◌<◌, ◌≤◌, Bool, true, false, cond, eqb, leb, List, ◌++◌, length, take, drop, sym, refl, ap, ◌∙◌, arith, length-append, length-drop, length-take, take_at, drop_at, leb-false, leb-true}
 use mathlib.Core.Bool.{and-false}
 use borrow.Author.Tests.{lt-leb}
+use Rattle.refusals.specs.Refusals.{refused_with}
 use Rattle.blocks.specs.Blocks.{block, stored_from, stored, used, fewest, most, good, blocks_in, bad_from, first_bad}
 use Rattle.blocks.specs.Calls.{from_blocks}
 use Rattle.blocks.specs.Promises.{AboveLimit, JoinedTooLong}
-use Rattle.blocks.specs.declared.Moved.TheVariants.{Refused}
 use Rattle.blocks.proofs.Block.{length_block, block_used, block_sound}
 use Rattle.blocks.proofs.Journal.{take_short, fewest_le, most_le, most_is, good_is, length_stored_from, length_stored, for_is, for_low, for_in}
 use Rattle.blocks.proofs.Answers.{bad_answer}
@@ -39,7 +39,7 @@ above (suc n) k j e a b =
     let i = above n (suc k) (drop 508 j) (omega arith) (omega arith) (omega arith) in
     rw (g, d) i
 
-last_above : (j : List ℕ) (room : ℕ) → 1048576 < length j → length j ≤ 508 * 2065 → from_blocks (stored j) room ≡ Refused 22 2064
+last_above : (j : List ℕ) (room : ℕ) → 1048576 < length j → length j ≤ 508 * 2065 → from_blocks (stored j) room ≡ refused_with 22 2064
 unfolding first_bad stored
 last_above j room a b =
     let n = for_is 2065 (length j) b (omega arith) in
@@ -49,16 +49,16 @@ last_above j room a b =
     ap (λ i. bad_from i 0 (stored j)) blocks ∙ ap (λ i. bad_from 2065 0 (stored_from i j)) n ∙ above 2064 0 j (omega arith) (omega arith) b in
     bad_answer (stored j) room 2064 (stored_ok_lem (length (stored j)) (omega arith) (omega arith)) bad (omega arith)
 
-more_above : (j : List ℕ) (room : ℕ) → 508 * 2065 < length j → from_blocks (stored j) room ≡ Refused 1 0
+more_above : (j : List ℕ) (room : ℕ) → 508 * 2065 < length j → from_blocks (stored j) room ≡ refused_with 1 0
 more_above j room a =
     let l = length_stored j in
     let n = for_low (length j) in
     rw (lt-leb (length (stored j)) 1057280 (omega arith), and-false (eqb (length (stored j) % 2) 0)) refl
 
-too_long : (j : List ℕ) (room : ℕ) → 1048576 < length j → from_blocks (stored j) room ≡ cond (leb (length j) (508 * 2065)) (Refused 22 2064) (Refused 1 0)
+too_long : (j : List ℕ) (room : ℕ) → 1048576 < length j → from_blocks (stored j) room ≡ cond (leb (length j) (508 * 2065)) (refused_with 22 2064) (refused_with 1 0)
 too_long j room a = go (leb (length j) (508 * 2065)) refl
   where
-    go : (b : Bool) → leb (length j) (508 * 2065) ≡ b → from_blocks (stored j) room ≡ cond b (Refused 22 2064) (Refused 1 0)
+    go : (b : Bool) → leb (length j) (508 * 2065) ≡ b → from_blocks (stored j) room ≡ cond b (refused_with 22 2064) (refused_with 1 0)
     go true e = last_above j room a (leb-true (length j) (508 * 2065) e)
     go false e = more_above j room (leb-false (length j) (508 * 2065) e)
 

@@ -1,10 +1,10 @@
 -- The loops over blocks: what stands after k blocks, and what is left to judge.
-use Rattle.std.proofs.Common.{◌≡◌, ℕ, zero, suc, ◌+◌, ◌-◌, ◌*◌, ◌/◌, ◌%◌, ◌<◌, ◌≤◌, Bool, true, false, cond, List, [], ◌∷◌, ◌++◌, length, get_or, take, drop, sym, refl, ap, ◌∙◌, subst, append_assoc, append-nil, zero-add, arith, length-drop, length-take, length-take-le, take_all, drop-drop}
-use Rattle.words.specs.Words.{words, word_at, over}
+use Rattle.std.proofs.Common.{◌≡◌, ℕ, zero, suc, ◌+◌, ◌-◌, ◌*◌, ◌<◌, ◌≤◌, Bool, true, false, cond, List, ◌++◌, length, take, drop, sym, refl, ap, ◌∙◌, append_assoc, append-nil, arith, length-drop, length-take, take_all, drop-drop}
+use Rattle.words.specs.Words.{over}
 use borrow.Rule.Slice.PartMut.{put_mid}
-use Rattle.words.proofs.Over.{over_over, length_over}
-use Rattle.blocks.specs.Blocks.{block, blocks_for, stored_from, sound, fewest, most, good, blocks_in, bad_from, first_bad, flat_from}
-use Rattle.blocks.proofs.Block.{Sound, length_block}
+use Rattle.words.proofs.Over.{over_over}
+use Rattle.blocks.specs.Blocks.{block, blocks_for, stored_from, sound, fewest, most, good, blocks_in, bad_from, first_bad}
+use Rattle.blocks.proofs.Block.{length_block}
 use Rattle.blocks.proofs.Turns.{not_sound}
 use Rattle.blocks.proofs.Journal.{length_stored_from, take_short}
 
@@ -80,20 +80,18 @@ put_mid_lem s x a l =
 
 -- one more block stands behind the k that stand
 pub fill_turn : (s0 s j x : List ℕ) (k n : ℕ) → s ≡ over s0 0 (stored_from k j) → n ≡ blocks_for (length j) → k < n → 512 * n ≤ length s0 →
-    length s ≡ length s0 → x ≡ block (take 508 (take (length j - 508 * k) (drop (508 * k) j))) →
-    (length (put_mid (512 * k) (512 * k + 512 - 512 * k) s x) ≡ length s0) × (put_mid (512 * k) (512 * k + 512 - 512 * k) s x ≡ over s0 0 (stored_from (suc k) j))
-fill_turn s0 s j x k n e b h l m ex =
+    x ≡ block (take 508 (take (length j - 508 * k) (drop (508 * k) j))) →
+    put_mid (512 * k) (512 * k + 512 - 512 * k) s x ≡ over s0 0 (stored_from (suc k) j)
+fill_turn s0 s j x k n e b h l ex =
     let d = length-drop (508 * k) j in
     let t : take (length j - 508 * k) (drop (508 * k) j) ≡ drop (508 * k) j = take_all (length j - 508 * k) (drop (508 * k) j) (omega arith) in
     let ex2 : x ≡ block (take 508 (drop (508 * k) j)) = ex ∙ ap (λ r. block (take 508 r)) t in
     let lx : length x ≡ 512 = ap length ex2 ∙ length_block (take 508 (drop (508 * k) j)) (take_short 508 (drop (508 * k) j)) in
     let lk = length_stored_from k j in
-    let p : put_mid (512 * k) (512 * k + 512 - 512 * k) s x ≡ over s (512 * k) x = put_mid_lem s x (512 * k) lx in
-    let o : over s (512 * k) x ≡ over s0 0 (stored_from (suc k) j) =
-    ap (λ r. over r (512 * k) x) e
+    put_mid_lem s x (512 * k) lx
+    ∙ ap (λ r. over r (512 * k) x) e
     ∙ over_over s0 0 (stored_from k j) (512 * k) x (omega arith) (omega arith)
-    ∙ ap (over s0 0) (ap (λ r. stored_from k j ++ r) ex2 ∙ sym (stored_snoc k j)) in
-    (ap length p ∙ length_over s (512 * k) x (omega arith) ∙ m, p ∙ o)
+    ∙ ap (over s0 0) (ap (λ r. stored_from k j ++ r) ex2 ∙ sym (stored_snoc k j))
 
 pub mid_length : (s : List ℕ) (a : ℕ) → a + 512 ≤ length s → length (take (a + 512 - a) (drop a s)) ≡ 512
 mid_length s a h = let d = length-drop a s in let t = length-take (a + 512 - a) (drop a s) in omega arith

@@ -1,13 +1,13 @@
 -- What the code's turns and ways out leave, in the definitions' words.
-use Rattle.std.proofs.Common.{◌≡◌, ℕ, zero, suc, ◌+◌, ◌-◌, ◌*◌, ◌/◌, ◌%◌, ◌^◌, ◌<◌, ◌≤◌, Bool, true, false, cond, not, ◌&&◌, T, eqb, ltb, leb, List, [], ◌∷◌, ◌++◌, length, get_or, take, drop, set, replicate, sym, refl, ap, ◌∙◌, subst, zero-add, arith, length-append, length-drop, drop_of_length-le, take_all, drop-cons, take-suc, take_at, le-ltb, lt-ltb, eq-eqb, ne_eqb, le-leb}
+use Rattle.std.proofs.Common.{◌≡◌, ℕ, zero, suc, ◌+◌, ◌-◌, ◌/◌, ◌%◌, ◌<◌, ◌≤◌, Bool, true, false, T, eqb, List, [], ◌∷◌, ◌++◌, length, get_or, take, drop, set, replicate, sym, refl, ap, ◌∙◌, subst, zero-add, arith, length-append, length-drop, take_all, take-suc, take_at, le-ltb, lt-ltb, eq-eqb, le-leb}
 use Rattle.words.specs.Words.{words, bytes, word_at, put_word, over}
 use Rattle.words.proofs.Laws.{length_words, put_in}
 use Rattle.words.proofs.Over.{length_over, over_over}
-use Rattle.blocks.specs.Blocks.{sum, completing, padded, closed, block, zeros, used, rest, sound, fewest, most}
 use Rattle.copies.specs.Copies.{copied, cleared}
-use Rattle.blocks.proofs.Block.{sum_append, and-true, Sound, sound_is, length_padded, four}
 use Rattle.copies.proofs.Copies.{copied_fits}
 use Rattle.copies.proofs.Clears.{cleared_in}
+use Rattle.blocks.specs.Blocks.{sum, completing, padded, closed, block, zeros, used, rest, sound, fewest, most}
+use Rattle.blocks.proofs.Block.{sum_append, Sound, sound_is, length_padded, four}
 
 pub sum_turn : (ws : List ℕ) (i t w r : ℕ) → i < length ws → t ≡ sum (take i ws) % 65536 → w ≡ get_or ws i 0 → r ≡ (t + w) % 65536 →
     r ≡ sum (take (suc i) ws) % 65536
@@ -17,15 +17,6 @@ sum_turn ws i t w r h a b c =
 
 pub sum_end : (s : List ℕ) (i t : ℕ) → length s / 2 ≤ i → t ≡ sum (take i (words s)) % 65536 → t ≡ sum (words s) % 65536
 sum_end s i t h e = let l = length_words s in e ∙ rw (take_all i (words s) (omega arith)) refl
-
-pub zeros_turn : (l : List ℕ) (i : ℕ) → i < length l → zeros l ≡ zeros (drop i l) → get_or l i 0 ≡ 0 → zeros l ≡ zeros (drop (suc i) l)
-zeros_turn l i h e z = e ∙ ap zeros (drop-cons l i 0 h) ∙ rw z refl
-
-pub zeros_not : (l : List ℕ) (i : ℕ) → i < length l → zeros l ≡ zeros (drop i l) → (get_or l i 0 ≡ 0 → ⊥) → false ≡ zeros l
-zeros_not l i h e z = sym (e ∙ ap zeros (drop-cons l i 0 h) ∙ rw (ne_eqb (get_or l i 0) 0 z) refl)
-
-pub zeros_end : (l : List ℕ) (i : ℕ) → length l ≤ i → zeros l ≡ zeros (drop i l) → true ≡ zeros l
-zeros_end l i h e = sym (e ∙ ap zeros (drop_of_length-le l h))
 
 pub not_sound : (least most : ℕ) (b : List ℕ) → (Sound least most b → ⊥) → false ≡ sound least most b
 not_sound least most b f = go (sound least most b) refl

@@ -8,16 +8,15 @@ ghost use Rattle.words.specs.Words.{words, over};
 ghost use Rattle.blocks.specs.Blocks.{sum, zeros, sound, fewest, most, good, block, stored_from, stored, flat_from, flat_of, blocks_for, blocks_in, bad_from, first_bad};
 ghost use Rattle.blocks.specs.Calls.{to_blocks, from_blocks, Moves};
 
+use refusals::Refusal;
+
 // The sum of the words, in 16 bits.
 pub fn sum_words(b: &[u8]) -> u16
     ensures { result ≡ sum (words b.now) % 65536 }
 {
-    let n = b.len() / 2;
     let mut t: u16 = 0;
-    let mut i = 0;
-    while i < n {
+    for i in 0..b.len() / 2 {
         t = std::num::wrapping_add_u16(t, words::word(b, i) as u16);
-        i += 1;
     }
     t
 }
@@ -26,14 +25,7 @@ pub fn sum_words(b: &[u8]) -> u16
 pub fn all_zero(b: &[u8]) -> bool
     ensures { result ≡ zeros b.now }
 {
-    let mut i = 0;
-    while i < b.len() {
-        if b[i] != 0 {
-            return false;
-        }
-        i += 1;
-    }
-    true
+    b.iter().all(|&x| x == 0)
 }
 
 // The bytes are a block that uses at least `least` and at most `most` of its bytes.
@@ -113,19 +105,10 @@ fn fill(s: &mut [u8], j: &[u8], n: usize)
     requires { (n ≡ blocks_for (length j.now)) × (512 * n ≤ length s.old) }
     ensures { s.new ≡ over s.old 0 (stored_from n j.now) }
 {
-    let mut k = 0;
-    while k < n {
+    for k in 0..n {
         let at = 512 * k;
         put_first(&mut s[at..at + 512], &j[508 * k..]);
-        k += 1;
     }
-}
-
-// How many bytes were written, or why none were.
-#[derive(Clone, Copy)]
-pub enum Moved {
-    Written { bytes: usize },
-    Refused { number: usize, place: usize },
 }
 
 // How many blocks hold len bytes of a journal: a division by 508 as a multiplication and a shift.
@@ -137,25 +120,25 @@ fn blocks_for(len: usize) -> usize
 }
 
 // A journal's bytes to blocks.
-pub fn to_blocks(journal: &[u8], out: &mut [u8]) -> Moved
+pub fn to_blocks(journal: &[u8], out: &mut [u8]) -> Result<usize, Refusal>
     ensures { Moves (to_blocks journal.now (length out.old)) (stored journal.now) out.old result out.new }
 {
     let len = journal.len();
     if !limits::size_ok(len) {
-        return Moved::Refused {
+        return Err(Refusal {
             number: 1,
             place: 0,
-        };
+        });
     }
     let n = blocks_for(len);
     if out.len() < 512 * n {
-        return Moved::Refused {
+        return Err(Refusal {
             number: 15,
             place: 0,
-        };
+        });
     }
     fill(out, journal, n);
-    Moved::Written { bytes: 512 * n }
+    Ok(512 * n)
 }
 
 // The bytes from block k on begin with a good block.
@@ -176,12 +159,10 @@ fn first_bad(s: &[u8], n: usize) -> usize
     requires { n ≡ blocks_in (length s.now) }
     ensures { result ≡ first_bad s.now }
 {
-    let mut k = 0;
-    while k < n {
+    for k in 0..n {
         if !is_good(s, k) {
             return k;
         }
-        k += 1;
     }
     n
 }
@@ -192,10 +173,8 @@ fn flat_size(s: &[u8], n: usize) -> usize
     ensures { result ≡ length (flat_from n s.now) }
 {
     let mut t = 0;
-    let mut k = 0;
-    while k < n {
+    for k in 0..n {
         t += words::word(s, 256 * k + 254);
-        k += 1;
     }
     t
 }
@@ -206,48 +185,46 @@ fn gather(out: &mut [u8], s: &[u8], n: usize)
     ensures { out.new ≡ over out.old 0 (flat_from n s.now) }
 {
     let mut t = 0;
-    let mut k = 0;
-    while k < n {
+    for k in 0..n {
         let u = words::word(s, 256 * k + 254);
         let at = 512 * k;
         copies::copy_in(out, t, &s[at..at + u]);
         t += u;
-        k += 1;
     }
 }
 
 // Blocks back to a journal's bytes.
-pub fn from_blocks(s: &[u8], out: &mut [u8]) -> Moved
+pub fn from_blocks(s: &[u8], out: &mut [u8]) -> Result<usize, Refusal>
     ensures { Moves (from_blocks s.now (length out.old)) (flat_of s.now) out.old result out.new }
 {
     let len = s.len();
     if len % 2 != 0 {
-        return Moved::Refused {
+        return Err(Refusal {
             number: 1,
             place: 0,
-        };
+        });
     }
     if 1057280 < len {
-        return Moved::Refused {
+        return Err(Refusal {
             number: 1,
             place: 0,
-        };
+        });
     }
     let n = (len + 511) / 512;
     let bad = first_bad(s, n);
     if bad != n {
-        return Moved::Refused {
+        return Err(Refusal {
             number: 22,
             place: bad,
-        };
+        });
     }
     let size = flat_size(s, n);
     if out.len() < size {
-        return Moved::Refused {
+        return Err(Refusal {
             number: 15,
             place: 0,
-        };
+        });
     }
     gather(out, s, n);
-    Moved::Written { bytes: size }
+    Ok(size)
 }

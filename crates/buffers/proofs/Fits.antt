@@ -6,7 +6,7 @@ use mathlib.Core.Bool.{Bool, true, false, cond, ◌&&◌, and-eq-true_iff}
 use lib.ListN.{length}
 use lib.Dec.{eqb, leb}
 use borrow.Author.Tests.{eq-eqb, le-leb, eqb-true, leb-true}
-use Rattle.words.specs.Words.{words, over}
+use Rattle.words.specs.Words.{words}
 use Rattle.edits.specs.Edits.{splice, cut}
 use Rattle.edits.specs.Calls.{used_words, stored}
 use Rattle.buffers.specs.Files.{insert_fits, words_inserted, remove_fits, words_removed}

@@ -4,34 +4,8 @@
 
 #![tactic(auto)]
 
-ghost use Rattle.std.specs.Prelude.{◌≡◌, ◌+◌, ◌≤◌, length};
-ghost use Rattle.std.proofs.Math.Seq.{slice};
-ghost use Rattle.words.specs.Words.{over};
+ghost use Rattle.std.specs.Prelude.{◌≡◌};
 ghost use Rattle.buffers.specs.Files.{words_inserted, words_removed};
-
-// The bytes from `at` to `used` move up by n.
-fn move_up(s: &mut [u8], used: usize, at: usize, n: usize)
-    requires { (at ≤ used) × (used + n ≤ length s.old) }
-    ensures { s.new ≡ over s.old (at + n) (slice at used s.old) }
-{
-    let mut k = used;
-    while at < k {
-        k -= 1;
-        s[k + n] = s[k];
-    }
-}
-
-// The bytes from `at + n` to `used` move down by n.
-fn move_down(s: &mut [u8], used: usize, at: usize, n: usize)
-    requires { (at + n ≤ used) × (used ≤ length s.old) }
-    ensures { s.new ≡ over s.old at (slice (at + n) used s.old) }
-{
-    let mut k = at + n;
-    while k < used {
-        s[k - n] = s[k];
-        k += 1;
-    }
-}
 
 // The piece's words go in at a place of the used words, and what stands from there on moves up.
 pub fn insert_words(file: &mut [u8], used: usize, place: usize, piece: &[u8])
@@ -54,7 +28,7 @@ pub fn insert_words(file: &mut [u8], used: usize, place: usize, piece: &[u8])
         return;
     }
     let at = 2 * place;
-    move_up(file, used, at, n);
+    file.copy_within(at..used, at + n);
     copies::copy_in(file, at, piece);
 }
 
@@ -75,6 +49,7 @@ pub fn remove_words(file: &mut [u8], used: usize, place: usize, n: usize)
         return;
     }
     let freed = 2 * n;
-    move_down(file, used, 2 * place, freed);
+    let at = 2 * place;
+    file.copy_within(at + freed..used, at);
     copies::clear(file, used - freed, used);
 }

@@ -6,13 +6,13 @@ use mathlib.Core.Option.{none}
 use native.Mathlib.Omega.{arith}
 use Rattle.words.specs.Words.{words}
 use Rattle.files.specs.Judge.{judge_of}
-use Rattle.files.specs.declared.Judged.TheVariants as judged
 use Rattle.grammar.proofs.Exact.{accepted_is}
 use Rattle.grammar.proofs.Whole.{file_tree}
 use Rattle.cells.specs.Cells.{cells_in, cells_of, cells_between}
 use Rattle.cells.proofs.Trees.{spots_cells, between_cells}
+use Rattle.files.specs.Accepted.{accepted_with}
 
-pub judged_cells : (dim : ℕ) (s : List ℕ) (e d m : ℕ) → judge_of dim s ≡ judged.Accepted e d m → cells_of dim (words s) ≡ cells_between (words s) 0 m
+pub judged_cells : (dim : ℕ) (s : List ℕ) (e d m : ℕ) → judge_of dim s ≡ accepted_with e d m → cells_of dim (words s) ≡ cells_between (words s) 0 m
 unfolding cells_of
 judged_cells dim s e d m q =
     let t = file_tree (accepted_is dim s e d m q).file in

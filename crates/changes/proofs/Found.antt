@@ -12,7 +12,6 @@ use Rattle.files.specs.Spots.{Spot, spots_of, spot_in}
 use Rattle.grammar.proofs.Forest.{Forest, flat}
 use Rattle.places.specs.declared.Above.{Above}
 use Rattle.places.specs.declared.Above.TheVariants.{Top, Under}
-use Rattle.places.specs.declared.Spotted.TheVariants.{At}
 use Rattle.places.specs.Places.{above_of, found_by}
 use Rattle.edits.specs.Edits.{around, down_to, extent_in, raise}
 use Rattle.edits.specs.Allowed.{fine, gap_ok, room_fault}
@@ -24,6 +23,9 @@ use Rattle.totals.proofs.Paths.{element_at, around_header, gap_header}
 use Rattle.totals.proofs.Totals.{totals_is, totals_around}
 use Rattle.opening.specs.Opening.{header_of}
 use Rattle.changes.specs.Changes.{totals_under}
+use Rattle.places.specs.Spotted.{spotted_with}
+use Rattle.places.specs.declared.Spotted.{Spotted}
+use Rattle.refusals.proofs.Laws.{given_not_refused, given_is}
 
 ---- a place where a piece may go in
 
@@ -63,15 +65,14 @@ above_header : (o : Option ℕ) → o ≡ header_of (above_of o)
 above_header none = refl
 above_header (some h) = refl
 
-pub found_at : (xs : List Spot) (p end depth : ℕ) (above : Above) → found_by (spot_in xs p) ≡ At end depth above → Found xs p end above
+pub found_at : (xs : List Spot) (p end depth : ℕ) (above : Above) → found_by (spot_in xs p) ≡ spotted_with end depth above → Found xs p end above
 found_at xs p end depth above e = go (spot_in xs p) refl e
   where
-    go : (o : Option Spot) → spot_in xs p ≡ o → found_by o ≡ At end depth above → Found xs p end above
-    go none i f = let z : ◌≡◌ {A = ℕ} 0 1 = cc in absurd (omega arith)
+    go : (o : Option Spot) → spot_in xs p ≡ o → found_by o ≡ spotted_with end depth above → Found xs p end above
+    go none i f = absurd (given_not_refused f)
     go (some x) i f =
-        let q : x.end ≡ end = cc in
-        let r : above_of x.header ≡ above = cc in
-        record { spot = x; found = i; ends = q; header = above_header x.header ∙ ap header_of r }
+        let same = given_is f in
+        record { spot = x; found = i; ends = ap (λ (y : Spotted). y.end) same; header = above_header x.header ∙ ap (λ (y : Spotted). header_of y.above) same }
 
 module _ (dim : ℕ) (s : List ℕ) (p end : ℕ) (above : Above) (a : Accepted dim (words s)) (f : Found (spots_of dim (words s)) p end above) where
   -- its extent's words

@@ -12,7 +12,6 @@ use Rattle.words.specs.Words.{words, Below}
 use Rattle.words.proofs.Laws.{length_words, words_below}
 use Rattle.files.specs.Spots.{spots_of, spot_in}
 use Rattle.places.specs.declared.Above.{Above}
-use Rattle.places.specs.declared.Spotted.TheVariants.{At}
 use Rattle.places.specs.Descent.{locate_of}
 use Rattle.places.proofs.Places.{spot_inside}
 use Rattle.edits.proofs.Lengths.{length_raise, length_mark}
@@ -40,6 +39,7 @@ use Rattle.changes.specs.Changes.{totals_under, used_totals, piece_in, extent_ou
 use Rattle.changes.proofs.Steps.{piece_within, extent_within}
 use Rattle.changes.proofs.Kept.{below_under, flags_stored, name_stored, totals_stored}
 use Rattle.changes.proofs.Found.{gap_within, raised_under, Found, found_at, found_extent, lowered_under}
+use Rattle.places.specs.Spotted.{spotted_with}
 
 module _ (dim : ℕ) (F : List ℕ) (used m : ℕ) (below : Below 256 F) (even : used % 2 ≡ 0) (within : used ≤ length F) (accepted : AcceptedUsed dim (take used F) m) where
   ---- the used bytes and words
@@ -65,7 +65,7 @@ module _ (dim : ℕ) (F : List ℕ) (used m : ℕ) (below : Below 256 F) (even :
   unfolding apply
   restore_length p x = ap (λ n. 2 * n) (length_with (extent_places (spots_of dim (used_words F used)) p) (word_flags x) (used_words F used)) ∙ part_words
 
-  module _ (p end depth : ℕ) (above : Above) (located : locate_of (used_words F used) p m ≡ At end depth above) where
+  module _ (p end depth : ℕ) (above : Above) (located : locate_of (used_words F used) p m ≡ spotted_with end depth above) where
     -- the elements of the extent
     pub extent_found : extent_places (spots_of dim (used_words F used)) p ≡ places_in (used_words F used) p end
     extent_found = found_places dim (take used F) m accepted part_below p end depth above located
@@ -142,7 +142,7 @@ module _ (dim : ℕ) (F : List ℕ) (used m : ℕ) (below : Below 256 F) (even :
 
   ---- remove
 
-  module _ (p end depth : ℕ) (above : Above) (located : locate_of (used_words F used) p m ≡ At end depth above) where
+  module _ (p end depth : ℕ) (above : Above) (located : locate_of (used_words F used) p m ≡ spotted_with end depth above) where
     found : Found (spots_of dim (used_words F used)) p end above
     found = found_at (spots_of dim (used_words F used)) p end depth above (sym (found_is dim (take used F) m accepted p) ∙ located)
 

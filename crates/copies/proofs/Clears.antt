@@ -1,29 +1,15 @@
--- Each turn of clearing writes one zero more; where the bytes do not stand in the buffer it is as it was.
-use Prim.Native.Nat.{ℕ, zero, suc, ◌+◌, ◌-◌, ◌≤◌, ◌<◌}
-use mathlib.Core.Path.{◌≡◌, refl, sym, ap, ◌∙◌}
-use mathlib.Core.List.{List, [], ◌∷◌, ◌++◌, append-nil}
+-- What clearing leaves: zeros over the buffer's bytes, and the buffer as it was where the bytes do not stand in it.
+use Prim.Native.Nat.{ℕ, ◌+◌, ◌-◌, ◌≤◌, ◌<◌}
+use mathlib.Core.Path.{◌≡◌, refl, sym, ◌∙◌}
+use mathlib.Core.List.{List, [], ◌++◌, append-nil}
 use mathlib.Core.Bool.{Bool, true, false, cond}
 use native.Mathlib.Omega.{arith}
-use lib.ListN.{length, take, set, replicate, length-replicate, drop_of_length-le}
+use lib.ListN.{length, take, replicate, length-replicate, drop_of_length-le}
 use lib.Dec.{leb}
 use Rattle.words.specs.Words.{over}
-use Rattle.words.proofs.Over.{over_nil, over_snoc}
+use Rattle.words.proofs.Over.{over_nil}
 use Rattle.copies.specs.Copies.{copied, cleared}
 use Rattle.copies.proofs.Copies.{copied_fits, copied_not}
-
-replicate_snoc : (n v : ℕ) → replicate (suc n) v ≡ replicate n v ++ (v ∷ [])
-replicate_snoc zero v = refl
-replicate_snoc (suc n) v = ap (λ l. v ∷ l) (replicate_snoc n v)
-
-pub zero_turn : (d s : List ℕ) (at k : ℕ) → s ≡ over d at (replicate (k - at) 0) → at ≤ k → k < length d
-    → set s k 0 ≡ over d at (replicate (suc k - at) 0)
-zero_turn d s at k e h l =
-    let m : suc k - at ≡ suc (k - at) = omega arith in
-    let r = length-replicate {A = ℕ} (k - at) 0 in
-    rw (e, m, over_snoc d at (replicate (k - at) 0) k 0 (omega arith) l, replicate_snoc (k - at) 0) refl
-
-pub zero_start : (s : List ℕ) (a : ℕ) → s ≡ over s a (replicate (a - a) 0)
-zero_start s a = let e : a - a ≡ 0 = omega arith in rw e (sym (over_nil s a))
 
 -- what is left where both stand in the buffer, and where they do not
 pub cleared_in : (s : List ℕ) (a e : ℕ) → a ≤ e → e ≤ length s → cleared s a e ≡ over s a (replicate (e - a) 0)

@@ -15,11 +15,7 @@ pub fn copy_in(s: &mut [u8], at: usize, src: &[u8])
     if s.len() - at < src.len() {
         return;
     }
-    let mut k = 0;
-    while k < src.len() {
-        s[at + k] = src[k];
-        k += 1;
-    }
+    s[at..at + src.len()].copy_from_slice(src);
 }
 
 // The bytes from `at` to `end` become zero, where both stand in this order in the buffer.
@@ -32,9 +28,5 @@ pub fn clear(s: &mut [u8], at: usize, end: usize)
     if s.len() < end {
         return;
     }
-    let mut k = at;
-    while k < end {
-        s[k] = 0;
-        k += 1;
-    }
+    s[at..end].fill(0);
 }

@@ -9,8 +9,10 @@ use lib.Seq.{sets}
 use lib.IntN.{ℤ}
 use lib.Ieee.{Float}
 use borrow.Author.Tests.{le-leb, lt-leb}
+use Rattle.std.specs.Prelude.{Result}
+use Rattle.refusals.specs.declared.Refusal.{Refusal}
 use Rattle.curve_views.specs.declared.Curve.{Curve}
-use Rattle.curve_numbers.specs.Numbers.{room_for, curve_numbers, curve_floats, put_numbers, put_floats}
+use Rattle.curve_numbers.specs.Numbers.{room_for, numbers_of, floats_of, put_numbers, put_floats}
 
 ---- one by one
 
@@ -32,7 +34,7 @@ seven_put s at a b c d e f g =
 
 ---- both slices
 
-module _ (numbers : List ℤ) (at : ℕ) (floats : List Float) (from : ℕ) (c : Curve) where
+module _ (numbers : List ℤ) (at : ℕ) (floats : List Float) (from : ℕ) (c : Result Curve Refusal) where
   none : room_for numbers at floats from ≡ false → (numbers ≡ put_numbers numbers at floats from c) × (floats ≡ put_floats numbers at floats from c)
   unfolding put_numbers put_floats
   none e = (rw e refl, rw e refl)
@@ -43,7 +45,7 @@ module _ (numbers : List ℤ) (at : ℕ) (floats : List Float) (from : ℕ) (c :
   pub no_floats : length floats < from + 5 → (numbers ≡ put_numbers numbers at floats from c) × (floats ≡ put_floats numbers at floats from c)
   no_floats h = none (rw (lt-leb (from + 5) (length floats) h, and-false) refl)
 
-  pub both_put : at + 7 ≤ length numbers → from + 5 ≤ length floats → (numbers' : List ℤ) (floats' : List Float) → numbers' ≡ sets numbers at (curve_numbers c) → floats' ≡ sets floats from (curve_floats c) →
+  pub both_put : at + 7 ≤ length numbers → from + 5 ≤ length floats → (numbers' : List ℤ) (floats' : List Float) → numbers' ≡ sets numbers at (numbers_of c) → floats' ≡ sets floats from (floats_of c) →
       (numbers' ≡ put_numbers numbers at floats from c) × (floats' ≡ put_floats numbers at floats from c)
   unfolding put_numbers put_floats
   both_put h l numbers' floats' p q =

@@ -7,6 +7,7 @@ ghost use Rattle.std.proofs.lemmas.List.Edits.{sets};
 ghost use Rattle.curve_numbers.specs.Numbers.{long_numbers, origin_floats, put_numbers, put_floats};
 
 use curve_views::{Curve, Origin};
+use refusals::Refusal;
 use turns::Turn;
 
 // Seven numbers, from a place of a slice on.
@@ -83,8 +84,14 @@ fn put_floats(floats: &mut [f64], at: usize, primary: f64, secondary: f64, origi
 }
 
 // The numbers of an ellipse or an arc from a place of a slice on, and its floats from a place of another; slices with no room
-// for both stay.
-pub fn put_curve(numbers: &mut [i64], at: usize, floats: &mut [f64], from: usize, curve: Curve)
+// for both stay, and those of a refusal.
+pub fn put_curve(
+    numbers: &mut [i64],
+    at: usize,
+    floats: &mut [f64],
+    from: usize,
+    curve: Result<Curve, Refusal>,
+)
     ensures { (numbers.new ≡ put_numbers numbers.old at floats.old from curve) × (floats.new ≡ put_floats numbers.old at floats.old from curve) }
 {
     if numbers.len() < 7 {
@@ -99,6 +106,9 @@ pub fn put_curve(numbers: &mut [i64], at: usize, floats: &mut [f64], from: usize
     if floats.len() - 5 < from {
         return;
     }
+    let Ok(curve) = curve else {
+        return;
+    };
     match curve {
         Curve::Ellipse {
             primary,
@@ -120,9 +130,5 @@ pub fn put_curve(numbers: &mut [i64], at: usize, floats: &mut [f64], from: usize
             put_longs(numbers, at, 16, start, sweep, turn);
             put_floats(floats, from, primary, secondary, origin);
         }
-        Curve::Refused {
-            number: _,
-            place: _,
-        } => {}
     }
 }

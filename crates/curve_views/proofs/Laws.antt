@@ -8,6 +8,7 @@ use native.Mathlib.Omega.{arith}
 use lib.ListN.{length}
 use lib.Dec.{eqb}
 use borrow.Author.Tests.{ne_eqb, le-leb, lt-leb}
+use Rattle.std.specs.Prelude.{Ok}
 use Rattle.words.specs.Words.{long_at}
 use Rattle.curves.specs.Curves.{axes_word, origin_word, floats_ok}
 use Rattle.curves.proofs.Laws.{origin_early}
@@ -15,7 +16,8 @@ use Rattle.turns.specs.Turns.{turn_at}
 use Rattle.kinds.specs.Kinds.{is_curve, fixed_part}
 use Rattle.headers.specs.Header.{type_at}
 use Rattle.elements.proofs.Laws.{curve_end}
-use Rattle.curve_views.specs.declared.Curve.TheVariants as curves
+use Rattle.refusals.specs.Refusals.{refused_with}
+use Rattle.curve_views.specs.declared.Curve.TheVariants.{Ellipse, Arc}
 use Rattle.curve_views.specs.CurveViews.{float_at, origin_at, curve_at}
 
 -- the words of a curve end with its origin: the axes and one word of the turn lie before it
@@ -39,22 +41,22 @@ curve_few dim t k = let e = curve_end dim t 0 k in let f = origin_early dim t in
     go false h = omega arith
 
 module _ (dim : ℕ) (ws : List ℕ) (at t : ℕ) (q : t ≡ type_at ws at) where
-  pub curve_cut : length ws < at + fixed_part dim t 0 → curve_at dim ws at ≡ curves.Refused 3 at
+  pub curve_cut : length ws < at + fixed_part dim t 0 → curve_at dim ws at ≡ refused_with 3 at
   unfolding curve_at
   curve_cut l = rw (sym q, lt-leb (at + fixed_part dim t 0) (length ws) l)
 
-  pub curve_reserved : at + fixed_part dim t 0 ≤ length ws → floats_ok dim t ws at ≡ false → curve_at dim ws at ≡ curves.Refused 21 at
+  pub curve_reserved : at + fixed_part dim t 0 ≤ length ws → floats_ok dim t ws at ≡ false → curve_at dim ws at ≡ refused_with 21 at
   unfolding curve_at
   curve_reserved l f = rw (sym q, le-leb (at + fixed_part dim t 0) (length ws) l, f)
 
   module _ (l : at + fixed_part dim t 0 ≤ length ws) (f : floats_ok dim t ws at ≡ true) where
     pub curve_ellipse : t ≡ 15 → curve_at dim ws at
-        ≡ curves.Ellipse (float_at ws (at + axes_word t)) (float_at ws (at + axes_word t + 4)) (turn_at dim ws (at + axes_word t + 8)) (origin_at dim ws (at + origin_word dim t))
+        ≡ Ok (Ellipse (float_at ws (at + axes_word t)) (float_at ws (at + axes_word t + 4)) (turn_at dim ws (at + axes_word t + 8)) (origin_at dim ws (at + origin_word dim t)))
     unfolding curve_at
     curve_ellipse e = let z : at + 18 + 8 ≡ at + 26 = omega arith in rw (sym q, le-leb (at + fixed_part dim t 0) (length ws) l, f, e, z)
 
     pub curve_arc : t ≢ 15 → curve_at dim ws at
-        ≡ curves.Arc (long_at ws (at + 18)) (long_at ws (at + 20)) (float_at ws (at + axes_word t)) (float_at ws (at + axes_word t + 4)) (turn_at dim ws (at + axes_word t + 8))
-        (origin_at dim ws (at + origin_word dim t))
+        ≡ Ok (Arc (long_at ws (at + 18)) (long_at ws (at + 20)) (float_at ws (at + axes_word t)) (float_at ws (at + axes_word t + 4)) (turn_at dim ws (at + axes_word t + 8))
+        (origin_at dim ws (at + origin_word dim t)))
     unfolding curve_at
     curve_arc n = let z : at + 22 + 8 ≡ at + 30 = omega arith in rw (sym q, le-leb (at + fixed_part dim t 0) (length ws) l, f, ne_eqb t 15 n, z)

@@ -1,7 +1,7 @@
 -- An ellipse or an arc of an accepted file passes the tests of one element, so each of its floats is a number, and the call for it
 -- reads it; what it reads is, part by part, the float of four words.
 use Prim.Native.Nat.{ℕ, ◌+◌, ◌-◌, ◌≤◌}
-use mathlib.Core.Path.{◌≡◌, refl, ap, ◌∙◌}
+use mathlib.Core.Path.{◌≡◌, refl, sym, ap, ◌∙◌}
 use mathlib.Core.Logic.{inl, inr}
 use mathlib.Core.Bool.{Bool, true, false, cond, not, and-eq-true_iff}
 use mathlib.Core.List.{List, [], ◌∷◌}
@@ -10,6 +10,7 @@ use native.Mathlib.Omega.{arith}
 use lib.ListN.{length}
 use lib.Dec.{eqb, leb}
 use borrow.Author.Tests.{not-true, leb-true, le-leb}
+use Rattle.std.specs.Prelude.{Err, Ok, Result}
 use Rattle.words.specs.Words.{words, word_at, Below}
 use Rattle.words.specs.OneOf.{OneOf}
 use Rattle.words.proofs.Laws.{words_below}
@@ -24,23 +25,25 @@ use Rattle.elements.specs.Rules.{curve_floats_ok}
 use Rattle.elements.proofs.Laws.{fixed_least}
 use Rattle.files.specs.Judge.{judge_of}
 use Rattle.files.specs.Spots.{Spot, spots_of, spot_in}
-use Rattle.files.specs.declared.Judged.TheVariants.{Accepted}
 use Rattle.grammar.proofs.Exact.{is_accepted, elements_are}
 use Rattle.places.specs.Places.{above_of, found_by, spotted_at}
-use Rattle.places.specs.declared.Spotted.{Spotted}
-use Rattle.places.specs.declared.Spotted.TheVariants as spotted
 use Rattle.places.specs.OfType.{TypeRefused, of_place}
 use Rattle.places.proofs.Places.{spot_rules, spotted_found}
 use Rattle.places.proofs.Refusals.{spotted_refused}
 use Rattle.places.proofs.OfType.{found_there, Way, nowhere, another, of_type_lem, way}
+use Rattle.files.specs.Accepted.{accepted_with}
+use Rattle.places.specs.Spotted.{spotted_with}
+use Rattle.places.specs.declared.Spotted.{Spotted}
+use Rattle.refusals.specs.Refusals.{refused_with}
+use Rattle.refusals.proofs.Laws.{number_is, place_is, refusal_is, given_not_refused}
+use Rattle.refusals.specs.declared.Refusal.{Refusal}
 use Rattle.curve_views.specs.declared.Origin.TheVariants as origins
-use Rattle.curve_views.specs.declared.Curve.TheVariants as curves
 use Rattle.curve_views.specs.CurveViews.{float_at, origin_at, ellipse_at, arc_at, curve_at, curve_in, curve_of}
 use Rattle.curve_views.specs.Promises.{CurveRefused, CurveGiven, FloatsNumbers, EachOf, EachFloat, CurveHeld}
 
 ---- the floats and the size of an element of an accepted file
 
-module _ (dim : ℕ) (s : List ℕ) (e d m : ℕ) (j : judge_of dim s ≡ Accepted e d m) (at : ℕ) (x : Spot) (f : spot_in (spots_of dim (words s)) at ≡ some x)
+module _ (dim : ℕ) (s : List ℕ) (e d m : ℕ) (j : judge_of dim s ≡ accepted_with e d m) (at : ℕ) (x : Spot) (f : spot_in (spots_of dim (words s)) at ≡ some x)
     (k : is_curve (type_at (words s) at) ≡ true) where
   floats_right : floats_ok dim (type_at (words s) at) (words s) at ≡ true
   unfolding curve_floats_ok
@@ -71,15 +74,15 @@ floats_numbers dim s xs m c f at x i k n o =
 
 pub curve_refused : CurveRefused
 unfolding curve_of curve_in curve_at
-curve_refused dim s at n p q = go (way is_curve curves.Refused dim s at (curve_at dim (words s) at) (curves.Refused n p) q)
+curve_refused dim s at n p q = go (way is_curve refused_with dim s at (curve_at dim (words s) at) (refused_with n p) q)
   where
-    read : (b : Bool) → curves.Refused n p ≡ cond b (ellipse_at dim (words s) at) (arc_at dim (words s) at) → TypeRefused is_curve dim s at n p
-    read true h = let z : ◌≡◌ {A = ℕ} 0 1 = cc in absurd (omega arith)
-    read false h = let z : ◌≡◌ {A = ℕ} 0 1 = cc in absurd (omega arith)
+    read : (b : Bool) → refused_with n p ≡ cond b (ellipse_at dim (words s) at) (arc_at dim (words s) at) → TypeRefused is_curve dim s at n p
+    read true h = absurd (given_not_refused h)
+    read false h = absurd (given_not_refused h)
 
-    go : Way is_curve curves.Refused dim s at (curve_at dim (words s) at) (curves.Refused n p) → TypeRefused is_curve dim s at n p
-    go (nowhere m r e f) = inl (spotted_refused dim s at n p (cc))
-    go (another end depth above e h f) = inr (record { number = cc; place = cc; end = end; depth = depth; above = above; found = e; other = h })
+    go : Way is_curve refused_with dim s at (curve_at dim (words s) at) (refused_with n p) → TypeRefused is_curve dim s at n p
+    go (nowhere m r e f) = inl (spotted_refused dim s at n p (e ∙ ap Err (sym (refusal_is f))))
+    go (another end depth above e h f) = inr (record { number = number_is f; place = place_is f; end = end; depth = depth; above = above; found = e; other = h })
     go (of_type_lem end depth above e h f) =
         let there = found_there dim s at end depth above e in
         let right = floats_right dim s there.elements there.deepest there.marker there.judged at there.spot there.is h in
@@ -90,7 +93,7 @@ pub curve_given : CurveGiven
 unfolding curve_of curve_in curve_at
 curve_given dim s at e d m x j f = record { ellipse = λ t. given t refl ∙ rw t refl; arc = λ t. given t refl ∙ rw t refl }
   where
-    found : spotted_at dim s at ≡ spotted.At x.end x.depth (above_of x.header)
+    found : spotted_at dim s at ≡ spotted_with x.end x.depth (above_of x.header)
     found = spotted_found dim s at e d m j ∙ ap found_by f
 
     given : {t : ℕ} → type_at (words s) at ≡ t → is_curve t ≡ true → curve_of dim s at ≡ cond (eqb (type_at (words s) at) 15) (ellipse_at dim (words s) at) (arc_at dim (words s) at)
@@ -118,7 +121,7 @@ module _ (ws : List ℕ) (b : Below 65536 ws) where
   curve_held_at dim at = go (leb (at + fixed_part dim (type_at ws at) 0) (length ws)) (floats_ok dim (type_at ws at) ws at) (eqb (type_at ws at) 15)
     where
       go : (whole numbers ellipse : Bool) →
-          EachFloat Held (cond whole (cond numbers (cond ellipse (ellipse_at dim ws at) (arc_at dim ws at)) (curves.Refused 21 at)) (curves.Refused 3 at))
+          EachFloat Held (cond whole (cond numbers (cond ellipse (ellipse_at dim ws at) (arc_at dim ws at)) (refused_with 21 at)) (refused_with 3 at))
       go false n l = tt
       go true false l = tt
       go true true true = (held _, (held _, origin_held dim _))
@@ -128,7 +131,7 @@ pub curve_held : CurveHeld
 unfolding curve_of curve_in
 curve_held dim s at b = go (spotted_at dim s at) (is_curve (type_at (words s) at))
   where
-    go : (x : Spotted) (curve : Bool) → EachFloat Held (of_place curves.Refused x (cond curve (curve_at dim (words s) at) (curves.Refused 6 at)))
-    go (spotted.Refused n p) c = tt
-    go (spotted.At end depth above) true = curve_held_at (words s) (words_below s b) dim at
-    go (spotted.At end depth above) false = tt
+    go : (x : Result Spotted Refusal) (curve : Bool) → EachFloat Held (of_place refused_with x (cond curve (curve_at dim (words s) at) (refused_with 6 at)))
+    go (Err refusal) c = tt
+    go (Ok spot) true = curve_held_at (words s) (words_below s b) dim at
+    go (Ok spot) false = tt

@@ -1,6 +1,6 @@
 -- What is promised of the call for an ellipse or an arc: how it is refused, what it gives of an accepted file, and that its floats are
 -- numbers; and that no file of the grammar has a float that is refused.
-use Rattle.std.specs.Prelude.{ℕ, ◌+◌, ◌≡◌, true, false, List, Float}
+use Rattle.std.specs.Prelude.{ℕ, ◌+◌, ◌≡◌, true, false, List, Float, Err, Ok, Result}
 use Rattle.std.proofs.Math.Option.{some}
 use Rattle.words.specs.Words.{words, word_at, Below}
 use Rattle.words.specs.OneOf.{OneOf}
@@ -12,18 +12,20 @@ use Rattle.limits.specs.Limits.{call_ok}
 use Rattle.headers.specs.Header.{type_at}
 use Rattle.files.specs.Judge.{judge_of}
 use Rattle.files.specs.Spots.{Spot, spots_of, spot_in}
-use Rattle.files.specs.declared.Judged.TheVariants.{Accepted}
 use Rattle.grammar.specs.Grammar.{File}
 use Rattle.places.specs.OfType.{TypeRefused}
+use Rattle.files.specs.Accepted.{accepted_with}
+use Rattle.refusals.specs.Refusals.{refused_with}
+use Rattle.refusals.specs.declared.Refusal.{Refusal}
 use Rattle.curve_views.specs.declared.Origin.{Origin}
 use Rattle.curve_views.specs.declared.Origin.TheVariants as origins
-use Rattle.curve_views.specs.declared.Curve.{Curve}
-use Rattle.curve_views.specs.declared.Curve.TheVariants as curves
+use Rattle.curve_views.specs.declared.Curve.TheVariants.{Ellipse, Arc}
 use Rattle.curve_views.specs.CurveViews.{ellipse_at, arc_at, curve_of}
+use Rattle.curve_views.specs.declared.Curve.{Curve}
 
 -- refused as a call at a place is, or with 6 at an element of another type
 abbrev pub CurveRefused : Type 0
-CurveRefused = (dim : ℕ) (s : List ℕ) (at n p : ℕ) → curve_of dim s at ≡ curves.Refused n p → TypeRefused is_curve dim s at n p
+CurveRefused = (dim : ℕ) (s : List ℕ) (at n p : ℕ) → curve_of dim s at ≡ refused_with n p → TypeRefused is_curve dim s at n p
 
 -- of an accepted file: an element of type 15 gives the ellipse at its place, one of type 16 the arc
 pub record Gives (dim : ℕ) (s : List ℕ) (at : ℕ) : Type 0 where
@@ -32,7 +34,7 @@ pub record Gives (dim : ℕ) (s : List ℕ) (at : ℕ) : Type 0 where
 
 abbrev pub CurveGiven : Type 0
 CurveGiven =
-    (dim : ℕ) (s : List ℕ) (at e d m : ℕ) (x : Spot) → judge_of dim s ≡ Accepted e d m → spot_in (spots_of dim (words s)) at ≡ some x → Gives dim s at
+    (dim : ℕ) (s : List ℕ) (at e d m : ℕ) (x : Spot) → judge_of dim s ≡ accepted_with e d m → spot_in (spots_of dim (words s)) at ≡ some x → Gives dim s at
 
 -- of a file of the grammar, of an allowed length and dimension: each float of its ellipses and arcs is a number. So a file with a float
 -- that is refused is none
@@ -46,10 +48,10 @@ abbrev pub EachOf : (Float → Type 0) → Origin → Type 0
 EachOf P (origins.Flat x y) = P x × P y
 EachOf P (origins.Solid x y z) = P x × (P y × P z)
 
-abbrev pub EachFloat : (Float → Type 0) → Curve → Type 0
-EachFloat P (curves.Ellipse primary secondary turn origin) = P primary × (P secondary × EachOf P origin)
-EachFloat P (curves.Arc start sweep primary secondary turn origin) = P primary × (P secondary × EachOf P origin)
-EachFloat P (curves.Refused number place) = Unit {0}
+abbrev pub EachFloat : (Float → Type 0) → Result Curve Refusal → Type 0
+EachFloat P (Ok (Ellipse primary secondary turn origin)) = P primary × (P secondary × EachOf P origin)
+EachFloat P (Ok (Arc start sweep primary secondary turn origin)) = P primary × (P secondary × EachOf P origin)
+EachFloat P (Err refusal) = Unit {0}
 
 -- whatever the bytes: each float that the call gives is a 64-bit float, and neither a NaN nor an infinity
 abbrev pub CurveHeld : Type 0

@@ -9,7 +9,8 @@ ghost use Rattle.kinds.specs.Kinds.{is_curve};
 ghost use Rattle.headers.specs.Header.{type_at};
 ghost use Rattle.curve_views.specs.CurveViews.{float_at, origin_at, curve_at, curve_in, curve_of};
 
-use places::{Spotted, spotted_at};
+use places::spotted_at;
+use refusals::Refusal;
 use turns::Turn;
 
 #[derive(Clone, Copy)]
@@ -35,10 +36,6 @@ pub enum Curve {
         secondary: f64,
         turn: Turn,
         origin: Origin,
-    },
-    Refused {
-        number: usize,
-        place: usize,
     },
 }
 
@@ -79,21 +76,21 @@ fn origin_at(file: &[u8], dim: usize, i: usize) -> Origin
 }
 
 // The ellipse or the arc at a place, of type t.
-fn curve_from(file: &[u8], dim: usize, at: usize, t: usize) -> Curve
+fn curve_from(file: &[u8], dim: usize, at: usize, t: usize) -> Result<Curve, Refusal>
     requires { (t ≡ type_at (words file.now) at) × ((is_curve t ≡ true) × (at < length file.now / 2)) }
     ensures { result ≡ curve_at dim (words file.now) at }
 {
     if file.len() / 2 < at + kinds::fixed_part(dim, t, 0) {
-        return Curve::Refused {
+        return Err(Refusal {
             number: 3,
             place: at,
-        };
+        });
     }
     if !curves::floats_ok(file, at, t, dim) {
-        return Curve::Refused {
+        return Err(Refusal {
             number: 21,
             place: at,
-        };
+        });
     }
     let axes = at + curves::axes_word(t);
     let primary = float_at(file, axes);
@@ -101,53 +98,41 @@ fn curve_from(file: &[u8], dim: usize, at: usize, t: usize) -> Curve
     let turn = turns::turn_at(file, dim, axes + 8);
     let origin = origin_at(file, dim, at + curves::origin_word(dim, t));
     if t == 15 {
-        return Curve::Ellipse {
+        return Ok(Curve::Ellipse {
             primary,
             secondary,
             turn,
             origin,
-        };
+        });
     }
-    Curve::Arc {
+    Ok(Curve::Arc {
         start: words::long(file, at + 18) as u32,
         sweep: words::long(file, at + 20) as u32,
         primary,
         secondary,
         turn,
         origin,
-    }
+    })
 }
 
 // The element at a place of a judged file, where it is an ellipse or an arc; else 6.
-pub fn curve_in(file: &[u8], dim: usize, at: usize) -> Curve
+pub fn curve_in(file: &[u8], dim: usize, at: usize) -> Result<Curve, Refusal>
     ensures { result ≡ curve_in dim (words file.now) at }
 {
     let t = headers::type_at(file, at);
     if !kinds::is_curve(t) {
-        return Curve::Refused {
+        return Err(Refusal {
             number: 6,
             place: at,
-        };
+        });
     }
     curve_from(file, dim, at, t)
 }
 
 // The ellipse or the arc at a place of a file.
-pub fn curve_at(file: &[u8], dim: usize, place: usize) -> Curve
+pub fn curve_at(file: &[u8], dim: usize, place: usize) -> Result<Curve, Refusal>
     ensures { result ≡ curve_of dim file.now place }
 {
-    match spotted_at(file, dim, place) {
-        Spotted::At {
-            end: _,
-            depth: _,
-            above: _,
-        } => curve_in(file, dim, place),
-        Spotted::Refused {
-            number,
-            place: fault,
-        } => Curve::Refused {
-            number,
-            place: fault,
-        },
-    }
+    spotted_at(file, dim, place)?;
+    curve_in(file, dim, place)
 }

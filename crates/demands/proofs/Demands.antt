@@ -9,44 +9,41 @@ use lib.ListN.{length, take, drop}
 use lib.IntN.{ℤ}
 use lib.Signed.{mag}
 use lib.Ieee.{Float}
+use Rattle.std.specs.Prelude.{Ok, Result}
+use Rattle.refusals.specs.Refusals.{refused_with}
+use Rattle.refusals.specs.declared.Refusal.{Refusal}
 use Rattle.words.specs.Words.{words, word_at, long_at, signed, unsigned, put_word, put_long, Below}
 use Rattle.words.proofs.Laws as stores
 use Rattle.words.proofs.Signed as signs
 use Rattle.ranges.specs.Ranges.{coordinate, stored}
 use Rattle.ranges.proofs.Ranges as spans
 use Rattle.names.specs.Names.{packed, unpacked, text_answer, text_of, name_ok}
-use Rattle.names.specs.declared.Packed.TheVariants.{Words}
-use Rattle.names.specs.declared.Packed.TheVariants as text
-use Rattle.names.specs.declared.Answer.TheVariants as letters
 use Rattle.names.proofs.Refusals as texts
 use Rattle.names.proofs.OneToOne as names
+use Rattle.names.specs.Name.{packed_to}
 use Rattle.kinds.specs.FirstWord.{deleted_of}
 use Rattle.kinds.specs.Kinds.{one_of}
 use Rattle.limits.specs.Limits.{dim_ok, call_ok}
 use Rattle.files.specs.Judge.{judge_of}
 use Rattle.files.specs.Refused.{RefusedBy}
 use Rattle.files.specs.Spots.{Spot, deepest, spots_of, spot_in}
-use Rattle.files.specs.declared.Judged.TheVariants.{Accepted, Refused}
+use Rattle.files.specs.Accepted.{accepted_with}
 use Rattle.grammar.specs.Grammar.{File}
 use Rattle.grammar.specs.Reading.{Reading}
 use Rattle.grammar.proofs.Exact as exact
-use Rattle.grammar.specs.FirstFault.{FirstFault, Refusal}
+use Rattle.grammar.specs.FirstFault.{FirstFault, Refusal as RefusalIn}
 use Rattle.grammar.proofs.FirstFault as faults
 use Rattle.places.specs.Extents.{extent_answer}
-use Rattle.places.specs.declared.Extent.TheVariants as extent
 use Rattle.places.proofs.Refusals as places
 use Rattle.views.specs.Views.{view_of}
 use Rattle.views.specs.Starts.{Starts, Accepts}
 use Rattle.views.specs.declared.Element.{Element}
-use Rattle.views.specs.declared.View.TheVariants as view
 use Rattle.views.proofs.Starts as starts
 use Rattle.views.proofs.Refusals as seen
 use Rattle.elements.specs.Attributes.{has_attributes}
 use Rattle.points_linkages.specs.Points.{point_of}
 use Rattle.points_linkages.specs.Linkages.{linkage_of}
 use Rattle.points_linkages.specs.Listed.{ByNumber}
-use Rattle.points_linkages.specs.declared.Point.TheVariants as point
-use Rattle.points_linkages.specs.declared.Attribute.TheVariants as attribute
 use Rattle.points_linkages.proofs.Refusals as points
 use Rattle.points_linkages.proofs.Listed as numbered
 use Rattle.range_checks.specs.InRange.{in_range_of}
@@ -55,7 +52,6 @@ use Rattle.range_checks.proofs.Exactly as lying
 use Rattle.finder.specs.Finder.{find_of}
 use Rattle.finder.specs.Base as base
 use Rattle.finder.specs.Meaning.{NoneNamed, Finds, Stored}
-use Rattle.finder.specs.declared.Found.TheVariants as found
 use Rattle.finder.specs.declared.Wanted.{Wanted}
 use Rattle.finder.specs.declared.Wanted.TheVariants.{Live, WithDeleted}
 use Rattle.finder.proofs.Base as as_before
@@ -66,6 +62,7 @@ use Rattle.lookup.specs.Finding.{IndexHolds, IndexOnly, LookUpFinds, LiveLookUpF
 use Rattle.lookup.proofs.Finding as indexed
 use Rattle.lookup.proofs.Passing as passing
 use Rattle.finder.proofs.Refusals as finds
+use Rattle.finder.specs.Found.{found_with, missed_with}
 use Rattle.walking.specs.Walk.{walk_start}
 use Rattle.linkages.specs.Linkages.{Linkages, fill_from, linkages_fill, linkage_in}
 use Rattle.linkages.specs.Listed.{FilledBy, kth}
@@ -77,8 +74,6 @@ use Rattle.listing.specs.Told.{TextOneLine, TextTold}
 use Rattle.listing.proofs.Told as told
 use Rattle.fields.specs.declared.Fields.{Fields}
 use Rattle.writer.specs.Writing.{Writes, written_by}
-use Rattle.writer.specs.declared.Written.{Written}
-use Rattle.writer.specs.declared.Written.TheVariants as written
 use Rattle.writer.proofs.Refusals as writes
 use Rattle.round_trips.specs.RoundTrip.{ReadsBack, Rewrites, EveryGiven}
 use Rattle.round_trips.proofs.Given as given
@@ -98,7 +93,6 @@ use Rattle.demands.proofs.Growth as growth
 use Rattle.edits.specs.Calls.{Session, Call, rename_call, insert_call, undo_call, step}
 use Rattle.edits.specs.Book.{was_refused}
 use Rattle.edits.specs.Demand.{EveryRun}
-use Rattle.edits.specs.declared.Edited.TheVariants as edit
 use Rattle.edits.proofs.Refusals as refusals
 use Rattle.edits.proofs.Numbers as calls
 use Rattle.edits.specs.Start.{AcceptedOpens}
@@ -152,9 +146,6 @@ use Rattle.text_writer.proofs.Refusals as writes_text
 use Rattle.dgn_text.specs.TextReplies.{text_reply, characters_reply, field_reply}
 use Rattle.dgn_text.proofs.Small as small_text
 use Rattle.text_views.specs.TextViews.{text_of as text_read, characters_of, field_of}
-use Rattle.text_views.specs.declared.TextView.TheVariants as lettered
-use Rattle.text_views.specs.declared.Characters.TheVariants as characters
-use Rattle.text_views.specs.declared.FieldView.TheVariants as field
 use Rattle.text_views.specs.Fields.{FieldsWithin}
 use Rattle.text_views.specs.Refusals.{TextRefused}
 use Rattle.text_views.proofs.Fields as text_fields
@@ -190,7 +181,6 @@ use Rattle.blocks.specs.Calls.{to_blocks, from_blocks}
 use Rattle.blocks.specs.Promises.{ToRefused, FromRefused, AcceptedExactly, StoredWithRoom, GivenWithRoom, JournalBack, BlocksBack, StoredExactly}
 use Rattle.blocks.specs.Promises.{JournalMovedBack, BlocksMovedBack, WordChanged, WordOfBlockChanged, CutInside, BehindPartFull, PartFullMoved}
 use Rattle.blocks.specs.Promises.{AboveLimit, JoinedTooLong, CutBetween, FullBlocks, Swapped}
-use Rattle.blocks.specs.declared.Moved.TheVariants as moved
 use Rattle.blocks.proofs.Refusals as blocks_refused
 use Rattle.blocks.proofs.Journal as kept_blocks
 use Rattle.blocks.proofs.Back as there
@@ -222,11 +212,11 @@ pub refusal_keeps : (dim : ℕ) (s : Session) (c : Call) → was_refused (step d
 refusal_keeps = refusals.refusal_keeps
 
 -- and its number is one from 1 to 21
-pub call_number : (dim : ℕ) (s : Session) (c : Call) (n p : ℕ) → (step dim s c).answer ≡ edit.Refused n p → (1 ≤ n) × (n ≤ 21)
+pub call_number : (dim : ℕ) (s : Session) (c : Call) (n p : ℕ) → (step dim s c).answer ≡ refused_with n p → (1 ≤ n) × (n ≤ 21)
 call_number = calls.call_number
 
 -- and its place is at most 524,288, so the one number that the C interface returns gives both back
-pub call_small : (dim : ℕ) (s : Session) (c : Call) (n p : ℕ) → (step dim s c).answer ≡ edit.Refused n p → Small n p
+pub call_small : (dim : ℕ) (s : Session) (c : Call) (n p : ℕ) → (step dim s c).answer ≡ refused_with n p → Small n p
 call_small = fits.edit_small
 
 -- a refused call of a session answers as judging the used file does, or one of the call's own numbers at place 0; an insert also
@@ -235,7 +225,7 @@ pub call_refused : EveryRefusal
 call_refused = calls.every_refusal
 
 -- a rename by a text that is no name is refused
-pub bad_text : (dim : ℕ) (s : Session) (p : ℕ) (t : List ℕ) (n q : ℕ) → packed t ≡ text.Refused n q →
+pub bad_text : (dim : ℕ) (s : Session) (p : ℕ) (t : List ℕ) (n q : ℕ) → packed t ≡ refused_with n q →
     was_refused (step dim s (rename_call p t)).answer ≡ true
 bad_text = reads.bad_text
 
@@ -257,23 +247,23 @@ undo_refused = causes.undo_refused
 
 -- a refused call on a file answers as judging does of the file, or a number of its own, at place 0: an extent, a view, a
 -- point and a linkage with 13
-pub extent_refused : (dim : ℕ) (s : List ℕ) (at n p : ℕ) → extent_answer dim s at ≡ extent.Refused n p → RefusedBy dim s (13 ∷ []) n p
+pub extent_refused : (dim : ℕ) (s : List ℕ) (at n p : ℕ) → extent_answer dim s at ≡ refused_with n p → RefusedBy dim s (13 ∷ []) n p
 extent_refused = places.extent_refused
 
-pub view_refused : (dim : ℕ) (s : List ℕ) (at n p : ℕ) → view_of dim s at ≡ view.Refused n p → RefusedBy dim s (13 ∷ []) n p
+pub view_refused : (dim : ℕ) (s : List ℕ) (at n p : ℕ) → view_of dim s at ≡ refused_with n p → RefusedBy dim s (13 ∷ []) n p
 view_refused = seen.view_refused
 
-pub point_refused : (dim : ℕ) (s : List ℕ) (at k n p : ℕ) → point_of dim s at k ≡ point.Refused n p → RefusedBy dim s (13 ∷ []) n p
+pub point_refused : (dim : ℕ) (s : List ℕ) (at k n p : ℕ) → point_of dim s at k ≡ refused_with n p → RefusedBy dim s (13 ∷ []) n p
 point_refused = points.point_refused
 
 -- the calls for a text, also with 6 at an element that is none; where a field's number is above those there are, 13
-pub text_refused : (dim : ℕ) (s : List ℕ) (at n p : ℕ) → text_read dim s at ≡ lettered.Refused n p → TextRefused dim s at n p
+pub text_refused : (dim : ℕ) (s : List ℕ) (at n p : ℕ) → text_read dim s at ≡ refused_with n p → TextRefused dim s at n p
 text_refused = texts_refused.text_refused
 
-pub characters_refused : (dim : ℕ) (s : List ℕ) (at n p : ℕ) → characters_of dim s at ≡ characters.Refused n p → TextRefused dim s at n p
+pub characters_refused : (dim : ℕ) (s : List ℕ) (at n p : ℕ) → characters_of dim s at ≡ refused_with n p → TextRefused dim s at n p
 characters_refused = texts_refused.characters_refused
 
-pub field_refused : (dim : ℕ) (s : List ℕ) (at n p k : ℕ) → field_of dim s at k ≡ field.Refused n p → TextRefused dim s at n p
+pub field_refused : (dim : ℕ) (s : List ℕ) (at n p k : ℕ) → field_of dim s at k ≡ refused_with n p → TextRefused dim s at n p
 field_refused = texts_refused.field_refused
 
 -- the call for an ellipse or an arc, also with 6 at an element that is neither
@@ -284,7 +274,7 @@ curve_refused = curve_calls.curve_refused
 pub plate_refused : PlateRefused
 plate_refused = plates.plate_refused
 
-pub linkage_refused : (dim : ℕ) (s : List ℕ) (at k n p : ℕ) → linkage_of dim s at k ≡ attribute.Refused n p → RefusedBy dim s (13 ∷ []) n p
+pub linkage_refused : (dim : ℕ) (s : List ℕ) (at k n p : ℕ) → linkage_of dim s at k ≡ refused_with n p → RefusedBy dim s (13 ∷ []) n p
 linkage_refused = points.linkage_refused
 
 -- the check of a range, with 13, and with 6 at an element of another type
@@ -296,28 +286,28 @@ pub unseen_refused : UnseenRefused
 unseen_refused = lying.unseen_refused
 
 -- the finder with 12 or 13, be deleted cells passed over or not
-pub find_refused : (w : Wanted) (dim : ℕ) (s t : List ℕ) (n p c : ℕ) → find_of w dim s t ≡ found.Refused n p c → RefusedBy dim s (12 ∷ 13 ∷ []) n p
+pub find_refused : (w : Wanted) (dim : ℕ) (s t : List ℕ) (n p c : ℕ) → find_of w dim s t ≡ missed_with n p c → RefusedBy dim s (12 ∷ 13 ∷ []) n p
 find_refused = finds.find_refused
 
 -- and where judging refuses the file, every one of them answers that number and place
-pub file_refused : (dim : ℕ) (s : List ℕ) (n p : ℕ) → judge_of dim s ≡ Refused n p → FileRefused dim s n p
+pub file_refused : (dim : ℕ) (s : List ℕ) (n p : ℕ) → judge_of dim s ≡ refused_with n p → FileRefused dim s n p
 file_refused = reads.file_refused
 
 -- a text and a word pair with 12 at 0
-pub pack_refused : (t : List ℕ) (n p : ℕ) → packed t ≡ text.Refused n p → (n ≡ 12) × (p ≡ 0)
+pub pack_refused : (t : List ℕ) (n p : ℕ) → packed t ≡ refused_with n p → (n ≡ 12) × (p ≡ 0)
 pack_refused = texts.pack_refused
 
-pub unpack_refused : (a b n p : ℕ) → (unpacked a b).answer ≡ letters.Refused n p → (n ≡ 12) × (p ≡ 0)
+pub unpack_refused : (a b n p : ℕ) → unpacked a b ≡ refused_with n p → (n ≡ 12) × (p ≡ 0)
 unpack_refused = texts.unpack_refused
 
 -- the writer with 1, 7, 8, 11 or 15 at 0, and its buffer stays as it was
-pub write_refused : (dim : ℕ) (f : Fields) (points : List ℤ) (tail out : List ℕ) (r : Written) (last : List ℕ) (n p : ℕ) →
-    Writes dim f points tail out r last → r ≡ written.Refused n p → (one_of (1 ∷ 7 ∷ 8 ∷ 11 ∷ 15 ∷ []) n ≡ true) × (p ≡ 0) × (last ≡ out)
+pub write_refused : (dim : ℕ) (f : Fields) (points : List ℤ) (tail out : List ℕ) (r : Result ℕ Refusal) (last : List ℕ) (n p : ℕ) →
+    Writes dim f points tail out r last → r ≡ refused_with n p → (one_of (1 ∷ 7 ∷ 8 ∷ 11 ∷ 15 ∷ []) n ≡ true) × (p ≡ 0) × (last ≡ out)
 write_refused = writes.write_refused
 
 -- and the writer of texts
-pub write_text_refused : (dim : ℕ) (f : Fields) (t : Text) (characters triples tail out : List ℕ) (r : Written) (last : List ℕ) (n p : ℕ) →
-    WritesText dim f t characters triples tail out r last → r ≡ written.Refused n p → (one_of (1 ∷ 20 ∷ 8 ∷ 11 ∷ 15 ∷ []) n ≡ true) × (p ≡ 0) × (last ≡ out)
+pub write_text_refused : (dim : ℕ) (f : Fields) (t : Text) (characters triples tail out : List ℕ) (r : Result ℕ Refusal) (last : List ℕ) (n p : ℕ) →
+    WritesText dim f t characters triples tail out r last → r ≡ refused_with n p → (one_of (1 ∷ 20 ∷ 8 ∷ 11 ∷ 15 ∷ []) n ≡ true) × (p ≡ 0) × (last ≡ out)
 write_text_refused = writes_text.write_text_refused
 
 -- a journal to blocks with 1 or 15 at 0; blocks to a journal also with 22 at one of the blocks; and the buffer stays as it was
@@ -475,26 +465,26 @@ pub all_plates : AllPlates
 all_plates = every_plate.all_plates
 
 -- every number of a view is from -2,147,483,648 to 2,147,483,647
-pub view_within : (dim : ℕ) (s : List ℕ) (at : ℕ) (e : Element) → Below 256 s → view_of dim s at ≡ view.Seen e → Within 2147483648 (view_given at e)
+pub view_within : (dim : ℕ) (s : List ℕ) (at : ℕ) (e : Element) → Below 256 s → view_of dim s at ≡ Ok e → Within 2147483648 (view_given at e)
 view_within = shown.view_within
 
 ---- demand 2: accepted exactly when the structure holds, with one reading
 
 -- a file is accepted, with these numbers, exactly where it is of the grammar and they are its elements' and marker's; the
 -- grammar states the rules of an element in its own words, and elements-are says that its elements are those of the list
-pub accepted_exactly : (dim : ℕ) (s : List ℕ) (e d k : ℕ) → (judge_of dim s ≡ Accepted e d k) ↔ Reading dim s e d k
+pub accepted_exactly : (dim : ℕ) (s : List ℕ) (e d k : ℕ) → (judge_of dim s ≡ accepted_with e d k) ↔ Reading dim s e d k
 accepted_exactly = exact.accepted_exactly
 
 -- every file of the grammar, of an allowed length and dimension, is accepted
-pub every_file : (dim : ℕ) (s : List ℕ) (xs : List Spot) (k : ℕ) → call_ok dim s ≡ true → File dim (words s) xs k → judge_of dim s ≡ Accepted (length xs) (deepest xs) k
+pub every_file : (dim : ℕ) (s : List ℕ) (xs : List Spot) (k : ℕ) → call_ok dim s ≡ true → File dim (words s) xs k → judge_of dim s ≡ accepted_with (length xs) (deepest xs) k
 every_file = exact.is_accepted
 
 -- a refused file of an allowed length and dimension is no file of the grammar
-pub refused_is_none : (dim : ℕ) (s : List ℕ) (n p : ℕ) → judge_of dim s ≡ Refused n p → call_ok dim s ≡ true → (xs : List Spot) (k : ℕ) → File dim (words s) xs k → ⊥
+pub refused_is_none : (dim : ℕ) (s : List ℕ) (n p : ℕ) → judge_of dim s ≡ refused_with n p → call_ok dim s ≡ true → (xs : List Spot) (k : ℕ) → File dim (words s) xs k → ⊥
 refused_is_none = exact.refused_is_none
 
 -- the first fault decides: a file of an allowed length and dimension is refused, with this number and place, exactly where they are its first fault's
-pub refused_exactly : (dim : ℕ) (s : List ℕ) (n p : ℕ) → call_ok dim s ≡ true → (judge_of dim s ≡ Refused n p) ↔ FirstFault dim (words s) n p
+pub refused_exactly : (dim : ℕ) (s : List ℕ) (n p : ℕ) → call_ok dim s ≡ true → (judge_of dim s ≡ refused_with n p) ↔ FirstFault dim (words s) n p
 refused_exactly = faults.refused_exactly
 
 -- words have one first fault at most
@@ -502,11 +492,11 @@ pub one_fault : (dim : ℕ) (ws : List ℕ) (n p m q : ℕ) → FirstFault dim w
 one_fault = faults.one_fault
 
 -- a file of another length or dimension, and no other, is refused with 1 at 0
-pub refused_call : (dim : ℕ) (s : List ℕ) → (judge_of dim s ≡ Refused 1 0) ↔ (call_ok dim s ≡ false)
+pub refused_call : (dim : ℕ) (s : List ℕ) → (judge_of dim s ≡ refused_with 1 0) ↔ (call_ok dim s ≡ false)
 refused_call = faults.refused_call
 
 -- a refusal is 1 at 0, 2 at the file's end, or a number from 3 to 12, 20 or 21 at a word of the file
-pub refusal_place : (dim : ℕ) (s : List ℕ) (n p : ℕ) → judge_of dim s ≡ Refused n p → Refusal (length (words s)) n p
+pub refusal_place : (dim : ℕ) (s : List ℕ) (n p : ℕ) → judge_of dim s ≡ refused_with n p → RefusalIn (length (words s)) n p
 refusal_place = faults.refusal_place
 
 -- the elements of a file of the grammar are the one list spotsOf, over which the calls are stated
@@ -518,27 +508,27 @@ pub one_reading : (dim : ℕ) (ws : List ℕ) (xs ys : List Spot) (k j : ℕ) �
 one_reading = exact.one_reading
 
 -- words after the marker do not matter
-pub after_marker : (dim : ℕ) (s t : List ℕ) (e d k : ℕ) → judge_of dim s ≡ Accepted e d k → call_ok dim t ≡ true →
-    take (k + 1) (words t) ≡ take (k + 1) (words s) → judge_of dim t ≡ Accepted e d k
+pub after_marker : (dim : ℕ) (s t : List ℕ) (e d k : ℕ) → judge_of dim s ≡ accepted_with e d k → call_ok dim t ≡ true →
+    take (k + 1) (words t) ≡ take (k + 1) (words s) → judge_of dim t ≡ accepted_with e d k
 after_marker = exact.judged_after_marker
 
 -- the count that judging reports is the length of the list of elements in file order
-pub count_is_length : (dim : ℕ) (s : List ℕ) (e d k : ℕ) → judge_of dim s ≡ Accepted e d k → e ≡ length (spots_of dim (words s))
+pub count_is_length : (dim : ℕ) (s : List ℕ) (e d k : ℕ) → judge_of dim s ≡ accepted_with e d k → e ≡ length (spots_of dim (words s))
 count_is_length = exact.count_is_length
 
 -- the lines along the walk, between the heading and the end, are the listing of celllist, and the walk is then at the marker
-pub listing_is : (s : List ℕ) (e d m : ℕ) → length s ≤ 65536 → judge_of 2 s ≡ Accepted e d m →
+pub listing_is : (s : List ℕ) (e d m : ℕ) → length s ≤ 65536 → judge_of 2 s ≡ accepted_with e d m →
     (heading_line ++ (walk_lines e (words s) walk_start ++ end_line m) ≡ listing_of s) × (walk_place e (words s) walk_start ≡ m)
 listing_is = listing.listing_is
 
 -- the lines of texts along the same walk are the listing of textlist: a line for each text of the file, in file order
-pub text_listing_is : (s : List ℕ) (e d m : ℕ) → length s ≤ 65536 → judge_of 2 s ≡ Accepted e d m →
+pub text_listing_is : (s : List ℕ) (e d m : ℕ) → length s ≤ 65536 → judge_of 2 s ≡ accepted_with e d m →
     text_heading ++ (walk_texts e s walk_start ++ end_line m) ≡ text_listing_of s
 text_listing_is = listing.text_listing_is
 
 -- the lines along the same walk of what is found by extents alone are the listing of platelist: the plate of each live cell of the file,
 -- in file order, as the call for it gives it
-pub plate_listing_is : (s : List ℕ) (e d m : ℕ) → length s ≤ 65536 → judge_of 2 s ≡ Accepted e d m → walk_plates e (words s) walk_start ≡ plate_listing_of s
+pub plate_listing_is : (s : List ℕ) (e d m : ℕ) → length s ≤ 65536 → judge_of 2 s ≡ accepted_with e d m → walk_plates e (words s) walk_start ≡ plate_listing_of s
 plate_listing_is = listing.plate_listing_is
 
 -- whatever the characters are, a text's line is bytes that print, and a line feed
@@ -564,44 +554,44 @@ linkage_is = listed.linkage_is
 
 -- the linkages of an accepted element with attributes fill its attribute part, and the call for linkage k gives the k-th of them, 13
 -- at 0 for any other k
-pub linkage_by_number : (dim : ℕ) (s : List ℕ) (place e d m : ℕ) (x : Spot) → judge_of dim s ≡ Accepted e d m → spot_in (spots_of dim (words s)) place ≡ some x →
+pub linkage_by_number : (dim : ℕ) (s : List ℕ) (place e d m : ℕ) (x : Spot) → judge_of dim s ≡ accepted_with e d m → spot_in (spots_of dim (words s)) place ≡ some x →
     has_attributes (words s) place ≡ true → ByNumber dim s place
 linkage_by_number = numbered.by_number
 
 -- a view accepts each place in the list of elements, and no other place
-pub view_accepts : (dim : ℕ) (s : List ℕ) (p e d m : ℕ) → judge_of dim s ≡ Accepted e d m →
+pub view_accepts : (dim : ℕ) (s : List ℕ) (p e d m : ℕ) → judge_of dim s ≡ accepted_with e d m →
     (Starts (spots_of dim (words s)) p → Accepts (view_of dim s p)) × (Accepts (view_of dim s p) → Starts (spots_of dim (words s)) p)
 view_accepts = starts.view_accepts
 
 -- of the element in the list that starts at a place, an extent ends where it does, and a view shows its depth and its header
-pub found_is : (dim : ℕ) (s : List ℕ) (at e d m : ℕ) (x : Spot) → judge_of dim s ≡ Accepted e d m → spot_in (spots_of dim (words s)) at ≡ some x →
+pub found_is : (dim : ℕ) (s : List ℕ) (at e d m : ℕ) (x : Spot) → judge_of dim s ≡ accepted_with e d m → spot_in (spots_of dim (words s)) at ≡ some x →
     Found dim s at x
 found_is = reads.found_is
 
 -- of an accepted file, a view and an extent are refused, with 13 at 0, exactly where no element starts
-pub view_none : (dim : ℕ) (s : List ℕ) (at e d m : ℕ) → judge_of dim s ≡ Accepted e d m →
-    (view_of dim s at ≡ view.Refused 13 0) ↔ (Starts (spots_of dim (words s)) at → ⊥)
+pub view_none : (dim : ℕ) (s : List ℕ) (at e d m : ℕ) → judge_of dim s ≡ accepted_with e d m →
+    (view_of dim s at ≡ refused_with 13 0) ↔ (Starts (spots_of dim (words s)) at → ⊥)
 view_none = seen.view_none
 
-pub extent_none : (dim : ℕ) (s : List ℕ) (at e d m : ℕ) → judge_of dim s ≡ Accepted e d m →
-    (extent_answer dim s at ≡ extent.Refused 13 0) ↔ (Starts (spots_of dim (words s)) at → ⊥)
+pub extent_none : (dim : ℕ) (s : List ℕ) (at e d m : ℕ) → judge_of dim s ≡ accepted_with e d m →
+    (extent_answer dim s at ≡ refused_with 13 0) ↔ (Starts (spots_of dim (words s)) at → ⊥)
 extent_none = seen.extent_none
 
 ---- demand 2: the finder, where deleted cells are passed over (Live) and where they are not (WithDeleted)
 
 -- it finds the first in file order that has the name and is wanted; its count is that element's ordinal plus one, passed ones among
 -- them, and 13 carries the count of all elements
-pub finder_count : (w : Wanted) (dim : ℕ) (s t : List ℕ) (e d m a b : ℕ) → judge_of dim s ≡ Accepted e d m → packed t ≡ Words a b →
+pub finder_count : (w : Wanted) (dim : ℕ) (s t : List ℕ) (e d m a b : ℕ) → judge_of dim s ≡ accepted_with e d m → packed t ≡ packed_to a b →
     Finds w (words s) a b (spots_of dim (words s)) (find_of w dim s t)
 finder_count = named.finder_count
 
 -- 13 exactly where no element has the name and is wanted
-pub no_such_exactly : (w : Wanted) (dim : ℕ) (s t : List ℕ) (e d m a b : ℕ) → judge_of dim s ≡ Accepted e d m → packed t ≡ Words a b →
-    (find_of w dim s t ≡ found.Refused 13 0 (length (spots_of dim (words s)))) ↔ NoneNamed w (words s) a b (spots_of dim (words s))
+pub no_such_exactly : (w : Wanted) (dim : ℕ) (s t : List ℕ) (e d m a b : ℕ) → judge_of dim s ≡ accepted_with e d m → packed t ≡ packed_to a b →
+    (find_of w dim s t ≡ missed_with 13 0 (length (spots_of dim (words s)))) ↔ NoneNamed w (words s) a b (spots_of dim (words s))
 no_such_exactly = named.no_such_exactly
 
 -- where deleted cells are passed over, the cell that is found is live
-pub found_live : (dim : ℕ) (s t : List ℕ) (place looked : ℕ) → find_of Live dim s t ≡ found.At place looked → deleted_of (word_at (words s) place) ≡ 0
+pub found_live : (dim : ℕ) (s t : List ℕ) (place looked : ℕ) → find_of Live dim s t ≡ found_with place looked → deleted_of (word_at (words s) place) ≡ 0
 found_live = named.found_live
 
 -- asked for them too, it answers of every input as it did before any were passed over
@@ -609,12 +599,12 @@ pub asked_as_base : (dim : ℕ) (s t : List ℕ) → find_of WithDeleted dim s t
 asked_as_base = as_before.asked_as_base
 
 -- the stored name of the cell that is found unpacks to the text, so 00417 never finds 417
-pub never_another : (w : Wanted) (dim : ℕ) (s t : List ℕ) (place looked : ℕ) → find_of w dim s t ≡ found.At place looked →
-    Stored (words s) place (λ x y. unpacked x y ≡ text_answer t)
+pub never_another : (w : Wanted) (dim : ℕ) (s t : List ℕ) (place looked : ℕ) → find_of w dim s t ≡ found_with place looked →
+    Stored (words s) place (λ x y. unpacked x y ≡ Ok (text_answer t))
 never_another = named.never_another
 
 -- two texts that find the same place, each in either way, are the same text
-pub one_text : (w v : Wanted) (dim : ℕ) (s t u : List ℕ) (place n k : ℕ) → find_of w dim s t ≡ found.At place n → find_of v dim s u ≡ found.At place k → t ≡ u
+pub one_text : (w v : Wanted) (dim : ℕ) (s t u : List ℕ) (place n k : ℕ) → find_of w dim s t ≡ found_with place n → find_of v dim s u ≡ found_with place k → t ≡ u
 one_text = named.one_text
 
 ---- demand 2: an index of a file's cells, and the look-up in it
@@ -798,54 +788,54 @@ pub starred_hold : all_hold starred ≡ true
 starred_hold = worked.starred_hold
 
 -- a case of 8, at the outermost header that would grow too large, before the buffer's room counts
-pub growth_first : (rest : List ℕ) → length rest ≡ 130880 → (step 2 full (put_large rest)).answer ≡ edit.Refused 8 2
+pub growth_first : (rest : List ℕ) → length rest ≡ 130880 → (step 2 full (put_large rest)).answer ≡ refused_with 8 2
 growth_first = growth.growth_first
 
 -- 1,048,576 bytes may be lent: a file of that length with the marker first is accepted, and a session whose two buffers have it
 -- opens, its undo finding nothing
-pub longest_judged : (dim : ℕ) (rest : List ℕ) → dim_ok dim ≡ true → length rest ≡ 1048574 → judge_of dim (255 ∷ 255 ∷ rest) ≡ Accepted 0 0 0
+pub longest_judged : (dim : ℕ) (rest : List ℕ) → dim_ok dim ≡ true → length rest ≡ 1048574 → judge_of dim (255 ∷ 255 ∷ rest) ≡ accepted_with 0 0 0
 longest_judged = lengths.longest_judged
 
 pub longest_edited : (dim : ℕ) (rest journal : List ℕ) → dim_ok dim ≡ true → length rest ≡ 1048574 → length journal ≡ 1048576 →
-    (step dim (record { file = 255 ∷ 255 ∷ rest; used = 2; journal = journal; jused = 0; index = none }) undo_call).answer ≡ edit.Refused 17 0
+    (step dim (record { file = 255 ∷ 255 ∷ rest; used = 2; journal = journal; jused = 0; index = none }) undo_call).answer ≡ refused_with 17 0
 longest_edited = lengths.longest_edited
 
 -- more is refused with 1: a file, a buffer of a session in every call, the piece of an insert
-pub longer_judged : (dim : ℕ) (s : List ℕ) → 1048576 < length s → judge_of dim s ≡ Refused 1 0
+pub longer_judged : (dim : ℕ) (s : List ℕ) → 1048576 < length s → judge_of dim s ≡ refused_with 1 0
 longer_judged = lengths.longer_judged
 
-pub longer_edited : (dim : ℕ) (s : Session) (c : Call) → (1048576 < length s.file) ⊎ (1048576 < length s.journal) → (step dim s c).answer ≡ edit.Refused 1 0
+pub longer_edited : (dim : ℕ) (s : Session) (c : Call) → (1048576 < length s.file) ⊎ (1048576 < length s.journal) → (step dim s c).answer ≡ refused_with 1 0
 longer_edited = lengths.longer_edited
 
 pub longer_piece : (dim : ℕ) (s : Session) (h : Option ℕ) (p : ℕ) (piece : List ℕ) → 1048576 < length piece →
-    (step dim s (insert_call h p piece)).answer ≡ edit.Refused 1 0
+    (step dim s (insert_call h p piece)).answer ≡ refused_with 1 0
 longer_piece = lengths.longer_piece
 
 -- a journal of 1,048,576 bytes may be stored, in 1,057,280 bytes; more of either is refused with 1
-pub longest_stored : (j : List ℕ) → length j ≡ 1048576 → to_blocks j 1057280 ≡ moved.Written 1057280
+pub longest_stored : (j : List ℕ) → length j ≡ 1048576 → to_blocks j 1057280 ≡ Ok 1057280
 longest_stored = lengths.longest_stored
 
-pub longer_stored : (j : List ℕ) (room : ℕ) → 1048576 < length j → to_blocks j room ≡ moved.Refused 1 0
+pub longer_stored : (j : List ℕ) (room : ℕ) → 1048576 < length j → to_blocks j room ≡ refused_with 1 0
 longer_stored = lengths.longer_stored
 
-pub longer_blocks : (s : List ℕ) (room : ℕ) → 1057280 < length s → from_blocks s room ≡ moved.Refused 1 0
+pub longer_blocks : (s : List ℕ) (room : ℕ) → 1057280 < length s → from_blocks s room ≡ refused_with 1 0
 longer_blocks = lengths.longer_blocks
 
 ---- demand 2: texts and stored names match one to one
 
 -- unpacking what a text packs to gives that text, and packing the text of two accepted words gives those words
-pub text_back : (t : List ℕ) (a b : ℕ) → packed t ≡ Words a b → unpacked a b ≡ text_answer t
+pub text_back : (t : List ℕ) (a b : ℕ) → packed t ≡ packed_to a b → unpacked a b ≡ Ok (text_answer t)
 text_back = names.unpack_pack
 
-pub words_back : (a b : ℕ) → name_ok a b ≡ true → packed (text_of a b) ≡ Words a b
+pub words_back : (a b : ℕ) → name_ok a b ≡ true → packed (text_of a b) ≡ packed_to a b
 words_back = names.pack_unpack
 
 -- a text packs to two words exactly where they unpack to it
-pub one_to_one : (t : List ℕ) (a b : ℕ) → packed t ≡ Words a b ↔ unpacked a b ≡ text_answer t
+pub one_to_one : (t : List ℕ) (a b : ℕ) → packed t ≡ packed_to a b ↔ unpacked a b ≡ Ok (text_answer t)
 one_to_one = names.one_to_one
 
 -- no two part codes share a stored name
-pub no_two_part_codes : (t u : List ℕ) (a b : ℕ) → packed t ≡ Words a b → packed u ≡ Words a b → t ≡ u
+pub no_two_part_codes : (t u : List ℕ) (a b : ℕ) → packed t ≡ packed_to a b → packed u ≡ packed_to a b → t ≡ u
 no_two_part_codes = names.no_two_share
 
 ---- demand 3, one theorem over every list of calls

@@ -9,11 +9,14 @@ use mathlib.Core.Option.{Option, none, some}
 use native.Mathlib.Omega.{arith}
 use lib.ListN.{length, replicate, length-append, length-replicate}
 use lib.Dec.{eqb, leb}
+use Rattle.std.specs.Prelude.{Err, Ok, Result}
+use Rattle.refusals.specs.Refusals.{refused_with}
+use Rattle.refusals.specs.declared.Refusal.{Refusal}
 use Rattle.words.specs.Words.{words}
 use Rattle.words.proofs.Laws.{words_below}
 use Rattle.files.specs.Judge.{judge_of}
-use Rattle.files.specs.declared.Judged.{Judged}
-use Rattle.files.specs.declared.Judged.TheVariants as judged
+use Rattle.files.specs.Accepted.{accepted_with}
+use Rattle.files.specs.declared.Accepted.{Accepted}
 use Rattle.grammar.proofs.Exact.{accepted_is}
 use Rattle.entries.specs.Entries.{image, shown}
 use Rattle.entries.proofs.Laws.{length_image}
@@ -21,8 +24,6 @@ use Rattle.sorting.proofs.Laws.{le_or_lt}
 use Rattle.cells.specs.Cells.{Cell, cells_of}
 use Rattle.cells.specs.Index.{cell_entry, index_of, index_bytes}
 use Rattle.cells.proofs.Whole.{judged_cells}
-use Rattle.indexing.specs.declared.Built.{Built}
-use Rattle.indexing.specs.declared.Built.TheVariants as built
 use Rattle.indexing.specs.Indexing.{built_by, left_by, BuildsFile}
 use Rattle.lookup.proofs.Finding.{Rising, rising_between}
 use Rattle.answers.proofs.Elements.{call_words}
@@ -47,19 +48,19 @@ shown_again n es =
     let k : length (image es ++ replicate (n - 8 * length es) 0) - 8 * length es ≡ n - 8 * length es = omega arith in
     ap (λ m. image es ++ replicate m 0) k
 
-module _ (dim : ℕ) (u b : List ℕ) (r : Built) (t : List ℕ) (e d m : ℕ) (q : judge_of dim u ≡ judged.Accepted e d m) (f : BuildsFile dim u b r t) where
+module _ (dim : ℕ) (u b : List ℕ) (r : Result ℕ Refusal) (t : List ℕ) (e d m : ℕ) (q : judge_of dim u ≡ accepted_with e d m) (f : BuildsFile dim u b r t) where
   same_in : (n : ℕ) → index_ok (afresh dim (words u) (some n)) ≡ true → length b ≡ length (shown n (index_of dim (words u))) →
-      (r ≡ built.Index (index_bytes dim (words u))) × (t ≡ shown n (index_of dim (words u)))
+      (r ≡ Ok (index_bytes dim (words u))) × (t ≡ shown n (index_of dim (words u)))
   same_in n ok l =
       let fits : leb (index_bytes dim (words u)) (length b) ≡ true = rw l ((and-eq-true_iff (eqb (index_bytes dim (words u) % 8) 0) _).0 ok).1 in
       (f.answer ∙ (rw (q, fits) refl), f.bytes ∙ (rw (q, fits) (ap (λ k. shown k (index_of dim (words u))) l ∙ shown_again n (index_of dim (words u)))))
 
   same_as : (z : Option ℕ) (i : Index) → afresh dim (words u) z ≡ some i → index_ok (some i) ≡ true → length b ≡ length i.buffer →
-      (r ≡ built.Index i.iused) × (t ≡ i.buffer)
+      (r ≡ Ok i.iused) × (t ≡ i.buffer)
   same_as none i a ok l = let z : ◌≡◌ {A = ℕ} 0 1 = cc in absurd (omega arith)
   same_as (some n) i a ok l =
       let x : record { buffer = shown n (index_of dim (words u)); iused = index_bytes dim (words u) } ≡ i = cc in
-      subst (λ v. index_ok (some v) ≡ true → length b ≡ length v.buffer → (r ≡ built.Index v.iused) × (t ≡ v.buffer)) x (same_in n) ok l
+      subst (λ v. index_ok (some v) ≡ true → length b ≡ length v.buffer → (r ≡ Ok v.iused) × (t ≡ v.buffer)) x (same_in n) ok l
 
 pub index_as_built : IndexAsBuilt
 index_as_built dim s cs i b r t o p has l f =
@@ -91,12 +92,12 @@ module _ (dim : ℕ) (s : Session) (b : List ℕ) (n : ℕ) (t : List ℕ) (o : 
         index_fits_lem = subst (λ z. index_fits dim (words_of s) z ≡ true) (sym size) fits;
       }
 
-  opens_by : (j : Judged) → built.Index n ≡ built_by j (index_bytes dim (words_of s)) (length b) →
+  opens_by : (j : Result Accepted Refusal) → Ok n ≡ built_by j (index_bytes dim (words_of s)) (length b) →
       t ≡ left_by j (index_bytes dim (words_of s)) (index_of dim (words_of s)) b → OpenedEmpty dim (lent_index s t n)
-  opens_by (judged.Refused k p) a c = let z : ◌≡◌ {A = ℕ} 0 1 = cc in absurd (omega arith)
-  opens_by (judged.Accepted e d m) a c = go (leb (index_bytes dim (words_of s)) (length b)) refl a c
+  opens_by (Err refusal) a c = let z : ◌≡◌ {A = ℕ} 0 1 = cc in absurd (omega arith)
+  opens_by (Ok file) a c = go (leb (index_bytes dim (words_of s)) (length b)) refl a c
     where
-      go : (v : Bool) → leb (index_bytes dim (words_of s)) (length b) ≡ v → built.Index n ≡ cond v (built.Index (index_bytes dim (words_of s))) (built.Refused 15 0) →
+      go : (v : Bool) → leb (index_bytes dim (words_of s)) (length b) ≡ v → Ok n ≡ cond v (Ok (index_bytes dim (words_of s))) (refused_with 15 0) →
           t ≡ cond v (shown (length b) (index_of dim (words_of s))) b → OpenedEmpty dim (lent_index s t n)
       go false h a c = let z : ◌≡◌ {A = ℕ} 0 1 = cc in absurd (omega arith)
       go true h a c = let x : n ≡ index_bytes dim (words_of s) = cc in rw (c, x) (opens h)

@@ -13,7 +13,7 @@ use Rattle.kinds.specs.Kinds.{is_cell}
 use Rattle.headers.specs.Header.{type_at}
 use Rattle.files.specs.Judge.{judge_of}
 use Rattle.files.specs.Spots.{Spot, spots_of, spot_in}
-use Rattle.files.specs.declared.Judged.TheVariants.{Accepted}
+use Rattle.files.specs.Accepted.{accepted_with}
 use Rattle.grammar.proofs.Exact.{count_is_length}
 use Rattle.walking.specs.declared.Walk.{Walk}
 use Rattle.walking.specs.Walk.{next_of, walk_start}
@@ -47,7 +47,7 @@ lines_of_lem : (line : ℕ → ℕ → List ℕ) (xs : List Spot) → lines line
 lines_of_lem line [] = refl
 lines_of_lem line (x ∷ xs) = ap (λ l. line x.place x.depth ++ l) (lines_of_lem line xs)
 
-module _ (s : List ℕ) (e d m : ℕ) (q : judge_of 2 s ≡ Accepted e d m) where
+module _ (s : List ℕ) (e d m : ℕ) (q : judge_of 2 s ≡ accepted_with e d m) where
   along_is : (line : ℕ → ℕ → List ℕ) → lines_along line e (words s) walk_start ≡ lines_of line (spots_of 2 (words s))
   along_is line =
       ap (λ n. lines_along line n (words s) walk_start) (count_is_length 2 s e d m q)
@@ -67,7 +67,7 @@ module _ (s : List ℕ) (e d m : ℕ) (q : judge_of 2 s ≡ Accepted e d m) wher
 
 ---- the elements and the texts
 
-pub listing_is : (s : List ℕ) (e d m : ℕ) → length s ≤ 65536 → judge_of 2 s ≡ Accepted e d m →
+pub listing_is : (s : List ℕ) (e d m : ℕ) → length s ≤ 65536 → judge_of 2 s ≡ accepted_with e d m →
     (heading_line ++ (walk_lines e (words s) walk_start ++ end_line m) ≡ listing_of s) × (walk_place e (words s) walk_start ≡ m)
 listing_is s e d m h q =
     let same = along_is s e d m q (line_of (words s)) in
@@ -84,7 +84,7 @@ texts_alone s (x ∷ xs) = go (eqb (type_at (words s) x.place) 17) refl (texts_a
     go true e r = ap (λ l. text_line_of s x.place x.depth ++ l) r
     go false e r = rw e r
 
-pub text_listing_is : (s : List ℕ) (e d m : ℕ) → length s ≤ 65536 → judge_of 2 s ≡ Accepted e d m →
+pub text_listing_is : (s : List ℕ) (e d m : ℕ) → length s ≤ 65536 → judge_of 2 s ≡ accepted_with e d m →
     text_heading ++ (walk_texts e s walk_start ++ end_line m) ≡ text_listing_of s
 text_listing_is s e d m h q =
     let same = along_is s e d m q (text_line_of s) ∙ texts_alone s (spots_of 2 (words s)) in
@@ -93,7 +93,7 @@ text_listing_is s e d m h q =
 
 ---- the plates
 
-module _ (s : List ℕ) (e d m : ℕ) (q : judge_of 2 s ≡ Accepted e d m) where
+module _ (s : List ℕ) (e d m : ℕ) (q : judge_of 2 s ≡ accepted_with e d m) where
   abbrev ws : List ℕ
   ws = words s
 
@@ -119,7 +119,7 @@ module _ (s : List ℕ) (e d m : ℕ) (q : judge_of 2 s ≡ Accepted e d m) wher
       go true k false l line r = rw (line true false k l, r) refl
       go false k c l line r = rw (line false c k l, r) refl
 
-pub plate_listing_is : (s : List ℕ) (e d m : ℕ) → length s ≤ 65536 → judge_of 2 s ≡ Accepted e d m → walk_plates e (words s) walk_start ≡ plate_listing_of s
+pub plate_listing_is : (s : List ℕ) (e d m : ℕ) → length s ≤ 65536 → judge_of 2 s ≡ accepted_with e d m → walk_plates e (words s) walk_start ≡ plate_listing_of s
 plate_listing_is s e d m h q =
     let plates = lines_of (λ at depth. line_by at (plate_of 2 s at)) (cells_among (words s) (spots_of 2 (words s))) in
     along_is s e d m q (λ at depth. line_in (words s) at) ∙ cells_alone s e d m q (spots_of 2 (words s)) (file_found 2 s e d m q)

@@ -1,17 +1,16 @@
 -- Worked cases of stored journals (RULES.md, "Stored journals"): what the calls answer and leave of the buffer, the bytes of blocks, each
 -- fault of a block.
-use Rattle.std.specs.Prelude.{ℕ, ◌*◌, Bool, cond, List, [], ◌∷◌, ◌++◌, take, drop, replicate}
+use Rattle.std.specs.Prelude.{ℕ, ◌*◌, Bool, cond, List, [], ◌∷◌, ◌++◌, take, drop, replicate, Err, Ok, Result}
+use Rattle.refusals.specs.declared.Refusal.{Refusal}
 use Rattle.words.specs.Words.{put_word}
 use Rattle.blocks.specs.Blocks.{closed, block, blocks_for, stored, good, flat_of}
 use Rattle.blocks.specs.Calls.{to_blocks, from_blocks, left_by}
-use Rattle.blocks.specs.declared.Moved.{Moved}
-use Rattle.blocks.specs.declared.Moved.TheVariants.{Written, Refused}
 use Rattle.demands.specs.Cases.{Case, case}
 
 -- 0 and the bytes written, or the refusal
-abbrev pub moved_shown : Moved → List ℕ
-moved_shown (Written n) = 0 ∷ n ∷ []
-moved_shown (Refused n p) = n ∷ p ∷ []
+abbrev pub moved_shown : Result ℕ Refusal → List ℕ
+moved_shown (Ok n) = 0 ∷ n ∷ []
+moved_shown (Err refusal) = refusal.number ∷ refusal.place ∷ []
 
 -- 1 where a block is good
 abbrev pub good_shown : Bool → List ℕ

@@ -1,8 +1,9 @@
 -- Worked cases of floats, and of ellipses and arcs (RULES.md, "Floats" and "Ellipses and arcs"): what four words are read as, which
 -- elements are refused, and what the call for one gives.
-use Rattle.std.specs.Prelude.{ℕ, zero, suc, ◌+◌, ◌*◌, ◌-◌, List, [], ◌∷◌, ◌++◌, replicate, Float}
+use Rattle.std.specs.Prelude.{ℕ, zero, suc, ◌+◌, ◌*◌, ◌-◌, List, [], ◌∷◌, ◌++◌, replicate, Float, Err, Ok, Result}
 use Rattle.std.specs.Float.{binary64}
 use Rattle.std.specs.Float.Ieee.{to_bits}
+use Rattle.refusals.specs.declared.Refusal.{Refusal}
 use Rattle.words.specs.Words.{bytes}
 use Rattle.dfloats.specs.FirstWord.{is_reserved}
 use Rattle.dfloats.specs.Reading.{d_float}
@@ -12,8 +13,8 @@ use Rattle.elements.specs.Rules.{content_checks}
 use Rattle.curve_views.specs.CurveViews.{curve_of}
 use Rattle.curve_views.specs.declared.Origin.{Origin}
 use Rattle.curve_views.specs.declared.Origin.TheVariants as origin
-use Rattle.curve_views.specs.declared.Curve.{Curve}
 use Rattle.curve_views.specs.declared.Curve.TheVariants as curve
+use Rattle.curve_views.specs.declared.Curve.{Curve}
 use Rattle.demands.specs.Cases.{Case, case}
 use Rattle.demands.specs.Shown.{with_marker, judged, fixed_parts, turn_shown}
 use Rattle.demands.specs.Elements.{live, plain, attributed, raw, line, text, cell, named_cell, counting}
@@ -128,11 +129,11 @@ origin_shown (origin.Flat x y) = bits x ∷ bits y ∷ []
 origin_shown (origin.Solid x y z) = bits x ∷ bits y ∷ bits z ∷ []
 
 -- 0 and the type, of an arc where it starts and what it sweeps, the axes, the turn and the origin; or the refusal
-abbrev pub curve_shown : Curve → List ℕ
-curve_shown (curve.Ellipse primary secondary turned at) = 0 ∷ 15 ∷ bits primary ∷ bits secondary ∷ (turn_shown turned ++ origin_shown at)
-curve_shown (curve.Arc start sweep primary secondary turned at) =
+abbrev pub curve_shown : Result Curve Refusal → List ℕ
+curve_shown (Ok (curve.Ellipse primary secondary turned at)) = 0 ∷ 15 ∷ bits primary ∷ bits secondary ∷ (turn_shown turned ++ origin_shown at)
+curve_shown (Ok (curve.Arc start sweep primary secondary turned at)) =
     0 ∷ 16 ∷ start ∷ sweep ∷ bits primary ∷ bits secondary ∷ (turn_shown turned ++ origin_shown at)
-curve_shown (curve.Refused n p) = n ∷ p ∷ []
+curve_shown (Err refusal) = refusal.number ∷ refusal.place ∷ []
 
 abbrev pub curve_read : ℕ → List ℕ → ℕ → List ℕ
 curve_read dim ws at = curve_shown (curve_of dim (with_marker ws) at)

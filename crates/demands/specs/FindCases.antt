@@ -1,10 +1,10 @@
 -- Worked cases of deleted cells (RULES.md, "Finder", "Index"): the finder and the look-up that pass over them, and those that do not.
-use Rattle.std.specs.Prelude.{ℕ, ◌+◌, List, [], ◌∷◌, ◌++◌, length, replicate}
+use Rattle.std.specs.Prelude.{ℕ, ◌+◌, List, [], ◌∷◌, ◌++◌, length, replicate, Err, Ok, Result}
 use Rattle.words.specs.Words.{bytes}
-use Rattle.finder.specs.declared.Found.{Found}
-use Rattle.finder.specs.declared.Found.TheVariants as found
 use Rattle.finder.specs.declared.Wanted.TheVariants.{Live, WithDeleted}
 use Rattle.finder.specs.Finder.{find_of}
+use Rattle.finder.specs.declared.Found.{Found}
+use Rattle.finder.specs.declared.Missed.{Missed}
 use Rattle.lookup.specs.LookUp.{look_up_of}
 use Rattle.lookup.specs.Live.{live_look_up_of}
 use Rattle.demands.specs.Cases.{Case, case}
@@ -32,9 +32,9 @@ abbrev pub with_marker : List ℕ → List ℕ
 with_marker ws = bytes (ws ++ (65535 ∷ []))
 
 -- 0, the place and how many were looked at, or the refusal's number, its place and the count
-abbrev pub finding : Found → List ℕ
-finding (found.At place looked) = 0 ∷ place ∷ looked ∷ []
-finding (found.Refused number place count) = number ∷ place ∷ count ∷ []
+abbrev pub finding : Result Found Missed → List ℕ
+finding (Ok found) = 0 ∷ found.place ∷ found.looks ∷ []
+finding (Err missed) = missed.refusal.number ∷ missed.refusal.place ∷ missed.looks ∷ []
 
 -- what the finder answers of 00417, and what it answers with deleted cells
 abbrev pub finds : List ℕ → List ℕ → List ℕ → Case

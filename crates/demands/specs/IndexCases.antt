@@ -1,27 +1,26 @@
 -- Worked cases of an index (RULES.md, "Index"): what building answers and every byte of the buffer then, the cells in file order, the
 -- look-up with its looks, and calls of a session with the index that they leave.
-use Rattle.std.specs.Prelude.{ℕ, ◌+◌, ◌*◌, List, [], ◌∷◌, ◌++◌, true, false, length, replicate}
+use Rattle.std.specs.Prelude.{ℕ, ◌+◌, ◌*◌, List, [], ◌∷◌, ◌++◌, true, false, length, replicate, Err, Ok, Result}
 use Rattle.std.proofs.Math.Option.{Option, none, some}
+use Rattle.refusals.specs.declared.Refusal.{Refusal}
 use Rattle.words.specs.Words.{words, bytes}
 use Rattle.files.specs.Judge.{judge_of}
 use Rattle.cells.specs.Cells.{cells_of}
 use Rattle.cells.specs.Index.{index_of, index_bytes}
-use Rattle.indexing.specs.declared.Built.{Built}
-use Rattle.indexing.specs.declared.Built.TheVariants as built
 use Rattle.indexing.specs.Indexing.{built_by, left_by}
-use Rattle.lookup.specs.declared.Found.{Found}
-use Rattle.lookup.specs.declared.Found.TheVariants as found
 use Rattle.lookup.specs.LookUp.{look_up, look_up_of}
 use Rattle.answers.specs.Answers.{Reply, done, refuse}
 use Rattle.dgn_index.specs.IndexNumbers.{cells_reply, listed_by}
 use Rattle.edits.specs.Calls.{Index, Session, Call, mark_call, rename_call, insert_call, remove_call, undo_call, step, edited_numbers}
+use Rattle.finder.specs.declared.Found.{Found}
+use Rattle.finder.specs.declared.Missed.{Missed}
 use Rattle.demands.specs.Cases.{Case, case}
 use Rattle.demands.specs.Elements.{line, dead_cell, named_cell, library_cell, in_cells, text00417, text417}
 
 -- 0 and the used length, or the refusal's number and place
-abbrev pub built_numbers : Built → List ℕ
-built_numbers (built.Index used) = 0 ∷ used ∷ []
-built_numbers (built.Refused number place) = number ∷ place ∷ []
+abbrev pub built_numbers : Result ℕ Refusal → List ℕ
+built_numbers (Ok used) = 0 ∷ used ∷ []
+built_numbers (Err refusal) = refusal.number ∷ refusal.place ∷ []
 
 -- building of a 2D file's words, with a marker behind them, in a buffer
 abbrev pub builds : List ℕ → List ℕ → List ℕ → Case
@@ -86,9 +85,9 @@ list_cases =
     []
 
 -- the place and the looks after a 0, or the refusal's number, its place and the looks
-abbrev pub found_numbers : Found → List ℕ
-found_numbers (found.At place looks) = 0 ∷ place ∷ looks ∷ []
-found_numbers (found.Refused number place looks) = number ∷ place ∷ looks ∷ []
+abbrev pub found_numbers : Result Found Missed → List ℕ
+found_numbers (Ok found) = 0 ∷ found.place ∷ found.looks ∷ []
+found_numbers (Err missed) = missed.refusal.number ∷ missed.refusal.place ∷ missed.looks ∷ []
 
 -- an entry of a name and a place, as one number
 abbrev pub named : ℕ → ℕ → ℕ

@@ -1,14 +1,13 @@
 -- An index beside a file that is edited, and building: the index that every run of calls leaves is just the one that building makes of
 -- the file, and a run may begin with what building leaves. The order of entries, by words and places.
-use Rattle.std.specs.Prelude.{ℕ, ◌<◌, ◌≤◌, ◌≡◌, ◌↔◌, ◌⊎◌, List, [], ◌∷◌, length}
+use Rattle.std.specs.Prelude.{ℕ, ◌<◌, ◌≤◌, ◌≡◌, ◌↔◌, ◌⊎◌, List, [], ◌∷◌, length, Ok, Result}
 use Rattle.std.proofs.Math.Option.{some}
+use Rattle.refusals.specs.declared.Refusal.{Refusal}
 use Rattle.words.specs.Words.{words, Below}
 use Rattle.files.specs.Judge.{judge_of}
-use Rattle.files.specs.declared.Judged.TheVariants.{Accepted}
+use Rattle.files.specs.Accepted.{accepted_with}
 use Rattle.cells.specs.Cells.{Cell, cells_of}
 use Rattle.cells.specs.Index.{cell_entry}
-use Rattle.indexing.specs.declared.Built.{Built}
-use Rattle.indexing.specs.declared.Built.TheVariants as built
 use Rattle.indexing.specs.Indexing.{BuildsFile}
 use Rattle.edits.specs.Calls.{Index, Session, Call}
 use Rattle.edits.specs.Demand.{OpenedEmpty, PiecesBytes, run_of, used_bytes}
@@ -19,9 +18,9 @@ use Rattle.edits.specs.Demand.{OpenedEmpty, PiecesBytes, run_of, used_bytes}
 -- length and leaves the index's buffer, byte for byte
 abbrev pub IndexAsBuilt : Type 0
 IndexAsBuilt =
-    (dim : ℕ) (s : Session) (cs : List Call) (i : Index) (b : List ℕ) (r : Built) (t : List ℕ) → OpenedEmpty dim s → PiecesBytes cs →
+    (dim : ℕ) (s : Session) (cs : List Call) (i : Index) (b : List ℕ) (r : Result ℕ Refusal) (t : List ℕ) → OpenedEmpty dim s → PiecesBytes cs →
     (run_of dim s cs).session.index ≡ some i → length b ≡ length i.buffer →
-    BuildsFile dim (used_bytes (run_of dim s cs).session) b r t → (r ≡ built.Index i.iused) × (t ≡ i.buffer)
+    BuildsFile dim (used_bytes (run_of dim s cs).session) b r t → (r ≡ Ok i.iused) × (t ≡ i.buffer)
 
 -- a session lent this index, whatever index it was lent before
 abbrev pub lent_index : Session → List ℕ → ℕ → Session
@@ -36,7 +35,7 @@ lent_index s t n = record {
 -- a run may begin with what building of its file's used bytes answers and leaves of a buffer
 abbrev pub BuiltOpens : Type 0
 BuiltOpens =
-    (dim : ℕ) (s : Session) (b : List ℕ) (n : ℕ) (t : List ℕ) → OpenedEmpty dim s → BuildsFile dim (used_bytes s) b (built.Index n) t →
+    (dim : ℕ) (s : Session) (b : List ℕ) (n : ℕ) (t : List ℕ) → OpenedEmpty dim s → BuildsFile dim (used_bytes s) b (Ok n) t →
     OpenedEmpty dim (lent_index s t n)
 
 ---- the order of entries
@@ -55,7 +54,7 @@ EachOk (c ∷ cs) = CellOk c × EachOk cs
 -- as every cell of an accepted file is
 abbrev pub CellsOk : Type 0
 CellsOk =
-    (dim : ℕ) (s : List ℕ) (e d m : ℕ) → Below 256 s → judge_of dim s ≡ Accepted e d m → EachOk (cells_of dim (words s))
+    (dim : ℕ) (s : List ℕ) (e d m : ℕ) → Below 256 s → judge_of dim s ≡ accepted_with e d m → EachOk (cells_of dim (words s))
 
 -- by the first word, then by the second, then by the place
 abbrev pub Before : Cell → Cell → Type 0

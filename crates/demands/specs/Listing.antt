@@ -1,13 +1,13 @@
 -- The listings of the programs celllist, textlist and platelist (RULES.md, "Listing"): one line of a refused file or of more than
 -- 65,536 bytes; else the heading, a line for each element, or for each text, in file order, and the end, or a line for each live cell.
-use Rattle.std.specs.Prelude.{ℕ, zero, suc, cond, ◌&&◌, List, [], ◌∷◌, ◌++◌, eqb, leb, length}
+use Rattle.std.specs.Prelude.{ℕ, zero, suc, cond, ◌&&◌, List, [], ◌∷◌, ◌++◌, eqb, leb, length, Err, Ok, Result}
+use Rattle.refusals.specs.declared.Refusal.{Refusal}
 use Rattle.words.specs.Words.{words}
 use Rattle.kinds.specs.Kinds.{is_cell}
 use Rattle.headers.specs.Header.{type_at}
 use Rattle.files.specs.Judge.{judge_of}
 use Rattle.files.specs.Spots.{Spot, spots_of}
-use Rattle.files.specs.declared.Judged.{Judged}
-use Rattle.files.specs.declared.Judged.TheVariants.{Accepted, Refused}
+use Rattle.files.specs.declared.Accepted.{Accepted}
 use Rattle.walking.specs.declared.Walk.{Walk}
 use Rattle.walking.specs.Walk.{next_of}
 use Rattle.listing.specs.Lines.{heading_line, refused_line, end_line}
@@ -21,9 +21,9 @@ use Rattle.plate_lines.specs.Plate.{line_by, line_in}
 ---- the listings
 
 -- by what judging answers; `whole` is what an accepted file has, by its marker's place
-abbrev pub listing_by : Judged → (ℕ → List ℕ) → List ℕ
-listing_by (Refused number place) whole = refused_line number place
-listing_by (Accepted elements deepest marker) whole = whole marker
+abbrev pub listing_by : Result Accepted Refusal → (ℕ → List ℕ) → List ℕ
+listing_by (Err refusal) whole = refused_line refusal.number refusal.place
+listing_by (Ok file) whole = whole file.marker
 
 -- of the bytes s of a 2D file
 unfoldable pub listed : (ℕ → List ℕ) → List ℕ → List ℕ

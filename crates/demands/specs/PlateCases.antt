@@ -1,11 +1,11 @@
 -- Worked cases of plates and of the listing of platelist (RULES.md, "Plates", "Listing").
-use Rattle.std.specs.Prelude.{ℕ, ◌+◌, true, List, [], ◌∷◌, ◌++◌, length, replicate}
+use Rattle.std.specs.Prelude.{ℕ, ◌+◌, true, List, [], ◌∷◌, ◌++◌, length, replicate, Err, Ok, Result}
+use Rattle.refusals.specs.declared.Refusal.{Refusal}
 use Rattle.words.specs.Words.{bytes}
 use Rattle.edits.specs.Calls.{Session, mark_call, step}
 use Rattle.edits.specs.Demand.{used_bytes}
-use Rattle.plates.specs.declared.Plated.{Plated}
-use Rattle.plates.specs.declared.Plated.TheVariants.{Counted, Refused}
 use Rattle.plates.specs.Plates.{plate_numbers, plate_of}
+use Rattle.plates.specs.declared.Plate.{Plate}
 use Rattle.demands.specs.Cases.{Case, case}
 use Rattle.demands.specs.Elements.{first_word, live, element, plain, raw, line, dead_line, text, cell, dead_cell, named_cell, chain}
 use Rattle.demands.specs.Shown.{with_marker}
@@ -13,9 +13,9 @@ use Rattle.demands.specs.Listing.{plate_listing_of}
 use Rattle.demands.specs.SessionCases.{session, nines}
 
 -- 0, the two words of the name, the six counts and the levels; or the refusal
-abbrev pub plate_shown : Plated → List ℕ
-plate_shown (Counted plate) = 0 ∷ plate_numbers plate
-plate_shown (Refused n p) = n ∷ p ∷ []
+abbrev pub plate_shown : Result Plate Refusal → List ℕ
+plate_shown (Ok plate) = 0 ∷ plate_numbers plate
+plate_shown (Err refusal) = refusal.number ∷ refusal.place ∷ []
 
 abbrev pub plate_read : ℕ → List ℕ → ℕ → List ℕ
 plate_read dim ws at = plate_shown (plate_of dim (with_marker ws) at)

@@ -1,16 +1,13 @@
 -- Worked cases of ranges (RULES.md, "Element header" and "Reading calls"): the coordinate of a stored long and back, a view's range, what
 -- the writers take, and whether points lie in their range.
-use Rattle.std.specs.Prelude.{ℕ, zero, suc, ◌+◌, List, [], ◌∷◌, ◌++◌, map, ℤ, pos, negsuc, length, replicate}
+use Rattle.std.specs.Prelude.{ℕ, zero, suc, ◌+◌, List, [], ◌∷◌, ◌++◌, map, ℤ, pos, negsuc, length, replicate, Bool, true, false, Err, None, Ok, Option, Result, Some}
+use Rattle.refusals.specs.declared.Refusal.{Refusal}
 use Rattle.words.specs.Words.{words, bytes, long_at, unsigned}
 use Rattle.ranges.specs.Ranges.{coordinate, stored}
 use Rattle.views.specs.Views.{view_of}
-use Rattle.views.specs.declared.View.{View}
-use Rattle.views.specs.declared.View.TheVariants as view
+use Rattle.views.specs.declared.Element.{Element}
 use Rattle.views.specs.declared.Range.{Range}
-use Rattle.views.specs.declared.Range.TheVariants as range
 use Rattle.range_checks.specs.InRange.{in_range_of}
-use Rattle.range_checks.specs.declared.InRange.{InRange}
-use Rattle.range_checks.specs.declared.InRange.TheVariants as answer
 use Rattle.fields.specs.Words.{longs, range_longs}
 use Rattle.write_answers.specs.Writing.{fields_of}
 use Rattle.dgn_writer.specs.Writing as elements
@@ -62,13 +59,13 @@ lined zs points = ranged (first_word 3 0 0 0) zs (point_words points)
 
 ---- a view's range
 
-abbrev pub range_shown : Range → List ℕ
-range_shown range.Absent = 0 ∷ []
-range_shown (range.Longs a b c d e f) = 1 ∷ signed_all (a ∷ b ∷ c ∷ d ∷ e ∷ f ∷ [])
+abbrev pub range_shown : Option Range → List ℕ
+range_shown None = 0 ∷ []
+range_shown (Some range) = 1 ∷ signed_all (range.low_x ∷ range.low_y ∷ range.low_z ∷ range.high_x ∷ range.high_y ∷ range.high_z ∷ [])
 
-abbrev pub range_seen : View → List ℕ
-range_seen (view.Seen e) = range_shown e.range
-range_seen (view.Refused n p) = n ∷ p ∷ []
+abbrev pub range_seen : Result Element Refusal → List ℕ
+range_seen (Ok e) = range_shown e.range
+range_seen (Err refusal) = refusal.number ∷ refusal.place ∷ []
 
 -- x from -5 to 5, y from -7 to 7, and a low z of 3 above a high one of -3, which a 2D file does not ask
 abbrev pub small : List ℤ
@@ -124,10 +121,10 @@ taken_cases =
 ---- points in their range
 
 -- 0 and 1 for yes, 0 for no; or the refusal's number and place
-abbrev pub answer_numbers : InRange → List ℕ
-answer_numbers answer.Yes = 0 ∷ 1 ∷ []
-answer_numbers answer.No = 0 ∷ 0 ∷ []
-answer_numbers (answer.Refused n p) = n ∷ p ∷ []
+abbrev pub answer_numbers : Result Bool Refusal → List ℕ
+answer_numbers (Ok true) = 0 ∷ 1 ∷ []
+answer_numbers (Ok false) = 0 ∷ 0 ∷ []
+answer_numbers (Err refusal) = refusal.number ∷ refusal.place ∷ []
 
 abbrev pub asks : ℕ → List ℕ → List ℕ → Case
 asks dim ws given = case (answer_numbers (in_range_of dim (with_marker ws) 0)) given

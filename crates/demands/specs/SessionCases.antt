@@ -6,7 +6,7 @@ use Rattle.words.specs.Words.{bytes}
 use Rattle.files.specs.Spots.{Spot}
 use Rattle.edits.specs.Allowed.{Fault?, fine, fault, room_fault, insert_fault}
 use Rattle.edits.specs.Records.{record_words, flag, inserted}
-use Rattle.edits.specs.Calls.{Session, Call, mark_call, rename_call, insert_call, remove_call, undo_call, Result, step, edited_numbers}
+use Rattle.edits.specs.Calls.{Session, Call, mark_call, rename_call, insert_call, remove_call, undo_call, Outcome, step, edited_numbers}
 use Rattle.edits.specs.Demand.{run_of}
 use Rattle.demands.specs.Cases.{Case, case}
 use Rattle.demands.specs.Elements.{first_word, live, element, plain, raw, raws, line, dead_line, cell, dead_cell, named_cell, library_cell, chain, text00417, text417}
@@ -26,7 +26,7 @@ abbrev pub session_numbers : Session → List ℕ
 session_numbers s = s.used ∷ s.jused ∷ s.file ++ s.journal
 
 -- what a call answers and what it leaves
-abbrev pub result_numbers : Result → List ℕ
+abbrev pub result_numbers : Outcome → List ℕ
 result_numbers r = edited_numbers r.answer ++ session_numbers r.after
 
 -- a call of a 2D session is made and leaves another session

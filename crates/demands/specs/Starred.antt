@@ -2,11 +2,12 @@
 -- bits 6 and 7, cases of its depths, totals, counts, stored names, attribute parts and texts, of its orders of checks, of
 -- sessions, of an index, of deleted cells, of floats, of ellipses and arcs and of ranges, as one list. That all hold is one statement of the
 -- page of demands.
-use Rattle.std.specs.Prelude.{ℕ, zero, suc, ◌+◌, ◌*◌, List, [], ◌∷◌, ◌++◌, Bool, true, ◌&&◌, replicate}
+use Rattle.std.specs.Prelude.{ℕ, zero, suc, ◌+◌, ◌*◌, List, [], ◌∷◌, ◌++◌, Bool, true, ◌&&◌, replicate, Err, None, Ok, Option, Result, Some}
+use Rattle.refusals.specs.declared.Refusal.{Refusal}
 use Rattle.words.specs.Words.{words, bytes, long_at, signed}
-use Rattle.names.specs.Names.{word_of, packed, packed_numbers, unpacked, answer_numbers}
-use Rattle.names.specs.declared.Packed.{Packed}
-use Rattle.names.specs.declared.Packed.TheVariants as name
+use Rattle.names.specs.Names.{word_of, packed, packed_numbers, unpacked, unpacked_numbers}
+use Rattle.names.specs.declared.Name.{Name}
+use Rattle.names.specs.declared.Unpacked.{Unpacked}
 use Rattle.kinds.specs.FirstWord.{bit}
 use Rattle.kinds.specs.Kinds.{fixed_part, may_stand}
 use Rattle.limits.specs.Limits.{size_ok, used_ok}
@@ -14,19 +15,14 @@ use Rattle.headers.specs.Checks.{first_fault}
 use Rattle.elements.specs.Rules.{extent_ok, content_checks}
 use Rattle.files.specs.Judge.{judge_of, judged_numbers}
 use Rattle.points_linkages.specs.Points.{point_of}
-use Rattle.points_linkages.specs.declared.Point.{Point}
 use Rattle.points_linkages.specs.declared.Point.TheVariants as point
+use Rattle.points_linkages.specs.declared.Point.{Point}
 use Rattle.text_views.specs.TextViews.{text_of, characters_of, field_of}
 use Rattle.text_views.specs.declared.Origin.{Origin}
 use Rattle.text_views.specs.declared.Origin.TheVariants as origin
-use Rattle.text_views.specs.declared.Odd.{Odd}
-use Rattle.text_views.specs.declared.Odd.TheVariants as odd
-use Rattle.text_views.specs.declared.TextView.{TextView}
-use Rattle.text_views.specs.declared.TextView.TheVariants as texts
 use Rattle.text_views.specs.declared.Characters.{Characters}
-use Rattle.text_views.specs.declared.Characters.TheVariants as characters
-use Rattle.text_views.specs.declared.FieldView.{FieldView}
-use Rattle.text_views.specs.declared.FieldView.TheVariants as field
+use Rattle.text_views.specs.declared.Field.{Field}
+use Rattle.text_views.specs.declared.Text.{Text}
 use Rattle.demands.specs.Cases.{Case, case, holds}
 use Rattle.demands.specs.Shown.{signed_numbers, signed_all, with_marker, judged2_d, judged3_d, fixed_parts, turn_shown}
 use Rattle.demands.specs.Elements.{first_word, live, plain, attributed, raw, line, dead_line, text, texted, flat_text, solid_text, cell, named_cell, library_cell, chain, counting, in_cells, text00417, text417}
@@ -60,30 +56,35 @@ abbrev pub times : ℕ → List ℕ → List ℕ
 times m [] = []
 times m (k ∷ ks) = m * k ∷ times m ks
 
-abbrev pub firstWord? : Packed → ℕ
-firstWord? (name.Words a b) = a
-firstWord? (name.Refused n p) = 65536
+abbrev pub firstWord? : Result Name Refusal → ℕ
+firstWord? (Ok name) = name.first
+firstWord? (Err refusal) = 65536
 
 abbrev pub first_words : List ℕ → List ℕ
 first_words [] = []
 first_words (c ∷ cs) = firstWord? (packed (c ∷ [])) ∷ first_words cs
 
+-- the numbers of an answer of unpacking, and of a text its letters behind them
+abbrev pub unpacked_shown : Result Unpacked Refusal → List ℕ
+unpacked_shown (Ok t) = unpacked_numbers (Ok t) ++ t.letters
+unpacked_shown (Err refusal) = unpacked_numbers (Err refusal)
+
 abbrev pub name_cases : List Case
 name_cases =
     case (packed_numbers (packed text00417)) (0 ∷ 49234 ∷ 51080 ∷ []) ∷
     case (packed_numbers (packed text417)) (0 ∷ 55677 ∷ 0 ∷ []) ∷
-    case (answer_numbers (unpacked 49234 51080).answer ++ (unpacked 49234 51080).letters) (0 ∷ 5 ∷ text00417 ++ (0 ∷ [])) ∷
-    case (answer_numbers (unpacked 55677 0).answer ++ (unpacked 55677 0).letters) (0 ∷ 3 ∷ text417 ++ (0 ∷ 0 ∷ 0 ∷ [])) ∷
-    case (answer_numbers (unpacked 63999 63999).answer ++ (unpacked 63999 63999).letters) (0 ∷ 6 ∷ 57 ∷ 57 ∷ 57 ∷ 57 ∷ 57 ∷ 57 ∷ []) ∷
+    case (unpacked_shown (unpacked 49234 51080)) (0 ∷ 5 ∷ text00417 ++ (0 ∷ [])) ∷
+    case (unpacked_shown (unpacked 55677 0)) (0 ∷ 3 ∷ text417 ++ (0 ∷ 0 ∷ 0 ∷ [])) ∷
+    case (unpacked_shown (unpacked 63999 63999)) (0 ∷ 6 ∷ 57 ∷ 57 ∷ 57 ∷ 57 ∷ 57 ∷ 57 ∷ []) ∷
     -- each letter of the set packs to its code: a space before A, then A-Z, $, . and 0-9
     case (packed_numbers (packed (32 ∷ 65 ∷ []))) (0 ∷ 40 ∷ 0 ∷ []) ∷
     case (first_words (from 26 65)) (times 1600 (from 26 1)) ∷
     case (first_words (36 ∷ 46 ∷ [])) (times 1600 (27 ∷ 28 ∷ [])) ∷
     case (first_words (from 10 48)) (times 1600 (from 10 30)) ∷
     -- a space inside a name stays
-    case (answer_numbers (unpacked 1601 0).answer ++ (unpacked 1601 0).letters) (0 ∷ 3 ∷ 65 ∷ 32 ∷ 65 ∷ 0 ∷ 0 ∷ 0 ∷ []) ∷
-    case (answer_numbers (unpacked 64000 0).answer) (12 ∷ 0 ∷ []) ∷
-    case (answer_numbers (unpacked 0 64000).answer) (12 ∷ 0 ∷ []) ∷
+    case (unpacked_shown (unpacked 1601 0)) (0 ∷ 3 ∷ 65 ∷ 32 ∷ 65 ∷ 0 ∷ 0 ∷ 0 ∷ []) ∷
+    case (unpacked_shown (unpacked 64000 0)) (12 ∷ 0 ∷ []) ∷
+    case (unpacked_shown (unpacked 0 64000)) (12 ∷ 0 ∷ []) ∷
     []
 
 -- the 2D cell of 46 words with total T and one 26-word line
@@ -381,10 +382,10 @@ order_cases =
     []
 
 -- point k of the element at the top of a file: the number of the answer, then each coordinate as two numbers
-abbrev pub point_shown : Point → List ℕ
-point_shown (point.Flat x y) = 0 ∷ signed_all (x ∷ y ∷ [])
-point_shown (point.Solid x y z) = 0 ∷ signed_all (x ∷ y ∷ z ∷ [])
-point_shown (point.Refused n p) = n ∷ p ∷ []
+abbrev pub point_shown : Result Point Refusal → List ℕ
+point_shown (Ok (point.Flat x y)) = 0 ∷ signed_all (x ∷ y ∷ [])
+point_shown (Ok (point.Solid x y z)) = 0 ∷ signed_all (x ∷ y ∷ z ∷ [])
+point_shown (Err refusal) = refusal.number ∷ refusal.place ∷ []
 
 abbrev pub point_numbers : ℕ → List ℕ → ℕ → List ℕ
 point_numbers dim ws k = point_shown (point_of dim (bytes (ws ++ (65535 ∷ []))) 0 k)
@@ -415,23 +416,23 @@ abbrev pub origin_shown : Origin → List ℕ
 origin_shown (origin.Flat x y) = signed_all (x ∷ y ∷ [])
 origin_shown (origin.Solid x y z) = signed_all (x ∷ y ∷ z ∷ [])
 
-abbrev pub odd_shown : Odd → List ℕ
-odd_shown odd.Absent = 0 ∷ []
-odd_shown (odd.Byte value) = 1 ∷ value ∷ []
+abbrev pub odd_shown : Option ℕ → List ℕ
+odd_shown None = 0 ∷ []
+odd_shown (Some value) = 1 ∷ value ∷ []
 
-abbrev pub text_shown : TextView → List ℕ
-text_shown (texts.Read t) =
+abbrev pub text_shown : Result Text Refusal → List ℕ
+text_shown (Ok t) =
     0 ∷ t.font ∷ t.justification ∷ t.length ∷ t.height
     ∷ (turn_shown t.turn ++ (origin_shown t.origin ++ (t.characters ∷ t.fields ∷ odd_shown t.odd)))
-text_shown (texts.Refused n p) = n ∷ p ∷ []
+text_shown (Err refusal) = refusal.number ∷ refusal.place ∷ []
 
-abbrev pub characters_shown : Characters → List ℕ
-characters_shown (characters.At start count) = 0 ∷ start ∷ count ∷ []
-characters_shown (characters.Refused n p) = n ∷ p ∷ []
+abbrev pub characters_shown : Result Characters Refusal → List ℕ
+characters_shown (Ok part) = 0 ∷ part.start ∷ part.length ∷ []
+characters_shown (Err refusal) = refusal.number ∷ refusal.place ∷ []
 
-abbrev pub field_shown : FieldView → List ℕ
-field_shown (field.Read first count justification) = 0 ∷ first ∷ count ∷ signed_all (justification ∷ [])
-field_shown (field.Refused n p) = n ∷ p ∷ []
+abbrev pub field_shown : Result Field Refusal → List ℕ
+field_shown (Ok field) = 0 ∷ field.first ∷ field.length ∷ signed_all (field.justification ∷ [])
+field_shown (Err refusal) = refusal.number ∷ refusal.place ∷ []
 
 -- `SEAL 7`, a field of its last two characters with justification -1, and an odd byte 42, in 2D and in 3D, every number another
 abbrev pub seal_bytes : List ℕ

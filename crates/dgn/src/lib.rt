@@ -11,6 +11,8 @@ ghost use Rattle.finder.specs.Finder.{find_of};
 ghost use Rattle.answers.specs.Answers.{SmallReply, Replied};
 ghost use Rattle.dgn.specs.JudgeFind.{judge_reply, find_reply};
 
+use finder::{Found, Missed};
+
 #[unsafe(no_mangle)]
 pub extern "C" fn dgn_judge(file: &[u8], dim: usize, out: &mut [usize]) -> usize
     ensures { Replied 3 (judge_reply (judge_of dim file.now)) out.old result out.new }
@@ -19,36 +21,30 @@ pub extern "C" fn dgn_judge(file: &[u8], dim: usize, out: &mut [usize]) -> usize
         return 1;
     }
     match files::judge(file, dim) {
-        files::Judged::Accepted {
-            elements,
-            deepest,
-            marker,
-        } => {
-            out[0] = elements;
-            out[1] = deepest;
-            out[2] = marker;
+        Ok(accepted) => {
+            out[0] = accepted.elements;
+            out[1] = accepted.deepest;
+            out[2] = accepted.marker;
             0
         }
-        files::Judged::Refused { number, place } => number + 256 * place,
+        Err(refusal) => refusal.number + 256 * refusal.place,
     }
 }
 
 // What the finder answers, put into a slice that has room for it.
-fn put_found(found: finder::Found, out: &mut [usize]) -> usize
+fn put_found(found: Result<Found, Missed>, out: &mut [usize]) -> usize
     requires { (SmallReply (find_reply found)) × (2 ≤ length out.old) }
     ensures { Replied 2 (find_reply found) out.old result out.new }
 {
     match found {
-        finder::Found::At { place, looked } => {
+        Ok(Found { place, looks }) => {
             out[0] = place;
-            out[1] = looked;
+            out[1] = looks;
             0
         }
-        finder::Found::Refused {
-            number,
-            place,
-            count,
-        } => number + 256 * kinds::pick(number == 13, count, place),
+        Err(Missed { refusal, looks }) => {
+            refusal.number + 256 * kinds::pick(refusal.number == 13, looks, refusal.place)
+        }
     }
 }
 

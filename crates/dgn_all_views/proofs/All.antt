@@ -12,7 +12,6 @@ use mathlib.Core.Bool.{and-eq-true_iff}
 use Rattle.words.specs.Words.{words}
 use Rattle.files.specs.Judge.{judge_of}
 use Rattle.files.specs.Spots.{Spot, spots_of}
-use Rattle.files.specs.declared.Judged.TheVariants.{Accepted}
 use Rattle.places.specs.Places.{above_of}
 use Rattle.views.specs.Views.{view_of, element_view}
 use Rattle.view_numbers.proofs.Laws.{thirty_two}
@@ -25,6 +24,7 @@ use Rattle.dgn_all_views.specs.Views.{seen_numbers, views_of, views_many, views_
 use Rattle.dgn_all_views.specs.Answers.{views_count, views_reply}
 use Rattle.dgn_all_views.specs.Calls.{views_call, AllViews}
 use Rattle.dgn_all_views.proofs.Tours.{seen}
+use Rattle.files.specs.Accepted.{accepted_with}
 
 views_append : (dim : ℕ) (s : List ℕ) (xs ys : List Spot) → views_of dim s (xs ++ ys) ≡ views_of dim s xs ++ views_of dim s ys
 views_append dim s [] ys = refl
@@ -32,7 +32,7 @@ views_append dim s (x ∷ xs) ys =
     let v = seen_numbers x.place (view_of dim s x.place) in
     ap (λ l. v ++ l) (views_append dim s xs ys) ∙ sym (append_assoc v (views_of dim s xs) (views_of dim s ys))
 
-module _ (dim : ℕ) (s : List ℕ) (e d m : ℕ) (j : judge_of dim s ≡ Accepted e d m) where
+module _ (dim : ℕ) (s : List ℕ) (e d m : ℕ) (j : judge_of dim s ≡ accepted_with e d m) where
   -- a view has 32 numbers
   views_long : (xs : List Spot) → FoundIn (spots_of dim (words s)) xs → length (views_of dim s xs) ≡ 32 * length xs
   views_long [] f = refl

@@ -23,7 +23,6 @@ use Rattle.places.specs.declared.Above.TheVariants.{Under}
 use Rattle.places.specs.Places.{above_of}
 use Rattle.views.specs.Views.{element_view, element_in}
 use Rattle.views.specs.declared.Element.{Element}
-use Rattle.views.specs.declared.View.TheVariants.{Seen}
 use Rattle.views.proofs.Known.{known_element}
 use Rattle.view_numbers.specs.Numbers.{view_numbers, as_signed, put_view}
 use Rattle.view_numbers.proofs.Laws.{thirty_two}
@@ -32,6 +31,7 @@ use Rattle.dgn_all_views.specs.Tour.{Tour, kept, header_in, tour_next, tour_of, 
 use Rattle.dgn_all_views.specs.Views.{shown_at, tour_view, views_from, PartPut}
 use Rattle.dgn_all_views.proofs.Heads.{kept_in, kept_out}
 use Rattle.dgn_all_views.proofs.Alike.{tour, closed_most}
+use Rattle.std.specs.Prelude.{Ok}
 
 ---- the headers
 
@@ -105,7 +105,7 @@ views_more (suc n) ws top k =
 pub one_before : (k i : ℕ) (views more : List ℤ) → i < k → views ≡ cond (ltb i k) views more
 one_before k i views more h = rw (lt-ltb i k h) refl
 
-pub one_put : (s : List ℕ) (place depth : ℕ) (above : Above) (e : Element) (k i : ℕ) (views now : List ℤ) → element_in (words s) place depth above ≡ Seen e →
+pub one_put : (s : List ℕ) (place depth : ℕ) (above : Above) (e : Element) (k i : ℕ) (views now : List ℤ) → element_in (words s) place depth above ≡ Ok e →
     place < length (words s) → k ≤ i → 32 * (i - k) + 32 ≤ length views → now ≡ put_view views (32 * (i - k)) place e →
     now ≡ cond (ltb i k) views (sets views (32 * (i - k)) (shown_at (words s) place depth above))
 unfolding shown_at put_view

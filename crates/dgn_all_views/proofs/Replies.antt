@@ -9,18 +9,18 @@ use lib.ListN.{length, set}
 use lib.Seq.{sets}
 use Rattle.words.specs.Words.{words, Below}
 use Rattle.files.specs.Judge.{judge_of}
-use Rattle.order.specs.declared.Begun.TheVariants.{Refused}
 use Rattle.order.specs.Calls.{begun_of, none_fits}
 use Rattle.order.proofs.Calls.{GoesOn, goes_few, call_refused, call_full, call_done}
 use Rattle.dgn_all_views.specs.Views.{views_many, views_part, Begins, PartPut}
 use Rattle.dgn_all_views.specs.Answers.{views_count, views_reply, ViewsGiven}
 use Rattle.dgn_all_views.proofs.Tours.{views_are, tour_inside}
+use Rattle.std.specs.Prelude.{Err}
 
 module _ (dim : ℕ) (s : List ℕ) (k : ℕ) (views : List ℤ) (out : List ℕ) where
   abbrev many : ℕ
   many = views_count (judge_of dim s) (length views) k
 
-  pub views_refused : (a : ℕ) → begun_of dim s 1 (length out) ≡ Refused a → ViewsGiven dim s k views out a views out
+  pub views_refused : (a : ℕ) → begun_of dim s 1 (length out) ≡ Err a → ViewsGiven dim s k views out a views out
   unfolding views_reply
   views_refused a q =
       let g = call_refused dim s 1 many k (many ∷ []) out (sets views 0 (views_part dim s k many)) views a q in

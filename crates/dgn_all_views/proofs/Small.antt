@@ -11,7 +11,6 @@ use borrow.Author.Tests.{leb-true, leb-false}
 use Rattle.words.specs.Words.{words, Below}
 use Rattle.files.specs.Judge.{judge_of}
 use Rattle.files.specs.Spots.{Spot, spots_of}
-use Rattle.files.specs.declared.Judged.TheVariants.{Accepted}
 use Rattle.places.specs.Places.{above_of}
 use Rattle.views.specs.Views.{view_of, element_view}
 use Rattle.view_numbers.proofs.Within.{view_within}
@@ -26,12 +25,13 @@ use Rattle.dgn_all_views.specs.Answers.{views_count, views_reply}
 use Rattle.dgn_all_views.specs.Calls.{views_call, ViewsWithin}
 use Rattle.dgn_all_views.proofs.Tours.{seen}
 use Rattle.dgn_all_views.proofs.All.{step}
+use Rattle.files.specs.Accepted.{accepted_with}
 
 pub views_small : (dim : ℕ) (s : List ℕ) (k room : ℕ) → SmallReply (views_reply dim s k room)
 unfolding views_reply
 views_small dim s k room = let many = views_count (judge_of dim s) room k in reply_small dim s many k (many ∷ [])
 
-module _ (dim : ℕ) (s : List ℕ) (e d m : ℕ) (j : judge_of dim s ≡ Accepted e d m) (b : Below 256 s) where
+module _ (dim : ℕ) (s : List ℕ) (e d m : ℕ) (j : judge_of dim s ≡ accepted_with e d m) (b : Below 256 s) where
   views_inside : (xs : List Spot) → FoundIn (spots_of dim (words s)) xs → Within 2147483648 (views_of dim s xs)
   views_inside [] f = tt
   views_inside (x ∷ xs) f =
@@ -71,7 +71,7 @@ views_within dim s k views views' out out' b a =
     let y : Lent = record { numbers = views'; out = out' } in
     go x y a (done_accepted dim s 1 many k (many ∷ []) out a.replied refl)
   where
-    go : (x y : Lent) → (views_call dim s).Answers k x 0 y → (e d m : ℕ) × (judge_of dim s ≡ Accepted e d m) →
+    go : (x y : Lent) → (views_call dim s).Answers k x 0 y → (e d m : ℕ) × (judge_of dim s ≡ accepted_with e d m) →
         (get_or y.out 0 0 ≤ 524288) × Within 2147483648 (take (32 * get_or y.out 0 0) y.numbers)
     go x y a (e, d, m, j) = at (leb k (length (spots_of dim (words s)))) refl
       where

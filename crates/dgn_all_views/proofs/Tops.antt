@@ -1,5 +1,5 @@
 -- Each element of an accepted file has the C that its depth asks, so one that by its C is no component is at the top.
-use Prim.Native.Nat.{ℕ, zero, suc, ◌+◌}
+use Prim.Native.Nat.{ℕ, zero, suc, ◌+◌, ◌-◌}
 use mathlib.Core.Path.{◌≡◌, refl, sym, ◌∙◌, subst}
 use mathlib.Core.Logic.{inr}
 use mathlib.Core.Bool.{Bool, true, false, cond, not, false≢true}
@@ -15,13 +15,13 @@ use Rattle.headers.specs.Header.{type_at}
 use Rattle.headers.specs.Flags.{place_ok}
 use Rattle.files.specs.Judge.{judge_of}
 use Rattle.files.specs.Spots.{Spot, spots_of}
-use Rattle.files.specs.declared.Judged.TheVariants.{Accepted}
 use Rattle.grammar.proofs.Forest.{Forest, nil, node, flat, Wf, spots, weight, own_stands, components_stand, rest_stand}
 use Rattle.grammar.proofs.Stands.{Stands, stands_first}
 use Rattle.grammar.proofs.Whole.{file_tree}
 use Rattle.grammar.proofs.Exact.{accepted_is}
 use Rattle.order.specs.Order.{place_of}
 use Rattle.dgn_all_views.specs.Tour.{TopBefore}
+use Rattle.files.specs.Accepted.{accepted_with}
 
 abbrev pub Placed : List ℕ → List Spot → Type 0
 Placed ws [] = Unit {0}
@@ -48,7 +48,7 @@ placed_tree dim ws d under header at (node own k r) w s =
           (placed_tree dim ws d under header (at + weight own k) r w.2 (rest_stand own k r s)),
     )
 
-pub file_placed : (dim : ℕ) (s : List ℕ) (e d m : ℕ) → judge_of dim s ≡ Accepted e d m → Placed (words s) (spots_of dim (words s))
+pub file_placed : (dim : ℕ) (s : List ℕ) (e d m : ℕ) → judge_of dim s ≡ accepted_with e d m → Placed (words s) (spots_of dim (words s))
 file_placed dim s e d m q =
     let t = file_tree (accepted_is dim s e d m q).file in
     subst (Placed (words s)) t.read (placed_tree dim (words s) 0 0 none 0 t.tree t.wf t.stands)
@@ -61,9 +61,9 @@ no_depth (suc d) w p q = absurd (false≢true (sym q ∙ rw (ne_eqb (suc d) 0 (�
 
 ---- the hop
 
--- one element more
-pub top_turn : (ws : List ℕ) (i at place number : ℕ) (b : Bool) (p n : ℕ) → TopBefore ws i (record { number = number; place = place }) → at ≡ place_of ws (i + 1) →
-    b ≡ not (place_ok 1 (word_at ws at)) → p ≡ cond b at place → n ≡ cond b (i + 1) number → TopBefore ws (i + 1) (record { number = n; place = p })
+-- one element more, of number i
+pub top_turn : (ws : List ℕ) (i at place number : ℕ) (b : Bool) (p n : ℕ) → TopBefore ws (i - 1) (record { number = number; place = place }) → at ≡ place_of ws i →
+    b ≡ not (place_ok 1 (word_at ws at)) → p ≡ cond b at place → n ≡ cond b i number → TopBefore ws i (record { number = n; place = p })
 top_turn ws i at place number true p n t a q x y =
     let f : place_ok 1 (word_at ws at) ≡ false = not-true (place_ok 1 (word_at ws at)) (sym q) in
     rw (x, y) (record { upto = omega arith; at_place = a; top = inr f })

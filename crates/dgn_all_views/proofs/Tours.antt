@@ -13,7 +13,6 @@ use Rattle.words.specs.Words.{words, word_at, Below}
 use Rattle.headers.specs.Flags.{place_ok}
 use Rattle.files.specs.Judge.{judge_of}
 use Rattle.files.specs.Spots.{Spot, spots_of, spot_in}
-use Rattle.files.specs.declared.Judged.TheVariants.{Accepted}
 use Rattle.grammar.proofs.Whole.{file_tree}
 use Rattle.grammar.proofs.Exact.{accepted_is}
 use Rattle.walking.specs.Walk.{next_of}
@@ -21,7 +20,6 @@ use Rattle.walking.proofs.Walks.{walked, walk_is}
 use Rattle.places.specs.Places.{above_of, found_by}
 use Rattle.places.proofs.Places.{spotted_found}
 use Rattle.views.specs.Views.{view_by, view_of, element_view}
-use Rattle.views.specs.declared.View.TheVariants as view
 use Rattle.view_numbers.specs.Numbers.{view_numbers, as_signed}
 use Rattle.view_numbers.proofs.Small.{given_as_is, view_numbers_small}
 use Rattle.order.specs.Order.{place_of, InOrder}
@@ -32,6 +30,8 @@ use Rattle.dgn_all_views.specs.Views.{seen_numbers, views_of, views_part, shown_
 use Rattle.dgn_all_views.proofs.Heads.{Before, at_depth, past, Heads, heads_tree, kept_length}
 use Rattle.dgn_all_views.proofs.Alike.{Alike, alike_next, alike_header, next_nine}
 use Rattle.dgn_all_views.proofs.Tops.{Placed, placed_drop, file_placed, no_depth}
+use Rattle.std.specs.Prelude.{Ok}
+use Rattle.files.specs.Accepted.{accepted_with}
 
 -- from t the tour is at the elements of a list, one after another
 abbrev Toured : List ℕ → Tour → List Spot → Type 0
@@ -101,7 +101,7 @@ tour_view_lem ws t x p d h =
 
 ---- an accepted file
 
-module _ (dim : ℕ) (s : List ℕ) (e d m : ℕ) (accepted : judge_of dim s ≡ Accepted e d m) where
+module _ (dim : ℕ) (s : List ℕ) (e d m : ℕ) (accepted : judge_of dim s ≡ accepted_with e d m) where
   file_toured : Toured (words s) (tour_at 0) (spots_of dim (words s))
   file_toured =
       let t = file_tree (accepted_is dim s e d m accepted).file in
@@ -111,7 +111,7 @@ module _ (dim : ℕ) (s : List ℕ) (e d m : ℕ) (accepted : judge_of dim s ≡
 
   -- what a call at the place of an element gives
   pub seen : (x : Spot) → spot_in (spots_of dim (words s)) x.place ≡ some x →
-      view_of dim s x.place ≡ view.Seen (element_view (words s) x.place x.depth (above_of x.header))
+      view_of dim s x.place ≡ Ok (element_view (words s) x.place x.depth (above_of x.header))
   unfolding view_of
   seen x f = ap (λ o. view_by o (words s) x.place) (spotted_found dim s x.place e d m accepted ∙ ap found_by f)
 

@@ -1,17 +1,17 @@
 -- What dgn_views answers, and what it leaves in the slice of views.
-use Rattle.std.specs.Prelude.{ℕ, ◌≡◌, List, [], ◌∷◌, ℤ, length}
+use Rattle.std.specs.Prelude.{ℕ, ◌≡◌, List, [], ◌∷◌, ℤ, length, Err, Ok, Result}
 use Rattle.files.specs.Judge.{judge_of}
-use Rattle.files.specs.declared.Judged.{Judged}
-use Rattle.files.specs.declared.Judged.TheVariants.{Accepted, Refused}
 use Rattle.answers.specs.Answers.{Reply, with_room, Replied}
 use Rattle.answers.specs.Besides.{besides}
 use Rattle.order.specs.Calls.{reply_by}
 use Rattle.dgn_all_views.specs.Views.{views_many, views_part}
+use Rattle.files.specs.declared.Accepted.{Accepted}
+use Rattle.refusals.specs.declared.Refusal.{Refusal}
 
 -- how many views: none of a refused file
-abbrev pub views_count : Judged → ℕ → ℕ → ℕ
-views_count (Refused n p) room k = 0
-views_count (Accepted elements deepest marker) room k = views_many room k elements
+abbrev pub views_count : Result Accepted Refusal → ℕ → ℕ → ℕ
+views_count (Err refusal) room k = 0
+views_count (Ok file) room k = views_many room k file.elements
 
 -- 15 where an element is left and no view fits; done: how many views
 unfoldable pub views_reply : ℕ → List ℕ → ℕ → ℕ → Reply ℕ

@@ -1,21 +1,21 @@
 -- The views of the elements number k, k + 1, .. in file order, as many as a slice of numbers holds whole.
-use Rattle.std.specs.Prelude.{ℕ, zero, suc, ◌+◌, ◌-◌, ◌/◌, ◌<◌, min, ◌≡◌, List, [], ◌∷◌, ◌++◌, ℤ, length, take, drop}
+use Rattle.std.specs.Prelude.{ℕ, zero, suc, ◌+◌, ◌-◌, ◌/◌, ◌<◌, min, ◌≡◌, List, [], ◌∷◌, ◌++◌, ℤ, length, take, drop, Err, Ok, Result}
 use Rattle.std.proofs.lemmas.List.Edits.{sets}
 use Rattle.words.specs.Words.{words}
 use Rattle.files.specs.Spots.{Spot, spots_of}
 use Rattle.places.specs.Places.{above_of}
 use Rattle.views.specs.Views.{element_view, view_of}
-use Rattle.views.specs.declared.View.{View}
-use Rattle.views.specs.declared.View.TheVariants as view
 use Rattle.view_numbers.specs.Numbers.{view_numbers, view_given, as_signed}
 use Rattle.places.specs.declared.Above.{Above}
 use Rattle.dgn_all_views.specs.declared.Numbered.{Numbered}
 use Rattle.dgn_all_views.specs.Tour.{Tour, header_in, tour_of, TopBefore}
+use Rattle.refusals.specs.declared.Refusal.{Refusal}
+use Rattle.views.specs.declared.Element.{Element}
 
 -- the numbers of the view of the element at a place, as a call at that place gives them
-abbrev pub seen_numbers : ℕ → View → List ℤ
-seen_numbers place (view.Seen element) = view_given place element
-seen_numbers place (view.Refused number fault) = []
+abbrev pub seen_numbers : ℕ → Result Element Refusal → List ℤ
+seen_numbers place (Ok element) = view_given place element
+seen_numbers place (Err refusal) = []
 
 -- those of elements, one after another
 abbrev pub views_of : ℕ → List ℕ → List Spot → List ℤ

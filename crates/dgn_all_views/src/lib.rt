@@ -37,12 +37,10 @@ fn top_before(file: &[u8], k: usize) -> Numbered
     ensures { TopBefore (words file.now) k result }
 {
     let mut at = 0;
-    let mut i = 0;
     let mut place = 0;
     let mut number = 0;
-    while i < k {
+    for i in 1..=k {
         at += headers::size_at(file, at);
-        i += 1;
         let top = no_component(file, at);
         place = kinds::pick(top, at, place);
         number = kinds::pick(top, i, number);
@@ -100,12 +98,8 @@ fn put_one(
         return;
     }
     let from = 32 * (i - k);
-    match views::element_in(file, place, depth, above) {
-        views::View::Seen { element } => view_numbers::put_view(views, from, place, element),
-        views::View::Refused {
-            number: _,
-            place: _,
-        } => {}
+    if let Ok(element) = views::element_in(file, place, depth, above) {
+        view_numbers::put_view(views, from, place, element);
     }
 }
 
@@ -121,10 +115,8 @@ fn put_views(file: &[u8], top: usize, k: usize, n: usize, views: &mut [i64])
     let mut headers = [0; 9];
     let mut end = 0;
     let mut above = places::Above::Top;
-    let mut i = 0;
-    while i < last {
+    for i in 0..last {
         put_one(file, place, depth, above, views, k, i);
-        i += 1;
         let size = headers::size_at(file, place);
         if goes_on(file, place, depth, end) {
             place += size;
@@ -179,16 +171,15 @@ pub extern "C" fn dgn_views(
 ) -> usize
     ensures { ViewsGiven dim file.now k views.old out.old result views.new out.new }
 {
-    match order::begin(file, dim, 1, out.len()) {
-        order::Begun::Refused { answer } => answer,
-        order::Begun::Elements { elements } => {
-            let n = many(views.len(), k, elements);
-            if order::none_fits(n, k, elements) {
-                return 15;
-            }
-            put_part(file, k, n, views);
-            out[0] = n;
-            0
-        }
+    let elements = match order::begin(file, dim, 1, out.len()) {
+        Ok(elements) => elements,
+        Err(answer) => return answer,
+    };
+    let n = many(views.len(), k, elements);
+    if order::none_fits(n, k, elements) {
+        return 15;
     }
+    put_part(file, k, n, views);
+    out[0] = n;
+    0
 }

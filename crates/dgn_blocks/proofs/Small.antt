@@ -7,25 +7,26 @@ use native.Mathlib.Omega.{arith}
 use lib.ListN.{length}
 use lib.Dec.{eqb, leb}
 use borrow.Author.Tests.{leb-true}
+use Rattle.std.specs.Prelude.{Ok}
 use Rattle.limits.specs.Limits.{size_ok}
 use Rattle.blocks.specs.Blocks.{blocks_for, blocks_in, first_bad, flat_of, stored_ok}
 use Rattle.blocks.specs.Calls.{within, to_blocks, from_blocks}
-use Rattle.blocks.specs.declared.Moved.TheVariants.{Written, Refused}
 use Rattle.blocks.proofs.Answers.{first_within}
 use Rattle.answers.specs.Answers.{SmallReply}
+use Rattle.refusals.specs.Refusals.{refused_with}
 use Rattle.dgn_blocks.specs.Moves.{moved_reply}
 
 within_small : (n room : ℕ) → SmallReply (moved_reply (within n room))
 within_small n room = go (leb n room)
   where
-    go : (b : Bool) → SmallReply (moved_reply (cond b (Written n) (Refused 15 0)))
+    go : (b : Bool) → SmallReply (moved_reply (cond b (Ok n) (refused_with 15 0)))
     go true = tt
     go false = (omega arith, omega arith, omega arith)
 
 pub to_small : (j : List ℕ) (room : ℕ) → SmallReply (moved_reply (to_blocks j room))
 to_small j room = go (size_ok (length j))
   where
-    go : (b : Bool) → SmallReply (moved_reply (cond b (within (512 * blocks_for (length j)) room) (Refused 1 0)))
+    go : (b : Bool) → SmallReply (moved_reply (cond b (within (512 * blocks_for (length j)) room) (refused_with 1 0)))
     go true = within_small (512 * blocks_for (length j)) room
     go false = (omega arith, omega arith, omega arith)
 
@@ -44,7 +45,7 @@ pub from_small : (s : List ℕ) (room : ℕ) → SmallReply (moved_reply (from_b
 from_small s room = go (stored_ok (length s)) refl (eqb (first_bad s) (blocks_in (length s)))
   where
     go : (a : Bool) → stored_ok (length s) ≡ a → (b : Bool) →
-        SmallReply (moved_reply (cond a (cond b (within (length (flat_of s)) room) (Refused 22 (first_bad s))) (Refused 1 0)))
+        SmallReply (moved_reply (cond a (cond b (within (length (flat_of s)) room) (refused_with 22 (first_bad s))) (refused_with 1 0)))
     go false e b = (omega arith, omega arith, omega arith)
     go true e true = within_small (length (flat_of s)) room
     go true e false = (omega arith, omega arith, bad_small s e)

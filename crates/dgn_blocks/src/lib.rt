@@ -9,19 +9,19 @@ ghost use Rattle.blocks.specs.Calls.{to_blocks, from_blocks};
 ghost use Rattle.answers.specs.Answers.{Replied, SmallReply};
 ghost use Rattle.dgn_blocks.specs.Moves.{moved_reply, MovedBy};
 
-use blocks::Moved;
+use refusals::Refusal;
 
 // The number of bytes; of a refusal its number and its block as one number, and nothing written.
-fn put_moved(out: &mut [usize], answer: Moved) -> usize
+fn put_moved(out: &mut [usize], answer: Result<usize, Refusal>) -> usize
     requires { (1 ≤ length out.old) × SmallReply (moved_reply answer) }
     ensures { Replied 1 (moved_reply answer) out.old result out.new }
 {
     match answer {
-        Moved::Written { bytes } => {
+        Ok(bytes) => {
             out[0] = bytes;
             0
         }
-        Moved::Refused { number, place } => number + 256 * place,
+        Err(refusal) => refusal.number + 256 * refusal.place,
     }
 }
 

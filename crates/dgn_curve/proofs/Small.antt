@@ -7,26 +7,27 @@ use native.Mathlib.Omega.{arith}
 use lib.ListN.{length}
 use lib.Dec.{leb}
 use lib.Ieee.{Float}
+use Rattle.std.specs.Prelude.{Err, Ok, Result}
 use Rattle.kinds.specs.Kinds.{is_curve}
-use Rattle.curve_views.specs.declared.Curve.{Curve}
-use Rattle.curve_views.specs.declared.Curve.TheVariants as curves
 use Rattle.curve_views.specs.CurveViews.{curve_of}
 use Rattle.curve_views.proofs.Promises.{curve_refused}
 use Rattle.answers.specs.Answers.{Small, SmallReply, refuse}
 use Rattle.answers.proofs.Refusals.{type_small}
+use Rattle.curve_views.specs.declared.Curve.{Curve}
+use Rattle.refusals.specs.Refusals.{refused_with}
+use Rattle.refusals.specs.declared.Refusal.{Refusal}
 use Rattle.dgn_curve.specs.CurveReplies.{curve_reply, with_floats}
 
 module _ (dim : ℕ) (s : List ℕ) (at : ℕ) where
-  pub curve_refused_small : (n p : ℕ) → curve_of dim s at ≡ curves.Refused n p → Small n p
+  pub curve_refused_small : (n p : ℕ) → curve_of dim s at ≡ refused_with n p → Small n p
   curve_refused_small n p q = type_small dim s at is_curve n p (curve_refused dim s at n p q)
 
   pub curve_reply_small : (floats : List Float) → SmallReply (with_floats (curve_reply (curve_of dim s at)) floats)
   curve_reply_small floats = room (leb 5 (length floats))
     where
-      go : (c : Curve) → curve_of dim s at ≡ c → SmallReply (curve_reply c)
-      go (curves.Ellipse primary secondary turn origin) q = tt
-      go (curves.Arc start sweep primary secondary turn origin) q = tt
-      go (curves.Refused n p) q = curve_refused_small n p q
+      go : (c : Result Curve Refusal) → curve_of dim s at ≡ c → SmallReply (curve_reply c)
+      go (Ok curve) q = tt
+      go (Err refusal) q = curve_refused_small refusal.number refusal.place q
 
       room : (b : Bool) → SmallReply (cond b (curve_reply (curve_of dim s at)) (refuse 1 0))
       room true = go (curve_of dim s at) refl

@@ -6,8 +6,6 @@
 ghost use Rattle.curve_views.specs.CurveViews.{curve_of};
 ghost use Rattle.dgn_curve.specs.CurveReplies.{CurveReplied};
 
-use curve_views::Curve;
-
 #[unsafe(no_mangle)]
 pub extern "C" fn dgn_curve(
     file: &[u8],
@@ -24,14 +22,11 @@ pub extern "C" fn dgn_curve(
     if floats.len() < 5 {
         return 1;
     }
-    let curve = curve_views::curve_at(file, dim, place);
-    if let Curve::Refused {
-        number,
-        place: fault,
-    } = curve
-    {
-        return number + 256 * fault;
+    match curve_views::curve_at(file, dim, place) {
+        Ok(curve) => {
+            curve_numbers::put_curve(numbers, 0, floats, 0, Ok(curve));
+            0
+        }
+        Err(refusal) => refusal.number + 256 * refusal.place,
     }
-    curve_numbers::put_curve(numbers, 0, floats, 0, curve);
-    0
 }

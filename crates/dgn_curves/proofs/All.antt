@@ -12,11 +12,8 @@ use Rattle.words.specs.Words.{words, word_at}
 use Rattle.kinds.specs.FirstWord.{deleted_of}
 use Rattle.files.specs.Judge.{judge_of}
 use Rattle.files.specs.Spots.{Spot, spots_of, spot_in}
-use Rattle.files.specs.declared.Judged.TheVariants.{Accepted}
 use Rattle.places.specs.Places.{found_by}
 use Rattle.places.proofs.Places.{spotted_found}
-use Rattle.curve_views.specs.declared.Curve.{Curve}
-use Rattle.curve_views.specs.declared.Curve.TheVariants as curves
 use Rattle.curve_views.specs.CurveViews.{curve_in, curve_of}
 use Rattle.answers.proofs.Besides.{front_read}
 use Rattle.order.specs.Fitting.{all_of}
@@ -25,11 +22,14 @@ use Rattle.dgn_curves.specs.Curves.{entry_by, all_numbers, all_floats, Both, bot
 use Rattle.dgn_curves.specs.Answers.{curves_reply}
 use Rattle.dgn_curves.specs.Calls.{shown, element_curve, curves_call, AllCurves}
 use Rattle.dgn_curves.proofs.Slices.{numbers_long, floats_long, numbers_append, floats_append}
+use Rattle.std.specs.Prelude.{Err, Ok, Result}
+use Rattle.curve_views.specs.declared.Curve.{Curve}
+use Rattle.files.specs.Accepted.{accepted_with}
+use Rattle.refusals.specs.declared.Refusal.{Refusal}
 
-entry_few : (c : Curve) (place deleted : ℕ) → length (entry_by c place deleted) ≤ 1
-entry_few (curves.Ellipse primary secondary turn origin) place deleted = omega arith
-entry_few (curves.Arc start sweep primary secondary turn origin) place deleted = omega arith
-entry_few (curves.Refused number fault) place deleted = omega arith
+entry_few : (c : Result Curve Refusal) (place deleted : ℕ) → length (entry_by c place deleted) ≤ 1
+entry_few (Ok curve) place deleted = omega arith
+entry_few (Err refusal) place deleted = omega arith
 
 module _ (dim : ℕ) (s : List ℕ) where
   items_few : (x : Spot) → length (curve_items dim (words s) x.place) ≤ 1
@@ -37,7 +37,7 @@ module _ (dim : ℕ) (s : List ℕ) where
   items_few x = entry_few (curve_in dim (words s) x.place) x.place (deleted_of (word_at (words s) x.place))
 
   -- what is read at the place of an element is what the call for it gives
-  items_each : (e d m : ℕ) → judge_of dim s ≡ Accepted e d m → (x : Spot) → spot_in (spots_of dim (words s)) x.place ≡ some x → curve_items dim (words s) x.place ≡ element_curve dim s x
+  items_each : (e d m : ℕ) → judge_of dim s ≡ accepted_with e d m → (x : Spot) → spot_in (spots_of dim (words s)) x.place ≡ some x → curve_items dim (words s) x.place ≡ element_curve dim s x
   unfolding curve_items curve_of
   items_each e d m j x f = let found = spotted_found dim s x.place e d m j ∙ ap found_by f in rw found refl
 

@@ -6,24 +6,26 @@ use lib.IntN.{ℤ}
 use lib.Ieee.{Float}
 use Rattle.words.specs.Words.{words, word_at}
 use Rattle.kinds.specs.FirstWord.{deleted_of}
-use Rattle.curve_views.specs.declared.Curve.{Curve}
 use Rattle.curve_views.specs.CurveViews.{curve_in}
 use Rattle.files.specs.Judge.{judge_of}
-use Rattle.files.specs.declared.Judged.TheVariants.{Accepted}
 use Rattle.order.specs.Order.{place_of}
 use Rattle.order.specs.Fitting.{part_of}
 use Rattle.order.proofs.Fitting.{Going}
 use Rattle.order.proofs.Items.{items_are}
 use Rattle.dgn_curves.specs.Curves.{Entry, entry_by, both, in_both, curve_items, curves_part, curves_from}
 use Rattle.dgn_curves.proofs.Slices.{lays_both}
+use Rattle.std.specs.Prelude.{Result}
+use Rattle.curve_views.specs.declared.Curve.{Curve}
+use Rattle.files.specs.Accepted.{accepted_with}
+use Rattle.refusals.specs.declared.Refusal.{Refusal}
 
-pub curves_are : (dim : ℕ) (s : List ℕ) (e d m : ℕ) → judge_of dim s ≡ Accepted e d m → (room k : ℕ) →
+pub curves_are : (dim : ℕ) (s : List ℕ) (e d m : ℕ) → judge_of dim s ≡ accepted_with e d m → (room k : ℕ) →
     part_of room k (curves_from (e - k) dim (words s) k) ≡ curves_part dim (words s) room k
 unfolding curves_part
 curves_are dim s e d m j room k = ap (part_of room k) (items_are dim s e d m j (curve_items dim (words s)) k)
 
 -- the items of an element by what was read at its place
-pub items_here : (dim : ℕ) (ws : List ℕ) (c : Curve) (at place : ℕ) → c ≡ curve_in dim ws at → at ≡ place → entry_by c at (deleted_of (word_at ws at)) ≡ curve_items dim ws place
+pub items_here : (dim : ℕ) (ws : List ℕ) (c : Result Curve Refusal) (at place : ℕ) → c ≡ curve_in dim ws at → at ≡ place → entry_by c at (deleted_of (word_at ws at)) ≡ curve_items dim ws place
 unfolding curve_items
 items_here dim ws c at place e q = rw (e, q) refl
 

@@ -8,37 +8,32 @@ use lib.ListN.{length, set, length-set}
 use lib.Seq.{sets}
 use lib.Ieee.{Float}
 use borrow.Author.Tests.{le-leb, lt-leb}
-use Rattle.curve_views.specs.declared.Curve.{Curve}
 use Rattle.curve_views.specs.declared.Curve.TheVariants as curves
 use Rattle.curve_numbers.specs.Numbers.{curve_numbers, curve_floats, put_numbers, put_floats}
-use Rattle.order.specs.declared.Taken.TheVariants.{Full, Used}
 use Rattle.order.specs.Fitting.{ElementPut}
 use Rattle.order.proofs.Fitting.{nothing_put}
-use Rattle.dgn_curves.specs.Curves.{Entry, entry_by, entry_numbers, entry_floats, both, in_both}
+use Rattle.dgn_curves.specs.Curves.{entry_of, entry_by, entry_numbers, entry_floats, both, in_both}
 use Rattle.dgn_curves.proofs.Slices.{lays_both}
+use Rattle.std.specs.Prelude.{Err, None, Ok, Result, Some}
+use Rattle.curve_views.specs.declared.Curve.{Curve}
+use Rattle.refusals.specs.declared.Refusal.{Refusal}
 
--- an answer that is no refusal gives one
-record One (c : Curve) (place deleted : ℕ) : Type 0 where
-  entry : Entry
-  is : entry_by c place deleted ≡ entry ∷ []
-  numbers : entry_numbers entry ≡ pos place ∷ pos deleted ∷ curve_numbers c
-  floats : entry_floats entry ≡ curve_floats c
+-- the numbers and floats of an entry
+entry_longs : (c : Curve) (place deleted : ℕ) → entry_numbers (entry_of c place deleted) ≡ pos place ∷ pos deleted ∷ curve_numbers c
+entry_longs (curves.Ellipse primary secondary turn origin) place deleted = refl
+entry_longs (curves.Arc start sweep primary secondary turn origin) place deleted = refl
 
-one : (c : Curve) (place deleted : ℕ) → ((n p : ℕ) → c ≡ curves.Refused n p → ⊥) → One c place deleted
-one (curves.Ellipse primary secondary turn origin) place deleted o = record { entry = _; is = refl; numbers = refl; floats = refl }
-one (curves.Arc start sweep primary secondary turn origin) place deleted o = record { entry = _; is = refl; numbers = refl; floats = refl }
-one (curves.Refused number fault) place deleted o = absurd (o number fault refl)
+entry_reals : (c : Curve) (place deleted : ℕ) → entry_floats (entry_of c place deleted) ≡ curve_floats c
+entry_reals (curves.Ellipse primary secondary turn origin) place deleted = refl
+entry_reals (curves.Arc start sweep primary secondary turn origin) place deleted = refl
 
-module _ (c : Curve) (place deleted : ℕ) (numbers : List ℤ) (floats : List Float) (used : ℕ) where
-  pub put_none : (n p : ℕ) → c ≡ curves.Refused n p → ElementPut in_both (entry_by c place deleted) (both numbers floats) used (Used used) (both numbers floats)
-  put_none n p q = rw q (nothing_put in_both lays_both (both numbers floats) used)
+module _ (r : Result Curve Refusal) (place deleted : ℕ) (numbers : List ℤ) (floats : List Float) (used : ℕ) where
+  pub put_none : (x : Refusal) → r ≡ Err x → ElementPut in_both (entry_by r place deleted) (both numbers floats) used (Some used) (both numbers floats)
+  put_none x q = rw q (nothing_put in_both lays_both (both numbers floats) used)
 
-  module _ (o : (n p : ℕ) → c ≡ curves.Refused n p → ⊥) where
-    pub put_full : in_both.room (both numbers floats) - used < 1 → ElementPut in_both (entry_by c place deleted) (both numbers floats) used Full (both numbers floats)
-    put_full h =
-        let x = one c place deleted o in
-        let no = lt-leb 1 (in_both.room (both numbers floats) - used) h in
-        rw x.is (record { is = rw no refl; given = rw no refl })
+  module _ (c : Curve) (is : r ≡ Ok c) where
+    pub put_full : in_both.room (both numbers floats) - used < 1 → ElementPut in_both (entry_by r place deleted) (both numbers floats) used None (both numbers floats)
+    put_full h = let no = lt-leb 1 (in_both.room (both numbers floats) - used) h in rw is (record { is = rw no refl; given = rw no refl })
 
     -- the two numbers before the curve's own, and these
     behind : (s : List ℤ) (at : ℕ) (a b : ℤ) (l : List ℤ) → sets (set (set s at a) (at + 1) b) (at + 2) l ≡ sets s at (a ∷ b ∷ l)
@@ -48,12 +43,12 @@ module _ (c : Curve) (place deleted : ℕ) (numbers : List ℤ) (floats : List F
         rw (i, k) refl
 
     pub put_one : 9 ≤ length numbers - 9 * used → 5 ≤ length floats - 5 * used → (first second : ℤ) (numbers' : List ℤ) (floats' : List Float) → first ≡ pos place → second ≡ pos deleted →
-        numbers' ≡ put_numbers (set (set numbers (9 * used) first) (9 * used + 1) second) (9 * used + 2) floats (5 * used) c →
-        floats' ≡ put_floats (set (set numbers (9 * used) first) (9 * used + 1) second) (9 * used + 2) floats (5 * used) c →
-        ElementPut in_both (entry_by c place deleted) (both numbers floats) used (Used (used + 1)) (both numbers' floats')
+        numbers' ≡ put_numbers (set (set numbers (9 * used) first) (9 * used + 1) second) (9 * used + 2) floats (5 * used) (Ok c) →
+        floats' ≡ put_floats (set (set numbers (9 * used) first) (9 * used + 1) second) (9 * used + 2) floats (5 * used) (Ok c) →
+        ElementPut in_both (entry_by r place deleted) (both numbers floats) used (Some (used + 1)) (both numbers' floats')
     unfolding put_numbers put_floats
     put_one h l first second numbers' floats' f g p q =
-        let x = one c place deleted o in
+        let e = entry_of c place deleted in
         let s = set (set numbers (9 * used) first) (9 * used + 1) second in
         let long : length (set (set numbers (9 * used) first) (9 * used + 1) second) ≡ length numbers = simp length-set in
         let a = le-leb (9 * used + 2 + 7) (length s) (omega arith) in
@@ -61,8 +56,8 @@ module _ (c : Curve) (place deleted : ℕ) (numbers : List ℤ) (floats : List F
         let yes = le-leb 1 (in_both.room (both numbers floats) - used) (omega arith) in
         let put : numbers' ≡ sets s (9 * used + 2) (curve_numbers c) = p ∙ rw (a, b) refl in
         let beside : floats' ≡ sets floats (5 * used) (curve_floats c) = q ∙ rw (a, b) refl in
-        let all : first ∷ second ∷ curve_numbers c ≡ entry_numbers x.entry ++ [] = rw (f, g) (sym x.numbers ∙ sym (append-nil (entry_numbers x.entry))) in
-        let most : curve_floats c ≡ entry_floats x.entry ++ [] = sym x.floats ∙ sym (append-nil (entry_floats x.entry)) in
-        let there : numbers' ≡ sets numbers (9 * used) (entry_numbers x.entry ++ []) =
+        let all : first ∷ second ∷ curve_numbers c ≡ entry_numbers e ++ [] = rw (f, g) (sym (entry_longs c place deleted) ∙ sym (append-nil (entry_numbers e))) in
+        let most : curve_floats c ≡ entry_floats e ++ [] = sym (entry_reals c place deleted) ∙ sym (append-nil (entry_floats e)) in
+        let there : numbers' ≡ sets numbers (9 * used) (entry_numbers e ++ []) =
         put ∙ behind numbers (9 * used) first second (curve_numbers c) ∙ ap (sets numbers (9 * used)) all in
-        rw x.is (record { is = rw yes refl; given = rw yes (ap₂ both there (beside ∙ ap (sets floats (5 * used)) most)) })
+        rw is (record { is = rw yes refl; given = rw yes (ap₂ both there (beside ∙ ap (sets floats (5 * used)) most)) })

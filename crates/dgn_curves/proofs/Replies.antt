@@ -5,7 +5,6 @@ use mathlib.Core.Bool.{true, false}
 use mathlib.Core.List.{List}
 use lib.ListN.{length, set}
 use Rattle.words.specs.Words.{words}
-use Rattle.order.specs.declared.Begun.TheVariants.{Refused}
 use Rattle.order.specs.declared.Part.{Part}
 use Rattle.order.specs.Calls.{begun_of, none_fits}
 use Rattle.order.specs.Fitting.{Fitting, part_of, PartPut}
@@ -15,12 +14,13 @@ use Rattle.dgn_curves.specs.Curves.{Entry, Both, in_both, curves_part, curves_fr
 use Rattle.dgn_curves.specs.Answers.{curves_reply, CurvesGiven}
 use Rattle.dgn_curves.proofs.Slices.{lays_both}
 use Rattle.dgn_curves.proofs.Places.{curves_are}
+use Rattle.std.specs.Prelude.{Err}
 
 module _ (dim : ℕ) (s : List ℕ) (k : ℕ) (was : Both) (out : List ℕ) where
   abbrev part : Fitting Entry
   part = curves_part dim (words s) (in_both.room was) k
 
-  pub curves_refused : (a : ℕ) → begun_of dim s 2 (length out) ≡ Refused a → CurvesGiven dim s k was out a was out
+  pub curves_refused : (a : ℕ) → begun_of dim s 2 (length out) ≡ Err a → CurvesGiven dim s k was out a was out
   unfolding curves_reply
   curves_refused a q = let g = taken_refused in_both lays_both dim s part (length part.given) was out a q in record { replied = g.0; given = g.1 }
 

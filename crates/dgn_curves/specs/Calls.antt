@@ -5,12 +5,12 @@ use Rattle.words.specs.Words.{words, word_at}
 use Rattle.kinds.specs.FirstWord.{deleted_of}
 use Rattle.files.specs.Judge.{judge_of}
 use Rattle.files.specs.Spots.{Spot, spots_of}
-use Rattle.files.specs.declared.Judged.TheVariants.{Accepted}
 use Rattle.curve_views.specs.CurveViews.{curve_of}
 use Rattle.order.specs.Fitting.{all_of}
 use Rattle.order.specs.Parts.{InParts, Called, GivesAll}
 use Rattle.dgn_curves.specs.Curves.{Entry, entry_by, all_numbers, all_floats, Both, both}
 use Rattle.dgn_curves.specs.Answers.{CurvesGiven}
+use Rattle.files.specs.Accepted.{accepted_with}
 
 -- the slices that a call is lent: two for the curves, one for the answer
 pub record Lent : Type 0 where
@@ -42,5 +42,5 @@ curves_call dim s = record {
 
 abbrev pub AllCurves : Type 0
 AllCurves =
-    (dim : ℕ) (s : List ℕ) (e d m : ℕ) → judge_of dim s ≡ Accepted e d m → (calls : List Lent) (got : Both) (last : ℕ) →
+    (dim : ℕ) (s : List ℕ) (e d m : ℕ) → judge_of dim s ≡ accepted_with e d m → (calls : List Lent) (got : Both) (last : ℕ) →
     Called (curves_call dim s) 0 calls got last → GivesAll (curves_call dim s) (spots_of dim (words s)) (curves_of dim s) calls got last

@@ -1,18 +1,19 @@
 -- The ellipses and arcs among the elements number k, k + 1, .. in file order, as many as two slices hold: of each 9 numbers in one, 5
 -- floats in the other.
-use Rattle.std.specs.Prelude.{ℕ, ◌*◌, ◌/◌, min, List, [], ◌∷◌, ◌++◌, map, ℤ, pos, length, drop, Float}
+use Rattle.std.specs.Prelude.{ℕ, ◌*◌, ◌/◌, min, List, [], ◌∷◌, ◌++◌, map, ℤ, pos, length, drop, Float, Err, Ok, Result}
 use Rattle.std.proofs.lemmas.List.Edits.{sets}
 use Rattle.words.specs.Words.{word_at}
 use Rattle.kinds.specs.FirstWord.{deleted_of}
 use Rattle.turns.specs.declared.Turn.{Turn}
 use Rattle.curve_views.specs.declared.Origin.{Origin}
-use Rattle.curve_views.specs.declared.Curve.{Curve}
 use Rattle.curve_views.specs.declared.Curve.TheVariants as curves
 use Rattle.curve_views.specs.CurveViews.{curve_in}
 use Rattle.curve_numbers.specs.Numbers.{long_numbers, origin_floats}
 use Rattle.files.specs.Spots.{spots_of}
 use Rattle.order.specs.Order.{place_of}
 use Rattle.order.specs.Fitting.{Fitting, part_of, items_from, Slices}
+use Rattle.curve_views.specs.declared.Curve.{Curve}
+use Rattle.refusals.specs.declared.Refusal.{Refusal}
 
 -- an ellipse or an arc: its place, 1 where it is deleted, else 0, and what the call for it gives
 pub record Entry : Type 0 where
@@ -26,13 +27,16 @@ pub record Entry : Type 0 where
   pub secondary : Float
   pub origin : Origin
 
+abbrev pub entry_of : Curve → ℕ → ℕ → Entry
+entry_of (curves.Ellipse primary secondary turn origin) place deleted =
+    record { place = place; deleted = deleted; kind = 15; start = 0; sweep = 0; turn = turn; primary = primary; secondary = secondary; origin = origin }
+entry_of (curves.Arc start sweep primary secondary turn origin) place deleted =
+    record { place = place; deleted = deleted; kind = 16; start = start; sweep = sweep; turn = turn; primary = primary; secondary = secondary; origin = origin }
+
 -- one for each answer that is no refusal
-abbrev pub entry_by : Curve → ℕ → ℕ → List Entry
-entry_by (curves.Ellipse primary secondary turn origin) place deleted =
-    record { place = place; deleted = deleted; kind = 15; start = 0; sweep = 0; turn = turn; primary = primary; secondary = secondary; origin = origin } ∷ []
-entry_by (curves.Arc start sweep primary secondary turn origin) place deleted =
-    record { place = place; deleted = deleted; kind = 16; start = start; sweep = sweep; turn = turn; primary = primary; secondary = secondary; origin = origin } ∷ []
-entry_by (curves.Refused number fault) place deleted = []
+abbrev pub entry_by : Result Curve Refusal → ℕ → ℕ → List Entry
+entry_by (Ok curve) place deleted = entry_of curve place deleted ∷ []
+entry_by (Err refusal) place deleted = []
 
 -- its 9 numbers and its 5 floats
 abbrev pub entry_numbers : Entry → List ℤ

@@ -11,39 +11,36 @@ ghost use Rattle.dgn_curves.specs.Curves.{both, in_both, entry_by, curves_from};
 ghost use Rattle.dgn_curves.specs.Answers.{CurvesGiven};
 
 use curve_views::Curve;
-use order::{Part, Taken};
+use order::Part;
+use refusals::Refusal;
 
 // The numbers and floats of an ellipse or an arc at a place behind those of so many others, where they fit.
 fn put_curve(
     file: &[u8],
     at: usize,
-    curve: Curve,
+    curve: Result<Curve, Refusal>,
     numbers: &mut [i64],
     floats: &mut [f64],
     used: usize,
-) -> Taken
+) -> Option<usize>
     requires { (at < 2 ^ 40) × (used ≤ in_both.room (both numbers.old floats.old)) }
     ensures { ElementPut in_both (entry_by curve at (deleted_of (word_at (words file.now) at))) (both numbers.old floats.old) used result (both numbers.new floats.new) }
 {
-    if let Curve::Refused {
-        number: _,
-        place: _,
-    } = curve
-    {
-        return Taken::Used { used };
-    }
+    let Ok(curve) = curve else {
+        return Some(used);
+    };
     let first = 9 * used;
     let from = 5 * used;
     if numbers.len() - first < 9 {
-        return Taken::Full;
+        return None;
     }
     if floats.len() - from < 5 {
-        return Taken::Full;
+        return None;
     }
     numbers[first] = at as i64;
     numbers[first + 1] = (words::word(file, at) / 32768 % 2) as i64;
-    curve_numbers::put_curve(numbers, first + 2, floats, from, curve);
-    Taken::Used { used: used + 1 }
+    curve_numbers::put_curve(numbers, first + 2, floats, from, Ok(curve));
+    Some(used + 1)
 }
 
 // The curves among the elements number k, k + 1, .., up to the first that does not fit.
@@ -62,22 +59,19 @@ fn put_curves(
         return Part { next: k, used: 0 };
     }
     let mut at = order::start_of(file, k);
-    let mut i = k;
     let mut used = 0;
-    while i < elements {
+    for i in k..elements {
         let curve = curve_views::curve_in(file, dim, at);
-        match put_curve(file, at, curve, numbers, floats, used) {
-            Taken::Full => {
-                return Part { next: i, used };
-            }
-            Taken::Used { used: more } => {
-                used = more;
-                at += headers::size_at(file, at);
-                i += 1;
-            }
-        }
+        let Some(more) = put_curve(file, at, curve, numbers, floats, used) else {
+            return Part { next: i, used };
+        };
+        used = more;
+        at += headers::size_at(file, at);
     }
-    Part { next: i, used }
+    Part {
+        next: elements,
+        used,
+    }
 }
 
 #[unsafe(no_mangle)]
@@ -91,18 +85,15 @@ pub extern "C" fn dgn_curves(
 ) -> usize
     ensures { CurvesGiven dim file.now k (both numbers.old floats.old) out.old result (both numbers.new floats.new) out.new }
 {
-    match order::begin(file, dim, 2, out.len()) {
-        order::Begun::Refused { answer } => answer,
-        order::Begun::Elements { elements } => {
-            let part = put_curves(file, dim, elements, k, numbers, floats);
-            let next = part.next;
-            let used = part.used;
-            if order::none_fits(used, next, elements) {
-                return 15;
-            }
-            out[0] = next;
-            out[1] = used;
-            0
-        }
+    let elements = match order::begin(file, dim, 2, out.len()) {
+        Ok(elements) => elements,
+        Err(answer) => return answer,
+    };
+    let Part { next, used } = put_curves(file, dim, elements, k, numbers, floats);
+    if order::none_fits(used, next, elements) {
+        return 15;
     }
+    out[0] = next;
+    out[1] = used;
+    0
 }

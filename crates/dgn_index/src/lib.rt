@@ -9,6 +9,8 @@ ghost use Rattle.lookup.specs.Live.{live_look_up_of};
 ghost use Rattle.answers.specs.Answers.{SmallReply, Replied};
 ghost use Rattle.dgn_index.specs.IndexNumbers.{CellsLeft, IndexLeft, look_reply};
 
+use finder::{Found, Missed};
+
 #[unsafe(no_mangle)]
 pub extern "C" fn dgn_cells(file: &[u8], dim: usize, entries: &mut [u8], out: &mut [usize]) -> usize
     ensures { CellsLeft dim file.now entries.old out.old result entries.new out.new }
@@ -17,19 +19,15 @@ pub extern "C" fn dgn_cells(file: &[u8], dim: usize, entries: &mut [u8], out: &m
         return 1;
     }
     match files::judge(file, dim) {
-        files::Judged::Refused { number, place } => number + 256 * place,
-        files::Judged::Accepted {
-            elements,
-            deepest,
-            marker,
-        } => {
-            let n = indexing::list_cells(file, marker, entries);
+        Ok(accepted) => {
+            let n = indexing::list_cells(file, accepted.marker, entries);
             out[0] = n;
-            out[1] = elements;
-            out[2] = deepest;
-            out[3] = marker;
+            out[1] = accepted.elements;
+            out[2] = accepted.deepest;
+            out[3] = accepted.marker;
             0
         }
+        Err(refusal) => refusal.number + 256 * refusal.place,
     }
 }
 
@@ -41,32 +39,28 @@ pub extern "C" fn dgn_index(file: &[u8], dim: usize, index: &mut [u8], out: &mut
         return 1;
     }
     match indexing::build(file, dim, index) {
-        indexing::Built::Index { used } => {
+        Ok(used) => {
             out[0] = used;
             0
         }
-        indexing::Built::Refused { number, place } => number + 256 * place,
+        Err(refusal) => refusal.number + 256 * refusal.place,
     }
 }
 
 // What a look-up answers, put into a slice that has room for it. 13 carries the looks, or 524,288 where there were more.
-fn put_looked(found: lookup::Found, out: &mut [usize]) -> usize
+fn put_looked(found: Result<Found, Missed>, out: &mut [usize]) -> usize
     requires { (SmallReply (look_reply found)) × (2 ≤ length out.old) }
     ensures { Replied 2 (look_reply found) out.old result out.new }
 {
     match found {
-        lookup::Found::At { place, looks } => {
+        Ok(Found { place, looks }) => {
             out[0] = place;
             out[1] = looks;
             0
         }
-        lookup::Found::Refused {
-            number,
-            place,
-            looks,
-        } => {
+        Err(Missed { refusal, looks }) => {
             let most = kinds::pick(looks < 524288, looks, 524288);
-            number + 256 * kinds::pick(number == 13, most, place)
+            refusal.number + 256 * kinds::pick(refusal.number == 13, most, refusal.place)
         }
     }
 }

@@ -9,22 +9,21 @@ ghost use Rattle.edits.specs.Calls.{rename_call, insert_call, remove_call, undo_
 ghost use Rattle.edit_answers.specs.Editing.{cut_reply, StepLeftAll, MarkLeftAll, header_given};
 ghost use Rattle.indexed.specs.Indexed.{session_indexed, edited_of, iused_then};
 
-use edits::Edited;
-use indexed::Indexed;
+use edits::UsedLengths;
+use indexed::AllLengths;
+use refusals::Refusal;
 
 // The new used lengths, the index's last; where the call is refused its used length stays.
-fn put(out: &mut [usize], answer: Indexed, iused: usize) -> usize
+fn put(out: &mut [usize], answer: Result<AllLengths, Refusal>, iused: usize) -> usize
     ensures { Replied 3 (cut_reply (edited_of answer) (some (iused_then answer iused))) out.old result out.new }
 {
     match answer {
-        Indexed::Made {
-            used,
-            jused,
-            iused: after,
-        } => edit_answers::put_indexed(out, Edited::Made { used, jused }, after),
-        Indexed::Refused { number, place } => {
-            edit_answers::put_indexed(out, Edited::Refused { number, place }, iused)
+        Ok(lengths) => {
+            let used = lengths.used;
+            let jused = lengths.jused;
+            edit_answers::put_indexed(out, Ok(UsedLengths { used, jused }), lengths.iused)
         }
+        Err(refusal) => edit_answers::put_indexed(out, Err(refusal), iused),
     }
 }
 

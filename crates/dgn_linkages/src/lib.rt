@@ -21,22 +21,14 @@ pub extern "C" fn dgn_linkage(
         return 1;
     }
     match points_linkages::linkage_at(file, dim, place, k) {
-        points_linkages::Attribute::At {
-            user,
-            place: start,
-            size,
-            id,
-        } => {
-            let kind = kinds::pick(user, 1, 0);
+        Ok(linkage) => {
+            let kind = kinds::pick(linkage.user, 1, 0);
             out[0] = kind;
-            out[1] = start;
-            out[2] = size;
-            out[3] = id;
+            out[1] = linkage.place;
+            out[2] = linkage.size;
+            out[3] = linkage.id;
             0
         }
-        points_linkages::Attribute::Refused {
-            number,
-            place: fault,
-        } => number + 256 * fault,
+        Err(refusal) => refusal.number + 256 * refusal.place,
     }
 }

@@ -17,12 +17,12 @@ pub extern "C" fn dgn_pack(text: &[u8], out: &mut [usize]) -> usize
         return 1;
     }
     match names::pack(text) {
-        names::Packed::Words { first, second } => {
-            out[0] = first;
-            out[1] = second;
+        Ok(name) => {
+            out[0] = name.first;
+            out[1] = name.second;
             0
         }
-        names::Packed::Refused { number, place } => number + 256 * place,
+        Err(refusal) => refusal.number + 256 * refusal.place,
     }
 }
 
@@ -47,14 +47,10 @@ pub extern "C" fn dgn_unpack(first: usize, second: usize, text: &mut [u8]) -> us
     if text.len() < 7 {
         return 1;
     }
-    let name = names::unpack(first, second);
-    let answer = name.answer;
-    let letters = name.letters;
-    match answer {
-        names::Answer::Text { length: _ } => {
-            put_letters(text, letters);
-            0
-        }
-        names::Answer::Refused { number, place } => number + 256 * place,
-    }
+    let name = match names::unpack(first, second) {
+        Ok(name) => name,
+        Err(refusal) => return refusal.number + 256 * refusal.place,
+    };
+    put_letters(text, name.letters);
+    0
 }

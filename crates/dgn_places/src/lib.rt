@@ -8,6 +8,8 @@ ghost use Rattle.points_linkages.specs.Points.{point_of};
 ghost use Rattle.answers.specs.Answers.{Replied};
 ghost use Rattle.dgn_places.specs.ExtentPoint.{extent_reply, point_reply};
 
+use points_linkages::Point;
+
 #[unsafe(no_mangle)]
 pub extern "C" fn dgn_extent(file: &[u8], dim: usize, place: usize, out: &mut [usize]) -> usize
     ensures { Replied 2 (extent_reply (extent_answer dim file.now place)) out.old result out.new }
@@ -16,15 +18,12 @@ pub extern "C" fn dgn_extent(file: &[u8], dim: usize, place: usize, out: &mut [u
         return 1;
     }
     match places::extent_answer(file, dim, place) {
-        places::Extent::At { start, end } => {
-            out[0] = start;
-            out[1] = end;
+        Ok(extent) => {
+            out[0] = extent.start;
+            out[1] = extent.end;
             0
         }
-        places::Extent::Refused {
-            number,
-            place: fault,
-        } => number + 256 * fault,
+        Err(refusal) => refusal.number + 256 * refusal.place,
     }
 }
 
@@ -42,18 +41,18 @@ pub extern "C" fn dgn_point(
         return 1;
     }
     match points_linkages::point_at(file, dim, place, k) {
-        points_linkages::Point::Flat { x, y } => {
+        Ok(Point::Flat { x, y }) => {
             out[0] = x;
             out[1] = y;
             out[2] = 0;
             0
         }
-        points_linkages::Point::Solid { x, y, z } => {
+        Ok(Point::Solid { x, y, z }) => {
             out[0] = x;
             out[1] = y;
             out[2] = z;
             0
         }
-        points_linkages::Point::Refused { number, place: at } => number + 256 * at,
+        Err(refused) => refused.number + 256 * refused.place,
     }
 }

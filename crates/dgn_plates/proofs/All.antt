@@ -10,8 +10,6 @@ use borrow.Author.Tests.{leb-true}
 use Rattle.words.specs.Words.{words, word_at}
 use Rattle.kinds.specs.FirstWord.{deleted_of}
 use Rattle.files.specs.Spots.{Spot}
-use Rattle.plates.specs.declared.Plated.{Plated}
-use Rattle.plates.specs.declared.Plated.TheVariants.{Counted, Refused}
 use Rattle.plates.specs.Plates.{plate_of}
 use Rattle.answers.proofs.Besides.{front_read}
 use Rattle.order.specs.Fitting.{all_of}
@@ -20,10 +18,13 @@ use Rattle.dgn_plates.specs.Plates.{entry_by, plate_entry, all_numbers, in_plate
 use Rattle.dgn_plates.specs.Answers.{plates_reply}
 use Rattle.dgn_plates.specs.Calls.{plates_call, AllPlates}
 use Rattle.dgn_plates.proofs.Slices.{numbers_long, numbers_append}
+use Rattle.std.specs.Prelude.{Err, Ok, Result}
+use Rattle.plates.specs.declared.Plate.{Plate}
+use Rattle.refusals.specs.declared.Refusal.{Refusal}
 
-entry_few : (c : Plated) (place deleted : ℕ) → length (entry_by c place deleted) ≤ 1
-entry_few (Counted plate) place deleted = omega arith
-entry_few (Refused number fault) place deleted = omega arith
+entry_few : (c : Result Plate Refusal) (place deleted : ℕ) → length (entry_by c place deleted) ≤ 1
+entry_few (Ok plate) place deleted = omega arith
+entry_few (Err refusal) place deleted = omega arith
 
 module _ (dim : ℕ) (s : List ℕ) where
   few : (x : Spot) → length (plate_entry dim s x) ≤ 1

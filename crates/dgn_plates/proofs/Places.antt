@@ -8,7 +8,6 @@ use lib.ListN.{drop}
 use Rattle.words.specs.Words.{words}
 use Rattle.files.specs.Judge.{judge_of}
 use Rattle.files.specs.Spots.{Spot, spots_of, spot_in}
-use Rattle.files.specs.declared.Judged.TheVariants.{Accepted}
 use Rattle.plates.proofs.Promises.{plate_given}
 use Rattle.order.specs.Order.{place_of}
 use Rattle.order.specs.Fitting.{part_of}
@@ -17,8 +16,9 @@ use Rattle.order.proofs.Order.{FoundIn, found_drop, file_found}
 use Rattle.order.proofs.Items.{items_are}
 use Rattle.dgn_plates.specs.Plates.{Entry, in_plates, plate_entry, plate_items, plates_part, plates_from}
 use Rattle.dgn_plates.proofs.Slices.{lays_plates}
+use Rattle.files.specs.Accepted.{accepted_with}
 
-module _ (dim : ℕ) (s : List ℕ) (e d m : ℕ) (j : judge_of dim s ≡ Accepted e d m) where
+module _ (dim : ℕ) (s : List ℕ) (e d m : ℕ) (j : judge_of dim s ≡ accepted_with e d m) where
   items_each : (x : Spot) → spot_in (spots_of dim (words s)) x.place ≡ some x → plate_items (words s) x.place ≡ plate_entry dim s x
   unfolding plate_items
   items_each x f = rw (plate_given dim s x.place e d m x j f).judged refl

@@ -8,7 +8,6 @@ use lib.IntN.{ℤ}
 use lib.ListN.{length, set}
 use Rattle.words.specs.Words.{words}
 use Rattle.answers.proofs.Elements.{elements_few}
-use Rattle.order.specs.declared.Begun.TheVariants.{Refused}
 use Rattle.order.specs.declared.Part.{Part}
 use Rattle.order.specs.Calls.{begun_of, none_fits}
 use Rattle.order.specs.Fitting.{Fitting, part_of, PartPut}
@@ -19,12 +18,13 @@ use Rattle.dgn_plates.specs.Plates.{Entry, in_plates, plates_part, plates_from}
 use Rattle.dgn_plates.specs.Answers.{plates_reply, PlatesGiven}
 use Rattle.dgn_plates.proofs.Slices.{lays_plates}
 use Rattle.dgn_plates.proofs.Places.{plates_are}
+use Rattle.std.specs.Prelude.{Err}
 
 module _ (dim : ℕ) (s : List ℕ) (k : ℕ) (was : List ℤ) (out : List ℕ) where
   abbrev part : Fitting Entry
   part = plates_part dim s (in_plates.room was) k
 
-  pub plates_refused : (a : ℕ) → begun_of dim s 2 (length out) ≡ Refused a → PlatesGiven dim s k was out a was out
+  pub plates_refused : (a : ℕ) → begun_of dim s 2 (length out) ≡ Err a → PlatesGiven dim s k was out a was out
   unfolding plates_reply
   plates_refused a q = let g = taken_refused in_plates lays_plates dim s part (length part.given) was out a q in record { replied = g.0; given = g.1 }
 

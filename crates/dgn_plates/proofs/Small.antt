@@ -6,8 +6,6 @@ use mathlib.Core.List.{List, [], ◌∷◌}
 use native.Mathlib.Omega.{arith}
 use lib.ListN.{length}
 use Rattle.files.specs.Refused.{RefusedBy}
-use Rattle.plates.specs.declared.Plated.{Plated}
-use Rattle.plates.specs.declared.Plated.TheVariants as plated
 use Rattle.plates.specs.Plates.{plate_of}
 use Rattle.plates.proofs.Promises.{plate_refused}
 use Rattle.answers.specs.Answers.{Small, SmallReply}
@@ -15,9 +13,13 @@ use Rattle.answers.proofs.Refusals.{file_small}
 use Rattle.order.proofs.Answers.{reply_small}
 use Rattle.dgn_plates.specs.Plates.{plates_part}
 use Rattle.dgn_plates.specs.Answers.{plate_reply, plates_reply}
+use Rattle.std.specs.Prelude.{Err, Ok, Result}
+use Rattle.plates.specs.declared.Plate.{Plate}
+use Rattle.refusals.specs.Refusals.{refused_with}
+use Rattle.refusals.specs.declared.Refusal.{Refusal}
 
 module _ (dim : ℕ) (s : List ℕ) (at : ℕ) where
-  pub refused_small : (n p : ℕ) → plate_of dim s at ≡ plated.Refused n p → Small n p
+  pub refused_small : (n p : ℕ) → plate_of dim s at ≡ refused_with n p → Small n p
   refused_small n p q = go (plate_refused dim s at n p q)
     where
       go : RefusedBy dim s (13 ∷ 18 ∷ []) n p → Small n p
@@ -29,9 +31,9 @@ module _ (dim : ℕ) (s : List ℕ) (at : ℕ) where
   pub plate_small : SmallReply (plate_reply (plate_of dim s at))
   plate_small = go (plate_of dim s at) refl
     where
-      go : (r : Plated) → plate_of dim s at ≡ r → SmallReply (plate_reply r)
-      go (plated.Counted plate) q = tt
-      go (plated.Refused n p) q = refused_small n p q
+      go : (r : Result Plate Refusal) → plate_of dim s at ≡ r → SmallReply (plate_reply r)
+      go (Ok plate) q = tt
+      go (Err refusal) q = refused_small refusal.number refusal.place q
 
 pub plates_small : (dim : ℕ) (s : List ℕ) (k room : ℕ) → SmallReply (plates_reply dim s k room)
 unfolding plates_reply

@@ -1,17 +1,17 @@
 -- What dgn_plate and dgn_plates answer, and what they leave in the slices.
-use Rattle.std.specs.Prelude.{ℕ, ◌≡◌, List, [], ◌∷◌, ℤ, length}
+use Rattle.std.specs.Prelude.{ℕ, ◌≡◌, List, [], ◌∷◌, ℤ, length, Err, Ok, Result}
 use Rattle.files.specs.Judge.{judge_of}
-use Rattle.plates.specs.declared.Plated.{Plated}
-use Rattle.plates.specs.declared.Plated.TheVariants as plated
 use Rattle.answers.specs.Answers.{Reply, done, refuse, with_room, Replied}
 use Rattle.answers.specs.Besides.{if_done}
 use Rattle.order.specs.Calls.{reply_by}
 use Rattle.dgn_plates.specs.Plates.{plate_given, in_plates, plates_part}
+use Rattle.plates.specs.declared.Plate.{Plate}
+use Rattle.refusals.specs.declared.Refusal.{Refusal}
 
 -- of the cell at a place: its nine numbers
-abbrev pub plate_reply : Plated → Reply ℤ
-plate_reply (plated.Counted plate) = done (plate_given plate)
-plate_reply (plated.Refused number place) = refuse number place
+abbrev pub plate_reply : Result Plate Refusal → Reply ℤ
+plate_reply (Ok plate) = done (plate_given plate)
+plate_reply (Err refusal) = refuse refusal.number refusal.place
 
 -- 15 where a cell is left and no plate fits; done: the next element's number and how many plates
 unfoldable pub plates_reply : ℕ → List ℕ → ℕ → ℕ → Reply ℕ

@@ -4,11 +4,11 @@ use Rattle.std.specs.Prelude.{ℕ, ◌*◌, ◌≡◌, List, ℤ, get_or}
 use Rattle.words.specs.Words.{words}
 use Rattle.files.specs.Judge.{judge_of}
 use Rattle.files.specs.Spots.{Spot, spots_of}
-use Rattle.files.specs.declared.Judged.TheVariants.{Accepted}
 use Rattle.order.specs.Fitting.{all_of}
 use Rattle.order.specs.Parts.{Lent, InParts, numbers_call, Called, GivesAll}
 use Rattle.dgn_plates.specs.Plates.{plate_entry, all_numbers}
 use Rattle.dgn_plates.specs.Answers.{PlatesGiven}
+use Rattle.files.specs.Accepted.{accepted_with}
 
 -- the call by its contract; its answer is the number of the element to go on with, and how many plates there are, of 11 numbers each. A
 -- slice of 11 numbers holds a plate, and one of 2 the answer
@@ -21,5 +21,5 @@ plates_of dim s xs = all_numbers (all_of (plate_entry dim s) xs)
 
 abbrev pub AllPlates : Type 0
 AllPlates =
-    (dim : ℕ) (s : List ℕ) (e d m : ℕ) → judge_of dim s ≡ Accepted e d m → (calls : List Lent) (got : List ℤ) (last : ℕ) →
+    (dim : ℕ) (s : List ℕ) (e d m : ℕ) → judge_of dim s ≡ accepted_with e d m → (calls : List Lent) (got : List ℤ) (last : ℕ) →
     Called (plates_call dim s) 0 calls got last → GivesAll (plates_call dim s) (spots_of dim (words s)) (plates_of dim s) calls got last

@@ -1,32 +1,31 @@
 -- The plates of the cells among the elements number k, k + 1, .. in file order, as many as a slice of numbers holds whole, of 11 numbers
 -- each.
-use Rattle.std.specs.Prelude.{ℕ, ◌*◌, ◌/◌, ◌≡◌, Bool, true, false, List, [], ◌∷◌, ◌++◌, map, ℤ, pos, length, drop}
+use Rattle.std.specs.Prelude.{ℕ, ◌*◌, ◌/◌, ◌≡◌, Bool, true, false, List, [], ◌∷◌, ◌++◌, map, ℤ, pos, length, drop, Err, Ok, Result}
 use Rattle.std.proofs.lemmas.List.Edits.{sets}
 use Rattle.words.specs.Words.{words, word_at}
 use Rattle.kinds.specs.FirstWord.{deleted_of}
 use Rattle.files.specs.Spots.{Spot, spots_of}
 use Rattle.plates.specs.declared.Plate.{Plate}
-use Rattle.plates.specs.declared.Plated.{Plated}
-use Rattle.plates.specs.declared.Plated.TheVariants.{Counted, Refused}
 use Rattle.plates.specs.Plates.{plate_numbers, plate_of}
 use Rattle.plates.specs.Hops.{plate_in}
 use Rattle.order.specs.Order.{place_of}
 use Rattle.order.specs.Fitting.{Fitting, part_of, items_from, Slices}
+use Rattle.refusals.specs.declared.Refusal.{Refusal}
 
 -- the nine numbers of a plate as signed ones
 abbrev pub plate_given : Plate → List ℤ
 plate_given p = map pos (plate_numbers p)
 
 -- what is put into a slice from a place on of the answer of the call for a plate, and whether it is one
-abbrev pub is_counted : Plated → Bool
-is_counted (Counted plate) = true
-is_counted (Refused number fault) = false
+abbrev pub is_counted : Result Plate Refusal → Bool
+is_counted (Ok plate) = true
+is_counted (Err refusal) = false
 
-abbrev pub put_from : List ℤ → ℕ → Plated → List ℤ
-put_from s from (Counted plate) = sets s from (plate_given plate)
-put_from s from (Refused number fault) = s
+abbrev pub put_from : List ℤ → ℕ → Result Plate Refusal → List ℤ
+put_from s from (Ok plate) = sets s from (plate_given plate)
+put_from s from (Err refusal) = s
 
-pub record CellPut (a : Plated) (from : ℕ) (s : List ℤ) (r : Bool) (t : List ℤ) : Type 0 where
+pub record CellPut (a : Result Plate Refusal) (from : ℕ) (s : List ℤ) (r : Bool) (t : List ℤ) : Type 0 where
   pub is : r ≡ is_counted a
   pub given : t ≡ put_from s from a
 
@@ -37,9 +36,9 @@ pub record Entry : Type 0 where
   pub plate : Plate
 
 -- one for each answer that is no refusal
-abbrev pub entry_by : Plated → ℕ → ℕ → List Entry
-entry_by (Counted plate) place deleted = record { place = place; deleted = deleted; plate = plate } ∷ []
-entry_by (Refused number fault) place deleted = []
+abbrev pub entry_by : Result Plate Refusal → ℕ → ℕ → List Entry
+entry_by (Ok plate) place deleted = record { place = place; deleted = deleted; plate = plate } ∷ []
+entry_by (Err refusal) place deleted = []
 
 -- its 11 numbers
 abbrev pub entry_numbers : Entry → List ℤ

@@ -15,8 +15,8 @@ ghost use Rattle.order.specs.Fitting.{part_of, ElementPut, PartPut};
 ghost use Rattle.dgn_plates.specs.Plates.{plate_given, CellPut, in_plates, plate_items, plates_from};
 ghost use Rattle.dgn_plates.specs.Answers.{plate_reply, PlatesGiven};
 
-use order::{Part, Taken};
-use plates::{Plate, Plated};
+use order::Part;
+use plates::Plate;
 
 // The nine numbers of a plate, from a place of a slice on.
 fn put_plate(numbers: &mut [i64], from: usize, plate: Plate)
@@ -41,33 +41,30 @@ fn put_cell(file: &[u8], at: usize, numbers: &mut [i64], from: usize) -> bool
     ensures { CellPut (plate_in (words file.now) at) from numbers.old result numbers.new }
 {
     match plates::plate_in(file, at) {
-        Plated::Counted { plate } => {
+        Ok(plate) => {
             put_plate(numbers, from, plate);
             true
         }
-        Plated::Refused {
-            number: _,
-            place: _,
-        } => false,
+        Err(_) => false,
     }
 }
 
 // The numbers of the element at a place, where it is a cell, behind those of so many other plates, where they fit.
-fn put_element(file: &[u8], at: usize, numbers: &mut [i64], used: usize) -> Taken
+fn put_element(file: &[u8], at: usize, numbers: &mut [i64], used: usize) -> Option<usize>
     requires { (at < 2 ^ 40) × (used ≤ in_plates.room numbers.old) }
     ensures { ElementPut in_plates (plate_items (words file.now) at) numbers.old used result numbers.new }
 {
     if !cells::is_cell(file, at) {
-        return Taken::Used { used };
+        return Some(used);
     }
     let first = 11 * used;
     if numbers.len() - first < 11 {
-        return Taken::Full;
+        return None;
     }
     numbers[first] = at as i64;
     numbers[first + 1] = (words::word(file, at) / 32768 % 2) as i64;
     put_cell(file, at, numbers, first + 2);
-    Taken::Used { used: used + 1 }
+    Some(used + 1)
 }
 
 // The plates of the cells among the elements number k, k + 1, .., up to the first that does not fit.
@@ -79,21 +76,18 @@ fn put_plates(file: &[u8], elements: usize, k: usize, numbers: &mut [i64]) -> Pa
         return Part { next: k, used: 0 };
     }
     let mut at = order::start_of(file, k);
-    let mut i = k;
     let mut used = 0;
-    while i < elements {
-        match put_element(file, at, numbers, used) {
-            Taken::Full => {
-                return Part { next: i, used };
-            }
-            Taken::Used { used: more } => {
-                used = more;
-                at += headers::size_at(file, at);
-                i += 1;
-            }
-        }
+    for i in k..elements {
+        let Some(more) = put_element(file, at, numbers, used) else {
+            return Part { next: i, used };
+        };
+        used = more;
+        at += headers::size_at(file, at);
     }
-    Part { next: i, used }
+    Part {
+        next: elements,
+        used,
+    }
 }
 
 #[unsafe(no_mangle)]
@@ -103,22 +97,13 @@ pub extern "C" fn dgn_plate(file: &[u8], dim: usize, place: usize, out: &mut [i6
     if out.len() < 9 {
         return 1;
     }
-    match places::spotted_at(file, dim, place) {
-        places::Spotted::At {
-            end: _,
-            depth: _,
-            above: _,
-        } => {
-            if put_cell(file, place, out, 0) {
-                return 0;
-            }
-            18
-        }
-        places::Spotted::Refused {
-            number,
-            place: fault,
-        } => number + 256 * fault,
+    if let Err(refusal) = places::spotted_at(file, dim, place) {
+        return refusal.number + 256 * refusal.place;
     }
+    if put_cell(file, place, out, 0) {
+        return 0;
+    }
+    18
 }
 
 #[unsafe(no_mangle)]
@@ -131,18 +116,15 @@ pub extern "C" fn dgn_plates(
 ) -> usize
     ensures { PlatesGiven dim file.now k numbers.old out.old result numbers.new out.new }
 {
-    match order::begin(file, dim, 2, out.len()) {
-        order::Begun::Refused { answer } => answer,
-        order::Begun::Elements { elements } => {
-            let part = put_plates(file, elements, k, numbers);
-            let next = part.next;
-            let used = part.used;
-            if order::none_fits(used, next, elements) {
-                return 15;
-            }
-            out[0] = next;
-            out[1] = used;
-            0
-        }
+    let elements = match order::begin(file, dim, 2, out.len()) {
+        Ok(elements) => elements,
+        Err(answer) => return answer,
+    };
+    let Part { next, used } = put_plates(file, elements, k, numbers);
+    if order::none_fits(used, next, elements) {
+        return 15;
     }
+    out[0] = next;
+    out[1] = used;
+    0
 }

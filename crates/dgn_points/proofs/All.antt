@@ -18,10 +18,8 @@ use Rattle.headers.specs.Header.{type_at, points_at}
 use Rattle.elements.specs.Rules.{sized_ok, points_ok, fixed_ok}
 use Rattle.files.specs.Judge.{judge_of}
 use Rattle.files.specs.Spots.{Spot, spots_of, spot_in}
-use Rattle.files.specs.declared.Judged.TheVariants.{Accepted}
 use Rattle.grammar.proofs.Exact.{accepted_is}
 use Rattle.places.specs.Places.{above_of, found_by, spotted_at}
-use Rattle.places.specs.declared.Spotted.TheVariants as spotted
 use Rattle.places.proofs.Places.{spotted_found, spot_rules}
 use Rattle.points_linkages.specs.Points.{point_count, before_points}
 use Rattle.points_linkages.specs.Coordinates.{longs}
@@ -33,6 +31,8 @@ use Rattle.order.proofs.Took.{all_taken, takes_numbers}
 use Rattle.dgn_points.specs.Points.{point_numbers, points_part}
 use Rattle.dgn_points.specs.Answers.{points_reply}
 use Rattle.dgn_points.specs.Calls.{element_points, points_call, AllPoints}
+use Rattle.files.specs.Accepted.{accepted_with}
+use Rattle.places.specs.Spotted.{spotted_with}
 
 ---- an element of an accepted file
 
@@ -46,7 +46,7 @@ count_few dim ws at e = go (eqb (type_at ws at) 3) (is_pointed (type_at ws at)) 
     go false false h = omega arith
     go false true h = leb-true (points_at ws at) 101 ((and-eq-true_iff (leb 2 (points_at ws at)) (leb (points_at ws at) 101)).0 h).1
 
-module _ (dim : ℕ) (s : List ℕ) (e d m : ℕ) (j : judge_of dim s ≡ Accepted e d m) where
+module _ (dim : ℕ) (s : List ℕ) (e d m : ℕ) (j : judge_of dim s ≡ accepted_with e d m) where
   module _ (x : Spot) (f : spot_in (spots_of dim (words s)) x.place ≡ some x) where
     -- so at most 305 numbers
     numbers_few : length (point_numbers dim (words s) x.place) ≤ 305
@@ -72,7 +72,7 @@ module _ (dim : ℕ) (s : List ℕ) (e d m : ℕ) (j : judge_of dim s ≡ Accept
         let n = point_count (words s) at in
         let start = at + before_points (words s) at in
         let dims = call_dims dim s (accepted_is dim s e d m j).call in
-        let found : spotted_at dim s x.place ≡ spotted.At x.end x.depth (above_of x.header) = spotted_found dim s at e d m j ∙ ap found_by f in
+        let found : spotted_at dim s x.place ≡ spotted_with x.end x.depth (above_of x.header) = spotted_found dim s at e d m j ∙ ap found_by f in
         let first : start + 2 * dim * 0 ≡ start = by_dims (λ i. start + 2 * i * 0 ≡ start) dim dims (omega arith) (omega arith) in
         let same : calls.points_from n 0 dim s at ≡ longs (n * dim) (words s) start =
         points_longs dim dims s at start n (λ k h. sym (point_there dim s at k x.end x.depth (above_of x.header) found n refl (before_points (words s) at) refl h)) n 0 (omega arith)

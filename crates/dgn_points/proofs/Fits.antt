@@ -13,10 +13,10 @@ use Rattle.points_linkages.specs.Points.{point_count, before_points}
 use Rattle.points_linkages.specs.Coordinates.{longs}
 use Rattle.points_linkages.proofs.Coordinates.{length_longs}
 use Rattle.points_linkages.proofs.Numbered.{count_small}
-use Rattle.order.specs.declared.Taken.TheVariants.{Full, Used}
 use Rattle.order.specs.Fitting.{in_numbers, ElementPut}
 use Rattle.order.proofs.Fitting.{lays_numbers, nothing_put}
 use Rattle.dgn_points.specs.Points.{point_numbers}
+use Rattle.std.specs.Prelude.{None, Some}
 
 ---- signed longs
 
@@ -54,7 +54,7 @@ numbers_few s b dim at n h e =
     go (suc (suc (suc (suc d)))) l = absurd (omega arith)
 
 module _ (dim : ℕ) (ws : List ℕ) (at n : ℕ) (numbers : List ℤ) (used : ℕ) (count : n ≡ point_count ws at) where
-  pub element_none : n ≡ 0 → ElementPut in_numbers (point_numbers dim ws at) numbers used (Used used) numbers
+  pub element_none : n ≡ 0 → ElementPut in_numbers (point_numbers dim ws at) numbers used (Some used) numbers
   unfolding point_numbers
   element_none z = rw (← count, z) (nothing_put in_numbers lays_numbers numbers used)
 
@@ -65,7 +65,7 @@ module _ (dim : ℕ) (ws : List ℕ) (at n : ℕ) (numbers : List ℤ) (used : �
   unfolding point_numbers
   numbers_are z = rw (← count, ne_eqb n 0 z) refl
 
-  pub element_full : (n ≡ 0 → ⊥) → length numbers - used < 2 + n * dim → ElementPut in_numbers (point_numbers dim ws at) numbers used Full numbers
+  pub element_full : (n ≡ 0 → ⊥) → length numbers - used < 2 + n * dim → ElementPut in_numbers (point_numbers dim ws at) numbers used None numbers
   element_full z h = rw (numbers_are z)
       (let l = long in
       let no = lt-leb (suc (suc (length (longs (n * dim) ws (at + before_points ws at))))) (length numbers - used) (omega arith) in
@@ -73,10 +73,10 @@ module _ (dim : ℕ) (ws : List ℕ) (at n : ℕ) (numbers : List ℤ) (used : �
 
   pub element_put : (n ≡ 0 → ⊥) → 2 + n * dim ≤ length numbers - used → (t : List ℤ) (b : ℕ) (first second : ℤ) → b ≡ before_points ws at → first ≡ pos at → second ≡ pos n →
       t ≡ sets (set (set numbers used first) (used + 1) second) (used + 2) (longs (n * dim) ws (at + b)) →
-      ElementPut in_numbers (point_numbers dim ws at) numbers used (Used (used + 2 + n * dim)) t
+      ElementPut in_numbers (point_numbers dim ws at) numbers used (Some (used + 2 + n * dim)) t
   element_put z h t b first second e f g q = rw (numbers_are z)
       (let l = long in
       let yes = le-leb (suc (suc (length (longs (n * dim) ws (at + before_points ws at))))) (length numbers - used) (omega arith) in
       let one : used + 1 ≡ suc used = omega arith in
       let two : used + 2 ≡ suc (suc used) = omega arith in
-      record { is = rw yes (ap Used (omega arith)); given = rw yes (rw (one, two, e, f, g) at q) })
+      record { is = rw yes (ap Some (omega arith)); given = rw yes (rw (one, two, e, f, g) at q) })

@@ -9,7 +9,6 @@ use lib.ListN.{length, set}
 use Rattle.words.specs.Words.{words}
 use Rattle.grammar.proofs.Exact.{accepted_is}
 use Rattle.points_linkages.proofs.Numbered.{stride}
-use Rattle.order.specs.declared.Begun.TheVariants.{Refused}
 use Rattle.order.specs.Calls.{begun_of, none_fits}
 use Rattle.order.proofs.Calls.{GoesOn, goes_few}
 use Rattle.order.proofs.Fitting.{lays_numbers}
@@ -19,12 +18,13 @@ use Rattle.order.specs.Fitting.{Fitting, part_of, in_numbers, PartPut}
 use Rattle.dgn_points.specs.Points.{points_from, points_part}
 use Rattle.dgn_points.specs.Answers.{points_reply, PointsGiven}
 use Rattle.dgn_points.proofs.Places.{points_are}
+use Rattle.std.specs.Prelude.{Err}
 
 module _ (dim : ℕ) (s : List ℕ) (k : ℕ) (numbers : List ℤ) (out : List ℕ) where
   abbrev part : Fitting ℤ
   part = points_part dim (words s) (length numbers) k
 
-  pub points_refused : (a : ℕ) → begun_of dim s 2 (length out) ≡ Refused a → PointsGiven dim s k numbers out a numbers out
+  pub points_refused : (a : ℕ) → begun_of dim s 2 (length out) ≡ Err a → PointsGiven dim s k numbers out a numbers out
   unfolding points_reply
   points_refused a q = let g = taken_refused in_numbers lays_numbers dim s part (length part.given) numbers out a q in record { replied = g.0; given = g.1 }
 

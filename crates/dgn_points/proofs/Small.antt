@@ -13,7 +13,6 @@ use Rattle.words.proofs.Laws.{words_below}
 use Rattle.words.proofs.Signed.{signed_small}
 use Rattle.files.specs.Judge.{judge_of}
 use Rattle.files.specs.Spots.{Spot, spots_of, spot_in}
-use Rattle.files.specs.declared.Judged.TheVariants.{Accepted}
 use Rattle.places.proofs.Places.{spot_rules}
 use Rattle.points_linkages.specs.Points.{point_count, before_points}
 use Rattle.points_linkages.specs.Coordinates.{longs}
@@ -26,6 +25,7 @@ use Rattle.dgn_points.specs.Points.{point_numbers, points_part}
 use Rattle.dgn_points.specs.Answers.{points_reply}
 use Rattle.dgn_points.specs.Calls.{PointsWithin}
 use Rattle.dgn_points.proofs.All.{count_few}
+use Rattle.files.specs.Accepted.{accepted_with}
 
 pub points_small : (dim : ℕ) (s : List ℕ) (k room : ℕ) → SmallReply (points_reply dim s k room)
 unfolding points_reply
@@ -40,7 +40,7 @@ longs_within s b (suc n) q =
     let y = words_below s b (q + 1) in
     (signed_small (long_at (words s) q) (omega arith), longs_within s b n (q + 2))
 
-module _ (dim : ℕ) (s : List ℕ) (e d m : ℕ) (j : judge_of dim s ≡ Accepted e d m) (b : Below 256 s) where
+module _ (dim : ℕ) (s : List ℕ) (e d m : ℕ) (j : judge_of dim s ≡ accepted_with e d m) (b : Below 256 s) where
   element_within : (x : Spot) → spot_in (spots_of dim (words s)) x.place ≡ some x → Within 2147483648 (point_numbers dim (words s) x.place)
   unfolding point_numbers
   element_within x f = go (eqb n 0)

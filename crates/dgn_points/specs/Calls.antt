@@ -4,12 +4,12 @@ use Rattle.std.specs.Prelude.{ℕ, ◌≡◌, cond, List, [], ◌∷◌, ℤ, po
 use Rattle.words.specs.Words.{words, Below}
 use Rattle.files.specs.Judge.{judge_of}
 use Rattle.files.specs.Spots.{Spot, spots_of}
-use Rattle.files.specs.declared.Judged.TheVariants.{Accepted}
 use Rattle.points_linkages.specs.Points.{point_count}
 use Rattle.points_linkages.specs.Coordinates.{points_from}
 use Rattle.order.specs.Fitting.{all_of}
 use Rattle.order.specs.Parts.{Lent, InParts, numbers_call, Called, GivesAll, NumbersSmall}
 use Rattle.dgn_points.specs.Answers.{PointsGiven}
+use Rattle.files.specs.Accepted.{accepted_with}
 
 -- of the element at a place: none where it has no points; else its place, how many points it has, and their coordinates by the calls
 -- for point 0, 1, ..
@@ -29,7 +29,7 @@ points_call dim s = numbers_call (λ k x n y. PointsGiven dim s k x.numbers x.ou
 
 abbrev pub AllPoints : Type 0
 AllPoints =
-    (dim : ℕ) (s : List ℕ) (e d m : ℕ) → judge_of dim s ≡ Accepted e d m → (calls : List Lent) (got : List ℤ) (last : ℕ) →
+    (dim : ℕ) (s : List ℕ) (e d m : ℕ) → judge_of dim s ≡ accepted_with e d m → (calls : List Lent) (got : List ℤ) (last : ℕ) →
     Called (points_call dim s) 0 calls got last → GivesAll (points_call dim s) (spots_of dim (words s)) (points_of dim s) calls got last
 
 -- a call that is done gives numbers from -2,147,483,648 to 2,147,483,647

@@ -6,16 +6,16 @@ use lib.ListN.{length}
 use Rattle.order.specs.Fitting.{in_numbers}
 use Rattle.order.proofs.Took.{all_taken, takes_numbers}
 use Rattle.range_checks.specs.InRange.{in_range_of}
-use Rattle.range_checks.specs.declared.InRange.{InRange}
-use Rattle.range_checks.specs.declared.InRange.TheVariants as answer
 use Rattle.dgn_ranges.specs.Ranges.{entry_by, range_entry, ranges_part}
 use Rattle.dgn_ranges.specs.Answers.{ranges_reply}
 use Rattle.dgn_ranges.specs.Calls.{ranges_call, AllRanges}
+use Rattle.std.specs.Prelude.{Bool, true, false, Err, Ok, Result}
+use Rattle.refusals.specs.declared.Refusal.{Refusal}
 
-few : (r : InRange) (at : ℕ) → length (entry_by r at) ≤ 1
-few answer.Yes at = omega arith
-few answer.No at = omega arith
-few (answer.Refused n p) at = omega arith
+few : (r : Result Bool Refusal) (at : ℕ) → length (entry_by r at) ≤ 1
+few (Ok true) at = omega arith
+few (Ok false) at = omega arith
+few (Err refusal) at = omega arith
 
 pub all_ranges : AllRanges
 unfolding ranges_reply ranges_part

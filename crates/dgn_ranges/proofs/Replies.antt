@@ -9,11 +9,9 @@ use lib.ListN.{length, set, drop}
 use Rattle.words.specs.Words.{words}
 use Rattle.files.specs.Judge.{judge_of}
 use Rattle.files.specs.Spots.{Spot, spots_of, spot_in}
-use Rattle.files.specs.declared.Judged.TheVariants.{Accepted}
 use Rattle.places.specs.Places.{found_by}
 use Rattle.places.proofs.Places.{spotted_found}
 use Rattle.range_checks.specs.InRange.{in_range_in, in_range_of}
-use Rattle.order.specs.declared.Begun.TheVariants.{Refused}
 use Rattle.order.specs.declared.Part.{Part}
 use Rattle.order.specs.Calls.{begun_of, none_fits}
 use Rattle.order.specs.Fitting.{Fitting, part_of, in_numbers, PartPut}
@@ -24,10 +22,12 @@ use Rattle.order.proofs.Fitting.{lays_numbers}
 use Rattle.order.proofs.Replies.{taken_refused, taken_full, taken_done}
 use Rattle.dgn_ranges.specs.Ranges.{range_entry, ranges_part, entry_at, ranges_from}
 use Rattle.dgn_ranges.specs.Answers.{ranges_reply, RangesGiven}
+use Rattle.std.specs.Prelude.{Err}
+use Rattle.files.specs.Accepted.{accepted_with}
 
 ---- by places and by the list of elements
 
-module _ (dim : ℕ) (s : List ℕ) (e d m : ℕ) (accepted : judge_of dim s ≡ Accepted e d m) where
+module _ (dim : ℕ) (s : List ℕ) (e d m : ℕ) (accepted : judge_of dim s ≡ accepted_with e d m) where
   abbrev all : List Spot
   all = spots_of dim (words s)
 
@@ -50,7 +50,7 @@ module _ (dim : ℕ) (s : List ℕ) (k : ℕ) (places : List ℤ) (out : List �
   abbrev part : Fitting ℤ
   part = ranges_part dim s (length places) k
 
-  pub ranges_refused : (a : ℕ) → begun_of dim s 2 (length out) ≡ Refused a → RangesGiven dim s k places out a places out
+  pub ranges_refused : (a : ℕ) → begun_of dim s 2 (length out) ≡ Err a → RangesGiven dim s k places out a places out
   unfolding ranges_reply
   ranges_refused a q = let g = taken_refused in_numbers lays_numbers dim s part (length part.given) places out a q in record { replied = g.0; given = g.1 }
 

@@ -4,8 +4,6 @@ use mathlib.Core.Path.{◌≡◌, refl}
 use mathlib.Core.List.{List, [], ◌∷◌}
 use lib.ListN.{length}
 use Rattle.range_checks.specs.InRange.{is_range_checked, in_range_of}
-use Rattle.range_checks.specs.declared.InRange.{InRange}
-use Rattle.range_checks.specs.declared.InRange.TheVariants as answer
 use Rattle.range_checks.proofs.Exactly.{in_range_refused}
 use Rattle.answers.specs.Answers.{Small, SmallReply}
 use Rattle.answers.proofs.Elements.{element_standing}
@@ -17,20 +15,22 @@ use Rattle.dgn_ranges.specs.Check.{in_range_reply}
 use Rattle.dgn_ranges.specs.Ranges.{entry_by, range_entry, ranges_part}
 use Rattle.dgn_ranges.specs.Answers.{ranges_reply}
 use Rattle.dgn_ranges.specs.Calls.{RangesWithin}
+use Rattle.std.specs.Prelude.{Bool, true, false, Err, Ok, Result}
+use Rattle.refusals.specs.Refusals.{refused_with}
+use Rattle.refusals.specs.declared.Refusal.{Refusal}
 
 ---- the check of one element
 
 module _ (dim : ℕ) (s : List ℕ) (at : ℕ) where
-  pub refused_small : (n p : ℕ) → in_range_of dim s at ≡ answer.Refused n p → Small n p
+  pub refused_small : (n p : ℕ) → in_range_of dim s at ≡ refused_with n p → Small n p
   refused_small n p q = type_small dim s at is_range_checked n p (in_range_refused dim s at n p q)
 
   pub in_range_small : SmallReply (in_range_reply (in_range_of dim s at))
   in_range_small = go (in_range_of dim s at) refl
     where
-      go : (r : InRange) → in_range_of dim s at ≡ r → SmallReply (in_range_reply r)
-      go answer.Yes q = tt
-      go answer.No q = tt
-      go (answer.Refused n p) q = refused_small n p q
+      go : (r : Result Bool Refusal) → in_range_of dim s at ≡ r → SmallReply (in_range_reply r)
+      go (Ok inside) q = tt
+      go (Err refusal) q = refused_small refusal.number refusal.place q
 
 ---- dgn_ranges
 
@@ -38,10 +38,10 @@ pub ranges_small : (dim : ℕ) (s : List ℕ) (k room : ℕ) → SmallReply (ran
 unfolding ranges_reply
 ranges_small dim s k room = let q = ranges_part dim s room k in reply_small dim s (length q.given) q.next (q.next ∷ length q.given ∷ [])
 
-entry_within : (r : InRange) (at : ℕ) → at < 524288 → Within 524288 (entry_by r at)
-entry_within answer.Yes at h = tt
-entry_within answer.No at h = (h, tt)
-entry_within (answer.Refused n p) at h = tt
+entry_within : (r : Result Bool Refusal) (at : ℕ) → at < 524288 → Within 524288 (entry_by r at)
+entry_within (Ok true) at h = tt
+entry_within (Ok false) at h = (h, tt)
+entry_within (Err refusal) at h = tt
 
 pub ranges_within : RangesWithin
 unfolding ranges_reply ranges_part

@@ -4,11 +4,11 @@ use Rattle.std.specs.Prelude.{ℕ, ◌≡◌, List, ℤ, get_or}
 use Rattle.words.specs.Words.{words}
 use Rattle.files.specs.Judge.{judge_of}
 use Rattle.files.specs.Spots.{spots_of}
-use Rattle.files.specs.declared.Judged.TheVariants.{Accepted}
 use Rattle.order.specs.Fitting.{all_of}
 use Rattle.order.specs.Parts.{Lent, InParts, numbers_call, Called, GivesAll, NumbersSmall}
 use Rattle.dgn_ranges.specs.Ranges.{range_entry}
 use Rattle.dgn_ranges.specs.Answers.{RangesGiven}
+use Rattle.files.specs.Accepted.{accepted_with}
 
 -- the call by its contract; its answer is the number of the element to go on with, and how many places there are. A slice of one number
 -- holds a place, and one of 2 the answer
@@ -17,7 +17,7 @@ ranges_call dim s = numbers_call (λ k x n y. RangesGiven dim s k x.numbers x.ou
 
 abbrev pub AllRanges : Type 0
 AllRanges =
-    (dim : ℕ) (s : List ℕ) (e d m : ℕ) → judge_of dim s ≡ Accepted e d m → (calls : List Lent) (got : List ℤ) (last : ℕ) →
+    (dim : ℕ) (s : List ℕ) (e d m : ℕ) → judge_of dim s ≡ accepted_with e d m → (calls : List Lent) (got : List ℤ) (last : ℕ) →
     Called (ranges_call dim s) 0 calls got last → GivesAll (ranges_call dim s) (spots_of dim (words s)) (all_of (range_entry dim s)) calls got last
 
 -- a call that is done gives numbers below 524,288

@@ -1,18 +1,17 @@
 -- The elements number k, k + 1, .. in file order whose points do not all lie in their range: their places, as many as a slice holds.
-use Rattle.std.specs.Prelude.{ℕ, List, [], ◌∷◌, map, ℤ, pos, drop}
+use Rattle.std.specs.Prelude.{ℕ, List, [], ◌∷◌, map, ℤ, pos, drop, Bool, true, false, Err, Ok, Result}
 use Rattle.words.specs.Words.{words}
 use Rattle.files.specs.Spots.{Spot, spots_of}
 use Rattle.order.specs.Order.{place_of}
 use Rattle.order.specs.Fitting.{Fitting, part_of, items_from}
 use Rattle.range_checks.specs.InRange.{in_range_in, in_range_of}
-use Rattle.range_checks.specs.declared.InRange.{InRange}
-use Rattle.range_checks.specs.declared.InRange.TheVariants as answer
+use Rattle.refusals.specs.declared.Refusal.{Refusal}
 
 -- the place of an element, where the answer is no
-abbrev pub entry_by : InRange → ℕ → List ℤ
-entry_by answer.Yes at = []
-entry_by answer.No at = pos at ∷ []
-entry_by (answer.Refused number place) at = []
+abbrev pub entry_by : Result Bool Refusal → ℕ → List ℤ
+entry_by (Ok true) at = []
+entry_by (Ok false) at = pos at ∷ []
+entry_by (Err refusal) at = []
 
 -- of an element of a file, as the call at its place answers
 abbrev pub range_entry : ℕ → List ℕ → Spot → List ℤ

@@ -13,8 +13,7 @@ ghost use Rattle.dgn_ranges.specs.Check.{in_range_reply};
 ghost use Rattle.dgn_ranges.specs.Ranges.{entry_at, ranges_from};
 ghost use Rattle.dgn_ranges.specs.Answers.{RangesGiven};
 
-use order::{Part, Taken};
-use range_checks::InRange;
+use order::Part;
 
 #[unsafe(no_mangle)]
 pub extern "C" fn dgn_in_range(file: &[u8], dim: usize, place: usize, out: &mut [usize]) -> usize
@@ -24,40 +23,27 @@ pub extern "C" fn dgn_in_range(file: &[u8], dim: usize, place: usize, out: &mut 
         return 1;
     }
     match range_checks::in_range_at(file, dim, place) {
-        InRange::Yes => {
-            out[0] = 1;
+        Ok(inside) => {
+            out[0] = usize::from(inside);
             0
         }
-        InRange::No => {
-            out[0] = 0;
-            0
-        }
-        InRange::Refused {
-            number,
-            place: fault,
-        } => number + 256 * fault,
+        Err(refusal) => refusal.number + 256 * refusal.place,
     }
 }
 
 // The place of the element at a place behind those that are used, where it fits; none of one whose answer is not no.
-fn put_element(file: &[u8], dim: usize, at: usize, places: &mut [i64], used: usize) -> Taken
+fn put_element(file: &[u8], dim: usize, at: usize, places: &mut [i64], used: usize) -> Option<usize>
     requires { (at < 2 ^ 40) × (used ≤ length places.old) }
     ensures { ElementPut in_numbers (entry_at dim (words file.now) at) places.old used result places.new }
 {
-    match range_checks::in_range_in(file, dim, at) {
-        InRange::Yes => Taken::Used { used },
-        InRange::No => {
-            if places.len() <= used {
-                return Taken::Full;
-            }
-            places[used] = at as i64;
-            Taken::Used { used: used + 1 }
-        }
-        InRange::Refused {
-            number: _,
-            place: _,
-        } => Taken::Used { used },
+    if range_checks::in_range_in(file, dim, at).unwrap_or(true) {
+        return Some(used);
     }
+    if places.len() <= used {
+        return None;
+    }
+    places[used] = at as i64;
+    Some(used + 1)
 }
 
 // The places of the elements number k, k + 1, .., up to the first that does not fit. An element's size is read before its points, so
@@ -70,22 +56,19 @@ fn put_ranges(file: &[u8], dim: usize, elements: usize, k: usize, places: &mut [
         return Part { next: k, used: 0 };
     }
     let mut at = order::start_of(file, k);
-    let mut i = k;
     let mut used = 0;
-    while i < elements {
+    for i in k..elements {
         let size = headers::size_at(file, at);
-        match put_element(file, dim, at, places, used) {
-            Taken::Full => {
-                return Part { next: i, used };
-            }
-            Taken::Used { used: more } => {
-                used = more;
-                at += size;
-                i += 1;
-            }
-        }
+        let Some(more) = put_element(file, dim, at, places, used) else {
+            return Part { next: i, used };
+        };
+        used = more;
+        at += size;
     }
-    Part { next: i, used }
+    Part {
+        next: elements,
+        used,
+    }
 }
 
 #[unsafe(no_mangle)]
@@ -98,18 +81,15 @@ pub extern "C" fn dgn_ranges(
 ) -> usize
     ensures { RangesGiven dim file.now k places.old out.old result places.new out.new }
 {
-    match order::begin(file, dim, 2, out.len()) {
-        order::Begun::Refused { answer } => answer,
-        order::Begun::Elements { elements } => {
-            let part = put_ranges(file, dim, elements, k, places);
-            let next = part.next;
-            let used = part.used;
-            if order::none_fits(used, next, elements) {
-                return 15;
-            }
-            out[0] = next;
-            out[1] = used;
-            0
-        }
+    let elements = match order::begin(file, dim, 2, out.len()) {
+        Ok(elements) => elements,
+        Err(answer) => return answer,
+    };
+    let Part { next, used } = put_ranges(file, dim, elements, k, places);
+    if order::none_fits(used, next, elements) {
+        return 15;
     }
+    out[0] = next;
+    out[1] = used;
+    0
 }

@@ -1,13 +1,13 @@
 -- The last record of a journal's used bytes as numbers: its kind, header place, place and payload words, and the used length
 -- before it, which is where its payload begins.
-use Rattle.std.specs.Prelude.{ℕ, ◌+◌, ◌*◌, ◌≤◌, ◌<◌, ◌≡◌, ◌⊎◌, true, cond, List, [], ◌∷◌, length, get_or, eqb}
+use Rattle.std.specs.Prelude.{ℕ, ◌+◌, ◌*◌, ◌≤◌, ◌<◌, ◌≡◌, ◌⊎◌, true, cond, List, [], ◌∷◌, length, get_or, eqb, None, Some, Option as Maybe}
 use Rattle.std.proofs.Math.Option.{Option, none, some}
 use Rattle.words.specs.Words.{Below}
 use Rattle.limits.specs.Limits.{used_ok}
 use Rattle.edits.specs.Calls.{used_words}
 use Rattle.edits.specs.Records.{Rec, flag, renamed, inserted, removed, Newest, place_of, last_record}
+use Rattle.journals.specs.declared.Last.TheVariants.{Flag, Renamed, Inserted, Removed}
 use Rattle.journals.specs.declared.Last.{Last}
-use Rattle.journals.specs.declared.Last.TheVariants.{Bad, Flag, Renamed, Inserted, Removed}
 use Rattle.answers.specs.Answers.{Reply, done, refuse, Replied}
 
 -- a header's place, 18446744073709551615 for the top
@@ -35,12 +35,12 @@ record_reply journal jused =
 
 ---- of a private function: the same by what was read
 
-abbrev pub last_reply : Last → Reply ℕ
-last_reply Bad = refuse 19 0
-last_reply (Flag p n before) = done (1 ∷ header_number none ∷ p ∷ n ∷ before ∷ [])
-last_reply (Renamed p a b before) = done (2 ∷ header_number none ∷ p ∷ 2 ∷ before ∷ [])
-last_reply (Inserted h p before) = done (3 ∷ header_number (place_of h) ∷ p ∷ 0 ∷ before ∷ [])
-last_reply (Removed h p n before) = done (4 ∷ header_number (place_of h) ∷ p ∷ n ∷ before ∷ [])
+abbrev pub last_reply : Maybe Last → Reply ℕ
+last_reply None = refuse 19 0
+last_reply (Some (Flag p n before)) = done (1 ∷ header_number none ∷ p ∷ n ∷ before ∷ [])
+last_reply (Some (Renamed p a b before)) = done (2 ∷ header_number none ∷ p ∷ 2 ∷ before ∷ [])
+last_reply (Some (Inserted h p before)) = done (3 ∷ header_number (place_of h) ∷ p ∷ 0 ∷ before ∷ [])
+last_reply (Some (Removed h p n before)) = done (4 ∷ header_number (place_of h) ∷ p ∷ n ∷ before ∷ [])
 
 ---- what the numbers are good for
 

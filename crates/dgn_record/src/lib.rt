@@ -3,7 +3,7 @@
 
 #![tactic(auto)]
 
-ghost use Rattle.std.specs.Prelude.{◌≡◌, [], ◌∷◌, ◌≤◌, length};
+ghost use Rattle.std.specs.Prelude.{◌≡◌, [], ◌∷◌, ◌≤◌, length, Some};
 ghost use Rattle.edits.specs.Records.{place_of};
 ghost use Rattle.answers.specs.Answers.{done, Replied};
 ghost use Rattle.dgn_record.specs.LastRecord.{header_number, record_reply, last_reply};
@@ -43,24 +43,18 @@ fn put_five(
     0
 }
 
-// The numbers of a record that was read, or 19.
+// The numbers of a record that was read.
 fn put_last(out: &mut [usize], last: Last) -> usize
     requires { 5 ≤ length out.old }
-    ensures { Replied 5 (last_reply last) out.old result out.new }
+    ensures { Replied 5 (last_reply (Some last)) out.old result out.new }
 {
     match last {
-        Last::Bad => 19,
         Last::Flag {
             place,
             count,
             before,
         } => put_five(out, 1, TOP, place, count, before),
-        Last::Renamed {
-            place,
-            first: _,
-            second: _,
-            before,
-        } => put_five(out, 2, TOP, place, 2, before),
+        Last::Renamed { place, before, .. } => put_five(out, 2, TOP, place, 2, before),
         Last::Inserted {
             header,
             place,
@@ -88,6 +82,8 @@ pub extern "C" fn dgn_record(journal: &[u8], jused: usize, out: &mut [usize]) ->
     if jused == 0 {
         return 17;
     }
-    let last = journals::last_record(&journal[..jused]);
+    let Some(last) = journals::last_record(&journal[..jused]) else {
+        return 19;
+    };
     put_last(out, last)
 }

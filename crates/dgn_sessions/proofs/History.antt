@@ -9,16 +9,17 @@ use lib.ListN.{length, take, drop}
 use lib.Seq.{take-append-le, take-take, length-take-le}
 use lib.Dec.{eqb}
 use borrow.Author.Tests.{eqb-false, ne_eqb}
+use Rattle.std.specs.Prelude.{Err, Ok, Result}
+use Rattle.refusals.specs.declared.Refusal.{Refusal}
 use Rattle.words.specs.Words.{Below, words, bytes, over}
 use Rattle.words.proofs.Laws.{words_below}
 use Rattle.names.specs.Names.{packed}
-use Rattle.names.specs.declared.Packed.{Packed}
-use Rattle.names.specs.declared.Packed.TheVariants as name
 use Rattle.names.proofs.OneToOne.{pack_stored}
+use Rattle.names.specs.declared.Name.{Name}
 use Rattle.edits.specs.Edits.{Edit, mark, rename, insert, remove}
 use Rattle.edits.specs.Allowed.{Fault?, fine, fault, unless, edit_fault}
 use Rattle.edits.specs.Records.{Rec, Newest, record_of, record_words, last_record}
-use Rattle.edits.specs.Calls.{Session, size_of, Call, mark_call, rename_call, insert_call, remove_call, undo_call, words_of, journal_of, piece_ok, open_fault, session_fault, pushed, Result, result_by, words_by, record_by, edit_made, undo_made, words_back, reversal_fault, undo_by, undone, step}
+use Rattle.edits.specs.Calls.{Session, size_of, Call, mark_call, rename_call, insert_call, remove_call, undo_call, words_of, journal_of, piece_ok, open_fault, session_fault, pushed, Outcome, result_by, words_by, record_by, edit_made, undo_made, words_back, reversal_fault, undo_by, undone, step}
 use Rattle.edits.specs.Book.{was_refused}
 use Rattle.edits.specs.Demand.{PieceBytes, used_bytes}
 use Rattle.edits.specs.Made.{rename_of, edit_of, Allowed}
@@ -40,12 +41,12 @@ use Rattle.dgn_sessions.specs.History.{Newer, EditShown, Older, UndoShown}
 ---- an edit
 
 -- what an edit carries are words
-text_carried : (p : ℕ) (text : List ℕ) (e : Edit) (q : Packed) → packed text ≡ q → rename_of q p ≡ some e → Carried e
-text_carried p text e (name.Words a b) t h =
-    let is : rename p a b ≡ e = cc in
-    let s = pack_stored text a b t in
+text_carried : (p : ℕ) (text : List ℕ) (e : Edit) (q : Result Name Refusal) → packed text ≡ q → rename_of q p ≡ some e → Carried e
+text_carried p text e (Ok name) t h =
+    let is : rename p name.first name.second ≡ e = cc in
+    let s = pack_stored text name.first name.second t in
     subst Carried is (s.first, s.second)
-text_carried p text e (name.Refused n q) t h = let z : ◌≡◌ {A = ℕ} 0 1 = cc in absurd (omega arith)
+text_carried p text e (Err refusal) t h = let z : ◌≡◌ {A = ℕ} 0 1 = cc in absurd (omega arith)
 
 carried : (c : Call) (e : Edit) → edit_of c ≡ some e → PieceBytes c → Carried e
 carried (mark_call p d) e h b = let is : mark p d ≡ e = cc in subst Carried is tt
@@ -102,7 +103,7 @@ module _ (dim : ℕ) (s : Session) where
   not_made : {A : Type 0} → true ≡ false → A
   not_made e = absurd (false≢true (sym e))
 
-  abbrev Goes : Result → Type 0
+  abbrev Goes : Outcome → Type 0
   Goes r = was_refused r.answer ≡ false → Older s r.after
 
   back : (r : Rec) (js : List ℕ) → session_fault dim s ≡ fine → (s.jused ≡ 0 → ⊥) → last_record (journal_of s) ≡ some (r, js) → (f : Fault?) →

@@ -7,16 +7,16 @@ use lib.IntN.{ℤ}
 use lib.ListN.{length}
 use lib.Seq.{sets}
 use borrow.Author.Tests.{le-leb}
+use Rattle.std.specs.Prelude.{Ok}
 use Rattle.texts.specs.Texts.{counts_word, first_character}
 use Rattle.text_views.specs.declared.Text.{Text}
-use Rattle.text_views.specs.declared.TextView.TheVariants as views
 use Rattle.text_views.specs.TextViews.{text_of}
 use Rattle.text_numbers.specs.Numbers.{text_numbers, put_text}
 use Rattle.answers.specs.Answers.{done, Replied}
 use Rattle.answers.proofs.Laws.{answered}
 use Rattle.dgn_text.specs.TextReplies.{text_reply}
 
-pub text_done : (dim : ℕ) (s : List ℕ) (at n : ℕ) (text : Text) (out t : List ℤ) → text_of dim s at ≡ views.Read text → n ≡ counts_word dim → 15 ≤ length out →
+pub text_done : (dim : ℕ) (s : List ℕ) (at n : ℕ) (text : Text) (out t : List ℤ) → text_of dim s at ≡ Ok text → n ≡ counts_word dim → 15 ≤ length out →
     t ≡ put_text out 0 (2 * (at + n + 1)) text → Replied 15 (text_reply dim at (text_of dim s at)) out 0 t
 unfolding put_text
 text_done dim s at n text out t q e h put =

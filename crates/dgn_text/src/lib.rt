@@ -7,8 +7,6 @@ ghost use Rattle.text_views.specs.TextViews.{text_of, characters_of, field_of};
 ghost use Rattle.answers.specs.Answers.{Replied};
 ghost use Rattle.dgn_text.specs.TextReplies.{text_reply, characters_reply, field_reply};
 
-use text_views::{Characters, FieldView, TextView};
-
 #[unsafe(no_mangle)]
 pub extern "C" fn dgn_text(file: &[u8], dim: usize, place: usize, out: &mut [i64]) -> usize
     ensures { Replied 15 (text_reply dim place (text_of dim file.now place)) out.old result out.new }
@@ -17,15 +15,12 @@ pub extern "C" fn dgn_text(file: &[u8], dim: usize, place: usize, out: &mut [i64
         return 1;
     }
     match text_views::text_at(file, dim, place) {
-        TextView::Read { text } => {
+        Ok(text) => {
             let start = 2 * (place + texts::counts_word(dim) + 1);
             text_numbers::put_text(out, 0, start as u32, text);
             0
         }
-        TextView::Refused {
-            number,
-            place: fault,
-        } => number + 256 * fault,
+        Err(refusal) => refusal.number + 256 * refusal.place,
     }
 }
 
@@ -37,15 +32,12 @@ pub extern "C" fn dgn_characters(file: &[u8], dim: usize, place: usize, out: &mu
         return 1;
     }
     match text_views::characters_answer(file, dim, place) {
-        Characters::At { start, length } => {
-            out[0] = start;
-            out[1] = length;
+        Ok(characters) => {
+            out[0] = characters.start;
+            out[1] = characters.length;
             0
         }
-        Characters::Refused {
-            number,
-            place: other,
-        } => number + 256 * other,
+        Err(refusal) => refusal.number + 256 * refusal.place,
     }
 }
 
@@ -63,16 +55,12 @@ pub extern "C" fn dgn_field(
         return 1;
     }
     match text_views::field_at(file, dim, place, k) {
-        FieldView::Read {
-            first,
-            length,
-            justification,
-        } => {
-            out[0] = first as i64;
-            out[1] = length as i64;
-            out[2] = justification;
+        Ok(field) => {
+            out[0] = field.first as i64;
+            out[1] = field.length as i64;
+            out[2] = field.justification;
             0
         }
-        FieldView::Refused { number, place: at } => number + 256 * at,
+        Err(refusal) => refusal.number + 256 * refusal.place,
     }
 }

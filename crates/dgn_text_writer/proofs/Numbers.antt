@@ -1,5 +1,5 @@
 -- What the tests of a signed number of 64 bits say of it: the machine's reading of its bits is the number itself (`to_z-of_z`).
-use Prim.Native.Nat.{ℕ, ◌-◌, ◌<◌}
+use Prim.Native.Nat.{ℕ, ◌<◌}
 use mathlib.Core.Path.{◌≡◌, refl, ap}
 use mathlib.Core.Bool.{Bool, true, false, cond, ◌&&◌}
 use native.Mathlib.Omega.{arith}

@@ -76,10 +76,10 @@ pub extern "C" fn dgn_write_text(
     }
     let numbers = text_of(text, characters.len() + triples.len());
     match write_answers::fields_in(fields) {
-        write_answers::Given::Header { fields } => write_answers::put_written(
+        Some(fields) => write_answers::put_written(
             out,
             text_writer::write_text(fields, numbers, characters, triples, tail, dim, buffer),
         ),
-        write_answers::Given::Nothing => 1,
+        None => 1,
     }
 }

@@ -9,17 +9,18 @@ use Rattle.words.specs.Words.{words}
 use Rattle.files.specs.Spots.{Spot}
 use Rattle.order.specs.Fitting.{all_of, in_numbers}
 use Rattle.order.proofs.Took.{all_taken, takes_numbers}
-use Rattle.text_views.specs.declared.TextView.{TextView}
-use Rattle.text_views.specs.declared.TextView.TheVariants as view
 use Rattle.text_views.specs.TextViews.{text_of}
 use Rattle.dgn_texts.specs.Texts.{entry_by, text_entry, texts_part}
 use Rattle.dgn_texts.specs.Answers.{texts_reply}
 use Rattle.dgn_texts.specs.Calls.{texts_call, AllTexts}
 use Rattle.dgn_texts.proofs.Puts.{eighteen}
+use Rattle.std.specs.Prelude.{Err, Ok, Result}
+use Rattle.refusals.specs.declared.Refusal.{Refusal}
+use Rattle.text_views.specs.declared.Text.{Text}
 
-entry_some : (v : TextView) (dim : ℕ) (ws : List ℕ) (at depth : ℕ) → (length (entry_by v dim ws at depth) ≡ 18) ⊎ (length (entry_by v dim ws at depth) ≡ 0)
-entry_some (view.Read text) dim ws at depth = inl (eighteen text dim ws at depth)
-entry_some (view.Refused n p) dim ws at depth = inr refl
+entry_some : (v : Result Text Refusal) (dim : ℕ) (ws : List ℕ) (at depth : ℕ) → (length (entry_by v dim ws at depth) ≡ 18) ⊎ (length (entry_by v dim ws at depth) ≡ 0)
+entry_some (Ok text) dim ws at depth = inl (eighteen text dim ws at depth)
+entry_some (Err refusal) dim ws at depth = inr refl
 
 module _ (dim : ℕ) (s : List ℕ) where
   entry_numbers : (x : Spot) → (length (text_entry dim s x) ≡ 18) ⊎ (length (text_entry dim s x) ≡ 0)

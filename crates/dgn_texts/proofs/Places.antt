@@ -13,7 +13,6 @@ use borrow.Author.Tests.{leb-true, leb-false, le-leb, lt-ltb, le-ltb}
 use Rattle.words.specs.Words.{words}
 use Rattle.files.specs.Judge.{judge_of}
 use Rattle.files.specs.Spots.{Spot, spots_of, spot_in}
-use Rattle.files.specs.declared.Judged.TheVariants.{Accepted}
 use Rattle.walking.specs.declared.Walk.{Walk}
 use Rattle.walking.specs.Walk.{walk_start, next_of}
 use Rattle.walking.proofs.Walks.{walked, walk_is}
@@ -23,6 +22,7 @@ use Rattle.order.specs.Fitting.{part_of, items_from}
 use Rattle.order.proofs.Order.{FoundIn, found_drop, file_found, count_is}
 use Rattle.text_views.specs.TextViews.{text_in, text_of}
 use Rattle.dgn_texts.specs.Texts.{entry_by, text_entry, texts_part, walk_of, entry_at, texts_from, from_number}
+use Rattle.files.specs.Accepted.{accepted_with}
 
 -- the numbers that are taken of element number i
 abbrev pub numbers_of : ℕ → List ℕ → ℕ → ℕ → List ℤ
@@ -82,7 +82,7 @@ along_from ws xs (suc k) h p =
 
 ---- an accepted file
 
-module _ (dim : ℕ) (s : List ℕ) (e d m : ℕ) (accepted : judge_of dim s ≡ Accepted e d m) where
+module _ (dim : ℕ) (s : List ℕ) (e d m : ℕ) (accepted : judge_of dim s ≡ accepted_with e d m) where
   abbrev all : List Spot
   all = spots_of dim (words s)
 

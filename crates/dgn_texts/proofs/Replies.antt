@@ -8,7 +8,6 @@ use lib.ListN.{length, set}
 use Rattle.words.specs.Words.{words}
 use Rattle.grammar.proofs.Exact.{accepted_is}
 use Rattle.answers.proofs.Elements.{call_words}
-use Rattle.order.specs.declared.Begun.TheVariants.{Refused}
 use Rattle.order.specs.declared.Part.{Part}
 use Rattle.order.specs.Calls.{begun_of, none_fits}
 use Rattle.order.specs.Fitting.{in_numbers, Fitting, part_of, PartPut}
@@ -18,12 +17,13 @@ use Rattle.order.proofs.Replies.{taken_refused, taken_full, taken_done}
 use Rattle.dgn_texts.specs.Texts.{texts_part, texts_from, walk_of}
 use Rattle.dgn_texts.specs.Answers.{texts_reply, TextsGiven}
 use Rattle.dgn_texts.proofs.Places.{texts_are, walk_inside}
+use Rattle.std.specs.Prelude.{Err}
 
 module _ (dim : ℕ) (s : List ℕ) (k : ℕ) (numbers : List ℤ) (out : List ℕ) where
   abbrev part : Fitting ℤ
   part = texts_part dim s (length numbers) k
 
-  pub texts_refused : (a : ℕ) → begun_of dim s 2 (length out) ≡ Refused a → TextsGiven dim s k numbers out a numbers out
+  pub texts_refused : (a : ℕ) → begun_of dim s 2 (length out) ≡ Err a → TextsGiven dim s k numbers out a numbers out
   unfolding texts_reply
   texts_refused a q = let g = taken_refused in_numbers lays_numbers dim s part (length part.given / 18) numbers out a q in record { replied = g.0; given = g.1 }
 

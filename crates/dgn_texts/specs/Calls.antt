@@ -4,11 +4,11 @@ use Rattle.std.specs.Prelude.{ℕ, ◌*◌, ◌≡◌, List, ℤ, get_or}
 use Rattle.words.specs.Words.{words}
 use Rattle.files.specs.Judge.{judge_of}
 use Rattle.files.specs.Spots.{spots_of}
-use Rattle.files.specs.declared.Judged.TheVariants.{Accepted}
 use Rattle.order.specs.Fitting.{all_of}
 use Rattle.order.specs.Parts.{Lent, InParts, numbers_call, Called, GivesAll}
 use Rattle.dgn_texts.specs.Texts.{text_entry}
 use Rattle.dgn_texts.specs.Answers.{TextsGiven}
+use Rattle.files.specs.Accepted.{accepted_with}
 
 -- the call by its contract; its answer is the number of the element to go on with, and how many texts there are, of 18 numbers each. A
 -- slice of 18 numbers holds a text, and one of 2 the answer
@@ -17,5 +17,5 @@ texts_call dim s = numbers_call (λ k x n y. TextsGiven dim s k x.numbers x.out 
 
 abbrev pub AllTexts : Type 0
 AllTexts =
-    (dim : ℕ) (s : List ℕ) (e d m : ℕ) → judge_of dim s ≡ Accepted e d m → (calls : List Lent) (got : List ℤ) (last : ℕ) →
+    (dim : ℕ) (s : List ℕ) (e d m : ℕ) → judge_of dim s ≡ accepted_with e d m → (calls : List Lent) (got : List ℤ) (last : ℕ) →
     Called (texts_call dim s) 0 calls got last → GivesAll (texts_call dim s) (spots_of dim (words s)) (all_of (text_entry dim s)) calls got last

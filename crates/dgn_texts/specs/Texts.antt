@@ -1,5 +1,5 @@
 -- The texts among the elements number k, k + 1, .. in file order, as many as a slice of numbers holds whole.
-use Rattle.std.specs.Prelude.{ℕ, zero, suc, ◌+◌, ◌*◌, List, [], ◌∷◌, map, cond, ltb, ℤ, pos, drop}
+use Rattle.std.specs.Prelude.{ℕ, zero, suc, ◌+◌, ◌*◌, List, [], ◌∷◌, map, cond, ltb, ℤ, pos, drop, Err, Ok, Result}
 use Rattle.words.specs.Words.{words, word_at}
 use Rattle.texts.specs.Texts.{first_character}
 use Rattle.kinds.specs.FirstWord.{deleted_of}
@@ -7,16 +7,16 @@ use Rattle.files.specs.Spots.{Spot, spots_of}
 use Rattle.walking.specs.declared.Walk.{Walk}
 use Rattle.walking.specs.Walk.{walk_start, next_of}
 use Rattle.order.specs.Fitting.{Fitting, part_of, items_from}
-use Rattle.text_views.specs.declared.TextView.{TextView}
-use Rattle.text_views.specs.declared.TextView.TheVariants as view
 use Rattle.text_views.specs.TextViews.{text_in, text_of}
 use Rattle.text_numbers.specs.Numbers.{text_numbers}
+use Rattle.refusals.specs.declared.Refusal.{Refusal}
+use Rattle.text_views.specs.declared.Text.{Text}
 
 -- the 18 numbers of a text at a place and a depth: these, whether it is deleted, and its own; none of what is no text
-abbrev pub entry_by : TextView → ℕ → List ℕ → ℕ → ℕ → List ℤ
-entry_by (view.Read text) dim ws at depth =
+abbrev pub entry_by : Result Text Refusal → ℕ → List ℕ → ℕ → ℕ → List ℤ
+entry_by (Ok text) dim ws at depth =
     pos at ∷ pos (deleted_of (word_at ws at)) ∷ pos depth ∷ text_numbers (2 * at + first_character dim) text
-entry_by (view.Refused number place) dim ws at depth = []
+entry_by (Err refusal) dim ws at depth = []
 
 -- of an element of a file, as the call for a text at its place reads it
 abbrev pub text_entry : ℕ → List ℕ → Spot → List ℤ

@@ -3,17 +3,16 @@
 
 #![tactic(auto)]
 
-ghost use Rattle.std.specs.Prelude.{◌≡◌, ℕ, ◌+◌, ◌-◌, ◌/◌, ◌≤◌, ◌<◌, length};
+ghost use Rattle.std.specs.Prelude.{◌≡◌, ℕ, ◌+◌, ◌-◌, ◌/◌, ◌≤◌, ◌<◌, length, Ok};
 ghost use Rattle.std.proofs.lemmas.List.Edits.{sets};
 ghost use Rattle.words.specs.Words.{words};
 ghost use Rattle.order.specs.Fitting.{in_numbers, part_of, ElementPut, PartPut};
-ghost use Rattle.text_views.specs.declared.TextView.TheVariants.{Read};
 ghost use Rattle.text_views.specs.TextViews.{text_in};
 ghost use Rattle.dgn_texts.specs.Texts.{entry_by, walk_of, texts_from, from_number};
 ghost use Rattle.dgn_texts.specs.Answers.{TextsGiven};
 
-use order::{Part, Taken};
-use text_views::{Text, TextView};
+use order::Part;
+use text_views::Text;
 
 // The numbers of a text at a place and a depth, from a place of the numbers on.
 fn put_entry(
@@ -26,7 +25,7 @@ fn put_entry(
     from: usize,
 )
     requires { (place < 1073741824) × ((depth < 1073741824) × (from + 18 ≤ length numbers.old)) }
-    ensures { numbers.new ≡ sets numbers.old from (entry_by (Read text) dim (words file.now) place depth) }
+    ensures { numbers.new ≡ sets numbers.old from (entry_by (Ok text) dim (words file.now) place depth) }
 {
     let start = 2 * (place + texts::counts_word(dim) + 1);
     numbers[from] = place as i64;
@@ -45,26 +44,21 @@ fn put_from(
     depth: usize,
     numbers: &mut [i64],
     used: usize,
-) -> Taken
+) -> Option<usize>
     requires { (place < 1073741824) × ((depth < 1073741824) × (used ≤ length numbers.old)) }
     ensures { ElementPut in_numbers (from_number k i (entry_by (text_in dim (words file.now) place) dim (words file.now) place depth)) numbers.old used result numbers.new }
 {
     if i < k {
-        return Taken::Used { used };
+        return Some(used);
     }
-    match text_views::text_in(file, dim, place) {
-        TextView::Refused {
-            number: _,
-            place: _,
-        } => Taken::Used { used },
-        TextView::Read { text } => {
-            if numbers.len() - used < 18 {
-                return Taken::Full;
-            }
-            put_entry(file, dim, place, depth, text, numbers, used);
-            Taken::Used { used: used + 18 }
-        }
+    let Ok(text) = text_views::text_in(file, dim, place) else {
+        return Some(used);
+    };
+    if numbers.len() - used < 18 {
+        return None;
     }
+    put_entry(file, dim, place, depth, text, numbers, used);
+    Some(used + 18)
 }
 
 // The numbers of the texts among the elements number k, k + 1, .., up to the first that does not fit: one walk from the first
@@ -80,33 +74,30 @@ fn put_texts(file: &[u8], dim: usize, elements: usize, k: usize, numbers: &mut [
     let mut depth = 0;
     let mut ends = [0; 9];
     let mut end = 0;
-    let mut i = 0;
     let mut used = 0;
-    while i < elements {
-        match put_from(file, dim, k, i, place, depth, numbers, used) {
-            Taken::Full => {
-                return Part { next: i, used };
-            }
-            Taken::Used { used: more } => {
-                used = more;
-                i += 1;
-                let next = place + headers::size_at(file, place);
-                if walking::opens_list(file, place, depth) {
-                    depth += 1;
-                    end = place + headers::extent_words(file, place);
-                    ends[depth] = end;
-                    place = next;
-                } else if next == end {
-                    depth = walking::closed_to(depth, ends, next);
-                    end = walking::end_in(ends, depth);
-                    place = next;
-                } else {
-                    place = next;
-                }
-            }
+    for i in 0..elements {
+        let Some(more) = put_from(file, dim, k, i, place, depth, numbers, used) else {
+            return Part { next: i, used };
+        };
+        used = more;
+        let next = place + headers::size_at(file, place);
+        if walking::opens_list(file, place, depth) {
+            depth += 1;
+            end = place + headers::extent_words(file, place);
+            ends[depth] = end;
+            place = next;
+        } else if next == end {
+            depth = walking::closed_to(depth, ends, next);
+            end = walking::end_in(ends, depth);
+            place = next;
+        } else {
+            place = next;
         }
     }
-    Part { next: i, used }
+    Part {
+        next: elements,
+        used,
+    }
 }
 
 // How many texts so many numbers are of.
@@ -127,19 +118,16 @@ pub extern "C" fn dgn_texts(
 ) -> usize
     ensures { TextsGiven dim file.now k numbers.old out.old result numbers.new out.new }
 {
-    match order::begin(file, dim, 2, out.len()) {
-        order::Begun::Refused { answer } => answer,
-        order::Begun::Elements { elements } => {
-            let part = put_texts(file, dim, elements, k, numbers);
-            let next = part.next;
-            let used = part.used;
-            if order::none_fits(used, next, elements) {
-                return 15;
-            }
-            let texts = entries(used);
-            out[0] = next;
-            out[1] = texts;
-            0
-        }
+    let elements = match order::begin(file, dim, 2, out.len()) {
+        Ok(elements) => elements,
+        Err(answer) => return answer,
+    };
+    let Part { next, used } = put_texts(file, dim, elements, k, numbers);
+    if order::none_fits(used, next, elements) {
+        return 15;
     }
+    let texts = entries(used);
+    out[0] = next;
+    out[1] = texts;
+    0
 }

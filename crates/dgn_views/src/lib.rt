@@ -15,13 +15,10 @@ pub extern "C" fn dgn_view(file: &[u8], dim: usize, place: usize, out: &mut [i64
         return 1;
     }
     match views::view_at(file, dim, place) {
-        views::View::Seen { element } => {
+        Ok(element) => {
             view_numbers::put_view(out, 0, place, element);
             0
         }
-        views::View::Refused {
-            number,
-            place: fault,
-        } => number + 256 * fault,
+        Err(refusal) => refusal.number + 256 * refusal.place,
     }
 }

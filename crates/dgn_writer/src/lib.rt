@@ -20,9 +20,9 @@ pub extern "C" fn dgn_write(
         return 1;
     }
     match write_answers::fields_in(fields) {
-        write_answers::Given::Header { fields } => {
+        Some(fields) => {
             write_answers::put_written(out, writer::write(fields, points, tail, dim, buffer))
         }
-        write_answers::Given::Nothing => 1,
+        None => 1,
     }
 }

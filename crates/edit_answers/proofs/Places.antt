@@ -9,6 +9,7 @@ use native.Mathlib.Omega.{arith}
 use lib.ListN.{length}
 use lib.Dec.{eqb, leb, ltb}
 use borrow.Author.Tests.{leb-true, ltb-true}
+use Rattle.refusals.specs.Refusals.{refused_with}
 use Rattle.words.specs.Words.{words}
 use Rattle.words.specs.OneOf.{OneOf}
 use Rattle.words.proofs.Laws.{length_words}
@@ -16,7 +17,6 @@ use Rattle.limits.specs.Limits.{size_ok}
 use Rattle.files.specs.Refused.{RefusedBy}
 use Rattle.files.specs.Spots.{Spot, spots_of}
 use Rattle.places.proofs.Places.{spot_inside}
-use Rattle.edits.specs.declared.Edited.TheVariants.{Refused}
 use Rattle.edits.specs.Edits.{insert, keep_if, around, down_to}
 use Rattle.edits.specs.Allowed.{fine, fault, or_else, unless, gap_ok}
 use Rattle.edits.specs.Calls.{Session, Call, mark_call, rename_call, insert_call, remove_call, undo_call, words_of, session_fault, open_fault, step}
@@ -117,14 +117,14 @@ module _ (dim : ℕ) (s : Session) (h : Option ℕ) (at : ℕ) (piece : List ℕ
 
 ---- every call
 
-plain_place : (dim : ℕ) (s : Session) (c : Call) (n p : ℕ) → (PieceRefused dim (words_of s) c n p → ⊥) → (step dim s c).answer ≡ Refused n p → p ≤ 524288
+plain_place : (dim : ℕ) (s : Session) (c : Call) (n p : ℕ) → (PieceRefused dim (words_of s) c n p → ⊥) → (step dim s c).answer ≡ refused_with n p → p ≤ 524288
 plain_place dim s c n p whole e = go (every_refusal dim s c n p e)
   where
     go : RefusedSo dim s c n p → p ≤ 524288
     go (inl x) = by_place dim (used_bytes s) (own_numbers c) n p x
     go (inr x) = absurd (whole x)
 
-pub call_place : (dim : ℕ) (s : Session) (c : Call) (n p : ℕ) → (step dim s c).answer ≡ Refused n p → p ≤ 524288
+pub call_place : (dim : ℕ) (s : Session) (c : Call) (n p : ℕ) → (step dim s c).answer ≡ refused_with n p → p ≤ 524288
 call_place dim s (mark_call q d) n p e = plain_place dim s (mark_call q d) n p (λ x. x) e
 call_place dim s (rename_call q text) n p e = plain_place dim s (rename_call q text) n p (λ x. x) e
 call_place dim s (insert_call h at piece) n p e =
@@ -133,5 +133,5 @@ call_place dim s (remove_call q) n p e = plain_place dim s (remove_call q) n p (
 call_place dim s undo_call n p e = plain_place dim s undo_call n p (λ x. x) e
 
 -- and its number is one of the table's
-pub edit_small : (dim : ℕ) (s : Session) (c : Call) (n p : ℕ) → (step dim s c).answer ≡ Refused n p → Small n p
+pub edit_small : (dim : ℕ) (s : Session) (c : Call) (n p : ℕ) → (step dim s c).answer ≡ refused_with n p → Small n p
 edit_small dim s c n p e = let h = call_number dim s c n p e in (h.0, omega (arith, h.1), call_place dim s c n p e)

@@ -7,18 +7,19 @@ use native.Mathlib.Omega.{arith}
 use lib.ListN.{length}
 use lib.Dec.{eqb}
 use borrow.Author.Tests.{le-leb, lt-leb}
-use Rattle.edits.specs.declared.Edited.{Edited}
-use Rattle.edits.specs.declared.Edited.TheVariants.{Made, Refused}
-use Rattle.edits.specs.Calls.{Index, Session, Call, mark_call, Result, step}
+use Rattle.std.specs.Prelude.{Err, Ok, Result}
+use Rattle.refusals.specs.declared.Refusal.{Refusal}
+use Rattle.edits.specs.Calls.{Index, Session, Call, mark_call, Outcome, step}
+use Rattle.edits.specs.declared.UsedLengths.{UsedLengths}
 use Rattle.opening.specs.Steps.{SteppedAll, Stepped}
 use Rattle.answers.specs.Answers.{refuse, Replied}
-use Rattle.edit_answers.specs.Editing.{iused_of, buffer_of, lengths_of, edit_reply, cut_reply, Left, StepLeftAll, MarkLeftAll}
 use Rattle.answers.proofs.Laws.{too_short, answered}
+use Rattle.edit_answers.specs.Editing.{iused_of, buffer_of, lengths_of, edit_reply, cut_reply, Left, StepLeftAll, MarkLeftAll}
 use Rattle.edit_answers.proofs.Places.{edit_small}
 use Rattle.edit_answers.proofs.Results.{bare_step}
 
 -- no room for the answer
-pub not_left : (q : Result) (s : Session) (out : List ℕ) → length out < lengths_of s.index → Left q s out 1 s.file s.journal (buffer_of s.index) out
+pub not_left : (q : Outcome) (s : Session) (out : List ℕ) → length out < lengths_of s.index → Left q s out 1 s.file s.journal (buffer_of s.index) out
 not_left q s out h = record {
   answer = too_short (lengths_of s.index) _ out h;
   file_is = simp (lt-leb (lengths_of s.index) (length out) h);
@@ -27,21 +28,21 @@ not_left q s out h = record {
 }
 
 -- a call's answer loses nothing by the cut
-pub small_cut : (dim : ℕ) (s : Session) (c : Call) (r : Edited) (iused : Option ℕ) → r ≡ (step dim s c).answer → cut_reply r iused ≡ edit_reply r iused
-small_cut dim s c (Made used jused) iused e = refl
-small_cut dim s c (Refused n p) iused e =
-    let h = edit_small dim s c n p (sym e) in
-    let number : n % 256 ≡ n = omega arith in
-    let place : p % 72057594037927936 ≡ p = omega arith in
+pub small_cut : (dim : ℕ) (s : Session) (c : Call) (r : Result UsedLengths Refusal) (iused : Option ℕ) → r ≡ (step dim s c).answer → cut_reply r iused ≡ edit_reply r iused
+small_cut dim s c (Ok lengths) iused e = refl
+small_cut dim s c (Err refusal) iused e =
+    let h = edit_small dim s c refusal.number refusal.place (sym e) in
+    let number : refusal.number % 256 ≡ refusal.number = omega arith in
+    let place : refusal.place % 72057594037927936 ≡ refusal.place = omega arith in
     rw (number, place) refl
 
 -- a call that is lent no index leaves none
-pub bare_stepped : (dim : ℕ) (s : Session) (c : Call) {r : Edited} {file journal : List ℕ} → s.index ≡ none → Stepped dim s c r file journal → SteppedAll dim s c r file journal none
+pub bare_stepped : (dim : ℕ) (s : Session) (c : Call) {r : Result UsedLengths Refusal} {file journal : List ℕ} → s.index ≡ none → Stepped dim s c r file journal → SteppedAll dim s c r file journal none
 bare_stepped dim s c i o = record { buffers = o; index_is = bare_step dim s c i }
 
 module _ (dim : ℕ) (s : Session) (out : List ℕ) where
   -- the library's own answer and bytes
-  pub left : (c : Call) (r : Edited) (n : ℕ) (file journal : List ℕ) (index : Option Index) (t : List ℕ) → lengths_of s.index ≤ length out →
+  pub left : (c : Call) (r : Result UsedLengths Refusal) (n : ℕ) (file journal : List ℕ) (index : Option Index) (t : List ℕ) → lengths_of s.index ≤ length out →
       SteppedAll dim s c r file journal index → Replied (lengths_of s.index) (cut_reply r (iused_of index)) out n t → StepLeftAll dim s c out n file journal (buffer_of index) t
   left c r n file journal index t h o a = record {
     answer = rw (small_cut dim s c r (iused_of index) o.buffers.answer, o.buffers.answer, o.index_is) at a;
@@ -51,7 +52,7 @@ module _ (dim : ℕ) (s : Session) (out : List ℕ) where
   }
 
   -- a mark by 0 or 1
-  pub mark_left : (place deleted : ℕ) (r : Edited) (n : ℕ) (file journal : List ℕ) (index : Option Index) (t : List ℕ) → lengths_of s.index ≤ length out → deleted ≤ 1 →
+  pub mark_left : (place deleted : ℕ) (r : Result UsedLengths Refusal) (n : ℕ) (file journal : List ℕ) (index : Option Index) (t : List ℕ) → lengths_of s.index ≤ length out → deleted ≤ 1 →
       SteppedAll dim s (mark_call place (eqb deleted 1)) r file journal index → Replied (lengths_of s.index) (cut_reply r (iused_of index)) out n t →
       MarkLeftAll dim s place deleted out n file journal (buffer_of index) t
   mark_left place deleted r n file journal index t h d o a =

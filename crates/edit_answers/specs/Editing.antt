@@ -1,10 +1,10 @@
 -- What the calls of a session are handed and what they leave: the answer, and each byte of the file's, the journal's and a lent
 -- index's buffer. The step of edits' specs/Calls decides them.
-use Rattle.std.specs.Prelude.{ℕ, ◌%◌, ◌≡◌, cond, List, [], ◌∷◌, length, eqb, leb}
+use Rattle.std.specs.Prelude.{ℕ, ◌%◌, ◌≡◌, cond, List, [], ◌∷◌, length, eqb, leb, Err, Ok, Result}
 use Rattle.std.proofs.Math.Option.{Option, none, some}
-use Rattle.edits.specs.declared.Edited.{Edited}
-use Rattle.edits.specs.declared.Edited.TheVariants.{Made, Refused}
-use Rattle.edits.specs.Calls.{Index, Session, Call, mark_call, Result, refused, step}
+use Rattle.refusals.specs.declared.Refusal.{Refusal}
+use Rattle.edits.specs.Calls.{Index, Session, Call, mark_call, Outcome, refused, step}
+use Rattle.edits.specs.declared.UsedLengths.{UsedLengths}
 use Rattle.answers.specs.Answers.{Reply, done, refuse, Replied}
 
 -- the used length and the buffer of an index, if one is lent
@@ -22,22 +22,22 @@ lengths_of none = 2
 lengths_of (some i) = 3
 
 -- these, or the refusal
-abbrev pub edit_reply : Edited → Option ℕ → Reply ℕ
-edit_reply (Made used jused) none = done (used ∷ jused ∷ [])
-edit_reply (Made used jused) (some iused) = done (used ∷ jused ∷ iused ∷ [])
-edit_reply (Refused number place) iused = refuse number place
+abbrev pub edit_reply : Result UsedLengths Refusal → Option ℕ → Reply ℕ
+edit_reply (Ok lengths) none = done (lengths.used ∷ lengths.jused ∷ [])
+edit_reply (Ok lengths) (some iused) = done (lengths.used ∷ lengths.jused ∷ iused ∷ [])
+edit_reply (Err refusal) iused = refuse refusal.number refusal.place
 
 -- the same of any number and place, cut to 8 and 56 bits, which one number holds; no call's refusal loses by it (`small_cut`)
-abbrev pub cut_reply : Edited → Option ℕ → Reply ℕ
-cut_reply (Made used jused) iused = edit_reply (Made used jused) iused
-cut_reply (Refused number place) iused = refuse (number % 256) (place % 72057594037927936)
+abbrev pub cut_reply : Result UsedLengths Refusal → Option ℕ → Reply ℕ
+cut_reply (Ok lengths) iused = edit_reply (Ok lengths) iused
+cut_reply (Err refusal) iused = refuse (refusal.number % 256) (refusal.place % 72057594037927936)
 
 -- the session with its buffers as they then are; with no room for the answer all stay
-abbrev pub left_by : Result → Session → List ℕ → Session
+abbrev pub left_by : Outcome → Session → List ℕ → Session
 left_by q s out = cond (leb (lengths_of s.index) (length out)) q.after s
 
 -- the number that is returned, the answer slice and the buffers, a lent index's too, as they then are
-pub record Left (q : Result) (s : Session) (out : List ℕ) (n : ℕ) (file journal : List ℕ) (index : Option (List ℕ)) (t : List ℕ) : Type 0 where
+pub record Left (q : Outcome) (s : Session) (out : List ℕ) (n : ℕ) (file journal : List ℕ) (index : Option (List ℕ)) (t : List ℕ) : Type 0 where
   pub answer : Replied (lengths_of s.index) (edit_reply q.answer (iused_of q.after.index)) out n t
   pub file_is : file ≡ (left_by q s out).file
   pub journal_is : journal ≡ (left_by q s out).journal
@@ -51,7 +51,7 @@ abbrev pub StepLeft : ℕ → Session → Call → List ℕ → ℕ → List ℕ
 StepLeft dim s c out n file journal t = StepLeftAll dim s c out n file journal none t
 
 -- of a mark: 1 marks deleted and 0 live, any other number is refused by 1
-abbrev pub marked : ℕ → Session → ℕ → ℕ → Result
+abbrev pub marked : ℕ → Session → ℕ → ℕ → Outcome
 marked dim s place deleted = cond (leb deleted 1) (step dim s (mark_call place (eqb deleted 1))) (refused s 1 0)
 
 abbrev pub MarkLeftAll : ℕ → Session → ℕ → ℕ → List ℕ → ℕ → List ℕ → List ℕ → Option (List ℕ) → List ℕ → Type 0

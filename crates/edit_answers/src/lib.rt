@@ -10,42 +10,40 @@ ghost use Rattle.answers.specs.Answers.{Replied};
 ghost use Rattle.opening.specs.Opening.{header_of};
 ghost use Rattle.edit_answers.specs.Editing.{cut_reply, header_given};
 
-use edits::Edited;
+use edits::UsedLengths;
 use places::Above;
+use refusals::Refusal;
 
 // The new used lengths; of a refusal its number and place as one number, and nothing written. 1 where the slice is too
 // short.
-pub fn put_edited(out: &mut [usize], answer: Edited) -> usize
+pub fn put_edited(out: &mut [usize], answer: Result<UsedLengths, Refusal>) -> usize
     ensures { Replied 2 (cut_reply answer none) out.old result out.new }
 {
     if out.len() < 2 {
         return 1;
     }
     match answer {
-        Edited::Made { used, jused } => {
-            out[0] = used;
-            out[1] = jused;
+        Ok(lengths) => {
+            out[0] = lengths.used;
+            out[1] = lengths.jused;
             0
         }
-        Edited::Refused { number, place } => { number % 256 + 256 * (place % 72057594037927936) }
+        Err(refusal) => refusal.number % 256 + 256 * (refusal.place % 72057594037927936),
     }
 }
 
 // The same with an index: its used length behind the two.
-pub fn put_indexed(out: &mut [usize], answer: Edited, iused: usize) -> usize
+pub fn put_indexed(out: &mut [usize], answer: Result<UsedLengths, Refusal>, iused: usize) -> usize
     ensures { Replied 3 (cut_reply answer (some iused)) out.old result out.new }
 {
     if out.len() < 3 {
         return 1;
     }
     let returned = put_edited(out, answer);
-    match answer {
-        Edited::Made { used, jused } => {
-            out[2] = iused;
-            returned
-        }
-        Edited::Refused { number, place } => returned,
+    if answer.is_ok() {
+        out[2] = iused;
     }
+    returned
 }
 
 // The top, as a header's place.

@@ -9,15 +9,16 @@ use native.Mathlib.Omega.{arith}
 use lib.ListN.{length}
 use lib.Dec.{leb}
 use borrow.Author.Tests.{le-leb, lt-leb, leb-true}
+use Rattle.std.specs.Prelude.{Err, Ok, Result}
+use Rattle.refusals.specs.declared.Refusal.{Refusal}
 use Rattle.words.specs.Words.{words}
 use Rattle.names.specs.Names.{packed}
-use Rattle.names.specs.declared.Packed.{Packed}
-use Rattle.names.specs.declared.Packed.TheVariants as name
 use Rattle.names.proofs.OneToOne.{pack_stored}
+use Rattle.names.specs.declared.Name.{Name}
 use Rattle.files.specs.Spots.{spots_of}
 use Rattle.edits.specs.Edits.{Edit, mark, rename, insert, remove}
 use Rattle.edits.specs.Allowed.{Fault?, fine, fault, or_else, unless, rename_fault, edit_fault}
-use Rattle.edits.specs.Calls.{Session, size_of, index_fits, room_for, Call, mark_call, rename_call, insert_call, remove_call, undo_call, words_of, open_fault, words_by, record_by, Result, refused, result_by, edit_made, edit_within, edited, name_of_text, text_ok, call_on, step}
+use Rattle.edits.specs.Calls.{Session, size_of, index_fits, room_for, Call, mark_call, rename_call, insert_call, remove_call, undo_call, words_of, open_fault, words_by, record_by, Outcome, refused, result_by, edit_made, edit_within, edited, name_of_text, text_ok, call_on, step}
 use Rattle.edits.specs.Book.{was_refused}
 use Rattle.edits.specs.Made.{rename_of, edit_of, Allowed, MadeExactly, EditsMade}
 use Rattle.edits.proofs.Faults.{or_else_fine, unless_fine}
@@ -58,21 +59,21 @@ module _ (dim : ℕ) (s : Session) (e : Edit) (own : Fault?) where
           rw (f, beside, le-leb (2 * length (words_by dim s e)) (length s.file) room, le-leb (s.jused + 2 * length (record_by dim s e)) (length s.journal) h) refl
 
 -- what is not refused had no fault
-by_fine : (f : Fault?) (s : Session) (r : Result) → was_refused (result_by f s r).answer ≡ false → f ≡ fine
+by_fine : (f : Fault?) (s : Session) (r : Outcome) → was_refused (result_by f s r).answer ≡ false → f ≡ fine
 by_fine fine s r q = refl
 by_fine (fault n p) s r q = absurd (false≢true (sym q))
 
 module _ (dim : ℕ) (s : Session) where
   ---- a call comes to its edit
 
-  text_edit : (p : ℕ) (text : List ℕ) (e : Edit) (q : Packed) → packed text ≡ q → rename_of q p ≡ some e →
+  text_edit : (p : ℕ) (text : List ℕ) (e : Edit) (q : Result Name Refusal) → packed text ≡ q → rename_of q p ≡ some e →
       edited dim s (name_of_text q p) (rename_fault (spots_of dim (words_of s)) (words_of s) p (text_ok q)) ≡ edited dim s e (edit_fault dim (words_of s) e)
   unfolding edit_fault
-  text_edit p text e (name.Words a b) t h =
-      let is : rename p a b ≡ e = cc in
-      ap (λ named. edited dim s (rename p a b) (rename_fault (spots_of dim (words_of s)) (words_of s) p named)) (sym (pack_stored text a b t).ok)
+  text_edit p text e (Ok name) t h =
+      let is : rename p name.first name.second ≡ e = cc in
+      ap (λ named. edited dim s (rename p name.first name.second) (rename_fault (spots_of dim (words_of s)) (words_of s) p named)) (sym (pack_stored text name.first name.second t).ok)
       ∙ ap (λ x. edited dim s x (edit_fault dim (words_of s) x)) is
-  text_edit p text e (name.Refused n q) t h = let z : ◌≡◌ {A = ℕ} 0 1 = cc in absurd (omega arith)
+  text_edit p text e (Err refusal) t h = let z : ◌≡◌ {A = ℕ} 0 1 = cc in absurd (omega arith)
 
   pub call_edit : (c : Call) (e : Edit) → edit_of c ≡ some e → call_on dim s (words_of s) c ≡ edited dim s e (edit_fault dim (words_of s) e)
   call_edit (mark_call p d) e h = let is : mark p d ≡ e = cc in ap (λ x. edited dim s x (edit_fault dim (words_of s) x)) is

@@ -9,9 +9,10 @@ use native.Mathlib.Omega.{arith}
 use lib.ListN.{length}
 use lib.Dec.{eqb, leb}
 use borrow.Author.Tests.{le-leb, lt-leb, leb-true, leb-false, eqb-true, eqb-false, eq-eqb, ne_eqb}
+use Rattle.refusals.specs.Refusals.{refused_with}
+use Rattle.refusals.proofs.Laws.{number_is, place_is, refusal_is}
 use Rattle.headers.specs.Header.{extent_at}
 use Rattle.files.specs.Spots.{spots_of}
-use Rattle.edits.specs.declared.Edited.TheVariants.{Refused}
 use Rattle.edits.specs.Edits.{Edit, insert, down_to}
 use Rattle.edits.specs.Allowed.{Fault?, fine, fault, or_else, unless, gap_ok, piece_fault, room_fault, insert_fault, edit_fault}
 use Rattle.edits.specs.Records.{Rec, Newest, last_record, reversible}
@@ -22,19 +23,19 @@ use Rattle.edits.specs.Causes.{EditCause, EditRefused, Outgrown, InsertCause, In
 use Rattle.edits.proofs.Allowed.{no_room, edit_own, edit_room, edit_crowded, edit_full, call_edit, step_edit}
 
 -- the number and the place of a refusal
-same : {m q n p : ℕ} → Refused m q ≡ Refused n p → fault m q ≡ fault n p
-same e = cc
+same : {A : Type 0} {m q n p : ℕ} → refused_with {A = A} m q ≡ refused_with n p → fault m q ≡ fault n p
+same e = ap (λ r. fault r.number r.place) (refusal_is e)
 
-number : {m q n p : ℕ} → Refused m q ≡ Refused n p → n ≡ m
-number e = cc
+number : {A : Type 0} {m q n p : ℕ} → refused_with {A = A} m q ≡ refused_with n p → n ≡ m
+number e = sym (number_is e)
 
-place : {m q n p : ℕ} → Refused m q ≡ Refused n p → p ≡ q
-place e = cc
+place : {A : Type 0} {m q n p : ℕ} → refused_with {A = A} m q ≡ refused_with n p → p ≡ q
+place e = sym (place_is e)
 
 ---- an edit
 
 module _ (dim : ℕ) (s : Session) (c : Call) (e : Edit) (n p : ℕ) (is : edit_of c ≡ some e) where
-  cause_edit : EditCause dim s c e n p → (step dim s c).answer ≡ Refused n p
+  cause_edit : EditCause dim s c e n p → (step dim s c).answer ≡ refused_with n p
   unfolding step
   cause_edit (causes.opening o) = rw o refl
   cause_edit (causes.own o k) = ap (λ r. r.answer) (step_edit dim s c e o is ∙ edit_own dim s e (edit_fault dim (words_of s) e) n p k)
@@ -45,32 +46,32 @@ module _ (dim : ℕ) (s : Session) (c : Call) (e : Edit) (n p : ℕ) (is : edit_
   cause_edit (causes.journal_room o k h i l a b) =
       ap (λ r. r.answer) (step_edit dim s c e o is ∙ edit_full dim s e (edit_fault dim (words_of s) e) k h i l) ∙ rw (a, b) refl
 
-  edit_cause : (step dim s c).answer ≡ Refused n p → EditCause dim s c e n p
+  edit_cause : (step dim s c).answer ≡ refused_with n p → EditCause dim s c e n p
   unfolding step edited edit_within edit_made
   edit_cause = opens (open_fault dim s c) refl
     where
       full : (b : Bool) → leb (s.jused + 2 * length (record_by dim s e)) (length s.journal) ≡ b → open_fault dim s c ≡ fine → edit_fault dim (words_of s) e ≡ fine →
-          2 * length (words_by dim s e) ≤ length s.file → index_fits dim (words_by dim s e) (size_of s.index) ≡ true → (result_by (unless b 16) s (edit_made dim s (words_by dim s e) (record_by dim s e))).answer ≡ Refused n p → EditCause dim s c e n p
+          2 * length (words_by dim s e) ≤ length s.file → index_fits dim (words_by dim s e) (size_of s.index) ≡ true → (result_by (unless b 16) s (edit_made dim s (words_by dim s e) (record_by dim s e))).answer ≡ refused_with n p → EditCause dim s c e n p
       full true t o k h i q = let z : ◌≡◌ {A = ℕ} 0 1 = cc in absurd (omega arith)
       full false t o k h i q = causes.journal_room o k h i (leb-false _ _ t) (number q) (place q)
 
       room : (b : Bool) → leb (2 * length (words_by dim s e)) (length s.file) ≡ b → index_fits dim (words_by dim s e) (size_of s.index) ≡ true →
-          open_fault dim s c ≡ fine → edit_fault dim (words_of s) e ≡ fine → (result_by (or_else (unless b 15) (unless (leb (s.jused + 2 * length (record_by dim s e)) (length s.journal)) 16)) s (edit_made dim s (words_by dim s e) (record_by dim s e))).answer ≡ Refused n p →
+          open_fault dim s c ≡ fine → edit_fault dim (words_of s) e ≡ fine → (result_by (or_else (unless b 15) (unless (leb (s.jused + 2 * length (record_by dim s e)) (length s.journal)) 16)) s (edit_made dim s (words_by dim s e) (record_by dim s e))).answer ≡ refused_with n p →
           EditCause dim s c e n p
       room true t i o k q = full (leb (s.jused + 2 * length (record_by dim s e)) (length s.journal)) refl o k (leb-true _ _ t) i q
       room false t i o k q = causes.file_room o k (leb-false _ _ t) (number q) (place q)
 
       beside : (b : Bool) → index_fits dim (words_by dim s e) (size_of s.index) ≡ b → open_fault dim s c ≡ fine → edit_fault dim (words_of s) e ≡ fine →
           (result_by (or_else (unless (b && leb (2 * length (words_by dim s e)) (length s.file)) 15) (unless (leb (s.jused + 2 * length (record_by dim s e)) (length s.journal)) 16)) s
-          (edit_made dim s (words_by dim s e) (record_by dim s e))).answer ≡ Refused n p → EditCause dim s c e n p
+          (edit_made dim s (words_by dim s e) (record_by dim s e))).answer ≡ refused_with n p → EditCause dim s c e n p
       beside true i o k q = room (leb (2 * length (words_by dim s e)) (length s.file)) refl i o k q
       beside false i o k q = causes.index_room o k i (number q) (place q)
 
-      owns : (f : Fault?) → edit_fault dim (words_of s) e ≡ f → open_fault dim s c ≡ fine → (edited dim s e f).answer ≡ Refused n p → EditCause dim s c e n p
+      owns : (f : Fault?) → edit_fault dim (words_of s) e ≡ f → open_fault dim s c ≡ fine → (edited dim s e f).answer ≡ refused_with n p → EditCause dim s c e n p
       owns (fault m r) k o q = causes.own o (k ∙ same q)
       owns fine k o q = beside (index_fits dim (words_by dim s e) (size_of s.index)) refl o k q
 
-      opens : (f : Fault?) → open_fault dim s c ≡ f → (result_by f s (call_on dim s (words_of s) c)).answer ≡ Refused n p → EditCause dim s c e n p
+      opens : (f : Fault?) → open_fault dim s c ≡ f → (result_by f s (call_on dim s (words_of s) c)).answer ≡ refused_with n p → EditCause dim s c e n p
       opens (fault m r) o q = causes.opening (o ∙ same q)
       opens fine o q = owns (edit_fault dim (words_of s) e) refl o (ap (λ r. r.answer) (sym (call_edit dim s c e is)) ∙ q)
 
@@ -121,7 +122,7 @@ insert_refused dim ws h at x n p = (insert_cause dim ws h at x n p, cause_insert
 ---- an undo
 
 module _ (dim : ℕ) (s : Session) (n p : ℕ) where
-  cause_undo : UndoCause dim s n p → (step dim s undo_call).answer ≡ Refused n p
+  cause_undo : UndoCause dim s n p → (step dim s undo_call).answer ≡ refused_with n p
   unfolding step open_fault undone
   cause_undo (causes.opening o) = rw o refl
   cause_undo (causes.nothing o u a b) = rw (o, eq-eqb s.jused 0 u, a, b) refl
@@ -134,39 +135,39 @@ module _ (dim : ℕ) (s : Session) (n p : ℕ) where
       rw (o, ne_eqb s.jused 0 u, l, v, full, a, b) refl
   cause_undo (causes.index_room o u r js l v h a b) = rw (o, ne_eqb s.jused 0 u, l, v, h, a, b) refl
 
-  undo_cause : (step dim s undo_call).answer ≡ Refused n p → UndoCause dim s n p
+  undo_cause : (step dim s undo_call).answer ≡ refused_with n p → UndoCause dim s n p
   unfolding step open_fault undone undo_made
   undo_cause = opens (session_fault dim s) refl
     where
       rooms : (r : Rec) (js : List ℕ) (b : Bool) → leb (2 * length (words_back dim (words_of s) r)) (length s.file) ≡ b →
           reversible dim (words_of s) r ≡ true → last_record (journal_of s) ≡ some (r, js) → (s.jused ≡ 0 → ⊥) → session_fault dim s ≡ fine →
-          (result_by (unless b 15) s (undo_made dim s (words_back dim (words_of s) r) (2 * length js))).answer ≡ Refused n p → UndoCause dim s n p
+          (result_by (unless b 15) s (undo_made dim s (words_back dim (words_of s) r) (2 * length js))).answer ≡ refused_with n p → UndoCause dim s n p
       rooms r js true t v l u o q = let z : ◌≡◌ {A = ℕ} 0 1 = cc in absurd (omega arith)
       rooms r js false t v l u o q = causes.room o u r js l v (leb-false _ _ t) (number q) (place q)
 
       beside : (r : Rec) (js : List ℕ) (b : Bool) → index_fits dim (words_back dim (words_of s) r) (size_of s.index) ≡ b →
           reversible dim (words_of s) r ≡ true → last_record (journal_of s) ≡ some (r, js) → (s.jused ≡ 0 → ⊥) → session_fault dim s ≡ fine →
           (result_by (unless (b && leb (2 * length (words_back dim (words_of s) r)) (length s.file)) 15) s
-          (undo_made dim s (words_back dim (words_of s) r) (2 * length js))).answer ≡ Refused n p → UndoCause dim s n p
+          (undo_made dim s (words_back dim (words_of s) r) (2 * length js))).answer ≡ refused_with n p → UndoCause dim s n p
       beside r js true i v l u o q = rooms r js (leb (2 * length (words_back dim (words_of s) r)) (length s.file)) refl v l u o q
       beside r js false i v l u o q = causes.index_room o u r js l v i (number q) (place q)
 
       allows : (r : Rec) (js : List ℕ) (b : Bool) → reversible dim (words_of s) r ≡ b → last_record (journal_of s) ≡ some (r, js) → (s.jused ≡ 0 → ⊥) → session_fault dim s ≡ fine →
           (result_by (or_else (unless b 19) (unless (room_for dim (length s.file) (size_of s.index) (words_back dim (words_of s) r)) 15)) s
-          (undo_made dim s (words_back dim (words_of s) r) (2 * length js))).answer ≡ Refused n p → UndoCause dim s n p
+          (undo_made dim s (words_back dim (words_of s) r) (2 * length js))).answer ≡ refused_with n p → UndoCause dim s n p
       allows r js true v l u o q = beside r js (index_fits dim (words_back dim (words_of s) r) (size_of s.index)) refl v l u o q
       allows r js false v l u o q = causes.not_allowed o u r js l v (number q) (place q)
 
-      lasts : (l : Newest) → last_record (journal_of s) ≡ l → (s.jused ≡ 0 → ⊥) → session_fault dim s ≡ fine → (undo_by dim s (words_of s) l).answer ≡ Refused n p → UndoCause dim s n p
+      lasts : (l : Newest) → last_record (journal_of s) ≡ l → (s.jused ≡ 0 → ⊥) → session_fault dim s ≡ fine → (undo_by dim s (words_of s) l).answer ≡ refused_with n p → UndoCause dim s n p
       lasts none l u o q = causes.ill_formed o u l (number q) (place q)
       lasts (some (r, js)) l u o q = allows r js (reversible dim (words_of s) r) refl l u o q
 
       used : (b : Bool) → eqb s.jused 0 ≡ b → session_fault dim s ≡ fine →
-          (result_by (unless (not b) 17) s (undo_by dim s (words_of s) (last_record (journal_of s)))).answer ≡ Refused n p → UndoCause dim s n p
+          (result_by (unless (not b) 17) s (undo_by dim s (words_of s) (last_record (journal_of s)))).answer ≡ refused_with n p → UndoCause dim s n p
       used true t o q = causes.nothing o (eqb-true s.jused 0 t) (number q) (place q)
       used false t o q = lasts (last_record (journal_of s)) refl (eqb-false s.jused 0 t) o q
 
-      opens : (f : Fault?) → session_fault dim s ≡ f → (result_by f s (undone dim s)).answer ≡ Refused n p → UndoCause dim s n p
+      opens : (f : Fault?) → session_fault dim s ≡ f → (result_by f s (undone dim s)).answer ≡ refused_with n p → UndoCause dim s n p
       opens (fault m r) o q = causes.opening (o ∙ same q)
       opens fine o q = used (eqb s.jused 0) refl o q
 

@@ -9,12 +9,13 @@ use lib.ListN.{length, take}
 use lib.Seq.{length-take-le}
 use lib.Dec.{eqb, leb}
 use borrow.Author.Tests.{le-leb, leb-true, eq-eqb, eqb-true}
+use Rattle.std.specs.Prelude.{Err, Ok, Result}
+use Rattle.refusals.specs.declared.Refusal.{Refusal}
 use Rattle.words.specs.Words.{bytes, Below}
 use Rattle.words.proofs.Laws.{words_below}
 use Rattle.limits.specs.Limits.{call_ok}
 use Rattle.files.specs.Judge.{top_of, judge_of}
-use Rattle.files.specs.declared.Verdict.{Verdict}
-use Rattle.files.specs.declared.Verdict.TheVariants.{Good, Fault}
+use Rattle.files.specs.declared.Judgement.{Judgement}
 use Rattle.edits.specs.Edits.{Edit}
 use Rattle.edits.specs.Allowed.{fine, unless}
 use Rattle.edits.specs.Calls.{Session, size_of, Call, used_words, words_of, ends_in_marker, session_ok, file_fault, session_fault}
@@ -40,11 +41,11 @@ file_tree dim hyp ws b ends = go (top_of dim ws) refl
     long : 1 ≤ length ws
     long = leb-true 1 (length ws) ((and-eq-true_iff (leb 1 (length ws)) _).0 ends).0
 
-    go : (v : Verdict) → top_of dim ws ≡ v → file_fault v (length ws - 1) ≡ fine → Accepted dim ws
-    go (Good next e d k) q f =
-        let last : next ≡ length ws - 1 = eqb-true next (length ws - 1) (unless_fine (eqb next (length ws - 1)) 1 f) in
-        hyp.judged_tree ws next e d k b q (let l = long in omega arith)
-    go (Fault n p) q f = let z : ◌≡◌ {A = ℕ} 0 1 = cc in absurd (omega arith)
+    go : (v : Result Judgement Refusal) → top_of dim ws ≡ v → file_fault v (length ws - 1) ≡ fine → Accepted dim ws
+    go (Ok judged) q f =
+        let last : judged.next ≡ length ws - 1 = eqb-true judged.next (length ws - 1) (unless_fine (eqb judged.next (length ws - 1)) 1 f) in
+        hyp.judged_tree ws judged.next judged.elements judged.deepest judged.direct b q (let l = long in omega arith)
+    go (Err refusal) q f = let z : ◌≡◌ {A = ℕ} 0 1 = cc in absurd (omega arith)
 
 begin : (dim : ℕ) → Hypotheses dim → (s : Session) → OpenedEmpty dim s → Begun dim s
 unfolding session_fault

@@ -10,18 +10,22 @@ use lib.ListN.{length, take, length-append}
 use lib.Seq.{take-length}
 use lib.Dec.{eqb}
 use borrow.Author.Tests.{eqb-true, eq-eqb}
+use Rattle.std.specs.Prelude.{Err, Ok, Result}
+use Rattle.refusals.specs.Refusals.{refused_with}
+use Rattle.refusals.proofs.Laws.{given_is}
+use Rattle.refusals.specs.declared.Refusal.{Refusal}
 use Rattle.words.specs.Words.{words, Below}
 use Rattle.files.specs.Judge.{element_of, top_of, answer, judge_of}
 use Rattle.limits.specs.Limits.{call_ok}
 use Rattle.files.specs.Spots.{Spot, deepest, spots_of}
-use Rattle.files.specs.declared.Verdict.{Verdict}
-use Rattle.files.specs.declared.Verdict.TheVariants.{Good, Fault}
-use Rattle.files.specs.declared.Judged.TheVariants as judged
+use Rattle.files.specs.Accepted.{accepted_with}
+use Rattle.files.specs.Judgement.{good_with}
+use Rattle.files.specs.declared.Judgement.{Judgement}
 use Rattle.grammar.specs.Grammar.{File}
 use Rattle.grammar.proofs.Forest.{Forest, flat, num, weight, Wf, spots, components_tree, tree_components}
 use Rattle.grammar.proofs.Stands.{Stands}
 use Rattle.grammar.proofs.Sound.{element_sound}
-use Rattle.grammar.proofs.Complete.{element_complete}
+use Rattle.grammar.proofs.Complete.{good, element_complete}
 use Rattle.grammar.proofs.Whole.{file_spots, file_top, top_file}
 use Rattle.edits.specs.Allowed.{fine, fault, depth_under, type_under, whole_by, piece_fault}
 use Rattle.edits.proofs.Accepted.{Accepted}
@@ -35,17 +39,17 @@ pub tree_spots : (dim : ℕ) (f : Forest) (ws : List ℕ) → Wf dim 0 0 f → w
 tree_spots dim f ws x e = file_spots (tree_grammar dim f ws x e)
 
 -- what judging accepts, by its list of top-level elements
-pub judged_top : (dim : ℕ) (s : List ℕ) (e d m : ℕ) → judge_of dim s ≡ judged.Accepted e d m → (k : ℕ) × (top_of dim (words s) ≡ Good m e d k)
+pub judged_top : (dim : ℕ) (s : List ℕ) (e d m : ℕ) → judge_of dim s ≡ accepted_with e d m → (k : ℕ) × (top_of dim (words s) ≡ good_with m e d k)
 unfolding judge_of
 judged_top dim s e d m q = go (call_ok dim s) (top_of dim (words s)) refl q
   where
-    go : (b : Bool) (v : Verdict) → top_of dim (words s) ≡ v → cond b (answer v) (judged.Refused 1 0) ≡ judged.Accepted e d m → (k : ℕ) × (top_of dim (words s) ≡ Good m e d k)
-    go true (Good next e' d' k) t q = (k, t ∙ (let z : Good next e' d' k ≡ Good m e d k = cc in z))
-    go true (Fault n p) t q = let z : ◌≡◌ {A = ℕ} 0 1 = cc in absurd (omega arith)
+    go : (b : Bool) (v : Result Judgement Refusal) → top_of dim (words s) ≡ v → cond b (answer v) (refused_with 1 0) ≡ accepted_with e d m → (k : ℕ) × (top_of dim (words s) ≡ good_with m e d k)
+    go true (Ok judged) t q = let same = given_is q in (judged.direct, t ∙ good (ap (λ a. a.marker) same) (ap (λ a. a.elements) same) (ap (λ a. a.deepest) same) refl)
+    go true (Err refusal) t q = let z : ◌≡◌ {A = ℕ} 0 1 = cc in absurd (omega arith)
     go false v t q = let z : ◌≡◌ {A = ℕ} 0 1 = cc in absurd (omega arith)
 
 -- what judging accepts with the marker as the last word is a tree
-pub judged_tree : (dim : ℕ) (ws : List ℕ) (next e d k : ℕ) → Below 65536 ws → top_of dim ws ≡ Good next e d k → next + 1 ≡ length ws → Accepted dim ws
+pub judged_tree : (dim : ℕ) (ws : List ℕ) (next e d k : ℕ) → Below 65536 ws → top_of dim ws ≡ good_with next e d k → next + 1 ≡ length ws → Accepted dim ws
 judged_tree dim ws next e d k b q l =
     let f = (top_file dim ws next e d k q).0 in
     let t = components_tree f.elements in
@@ -59,14 +63,14 @@ judged_tree dim ws next e d k b q l =
     empty (x ∷ l) e = absurd (omega arith)
 
 -- and a tree is accepted so
-pub tree_judged : (dim : ℕ) (ws : List ℕ) → Accepted dim ws → (e : ℕ) × (d : ℕ) × (k : ℕ) × (top_of dim ws ≡ Good (length ws - 1) e d k)
+pub tree_judged : (dim : ℕ) (ws : List ℕ) → Accepted dim ws → (e : ℕ) × (d : ℕ) × (k : ℕ) × (top_of dim ws ≡ good_with (length ws - 1) e d k)
 tree_judged dim ws a =
     let f = tree_grammar dim a.tree ws a.wf a.words in
     let t = file_top f in
     let n = ap length a.words ∙ length-append (flat a.tree) (65535 ∷ []) in
     let l : length (flat a.tree) ≡ length ws - 1 = omega arith in
     let xs = spots 0 none 0 a.tree in
-    (length xs, deepest xs, t.0, t.1 ∙ ap (λ m. Good m (length xs) (deepest xs) t.0) l)
+    (length xs, deepest xs, t.0, t.1 ∙ ap (λ m. good_with m (length xs) (deepest xs) t.0) l)
 
 ---- a piece
 
@@ -77,7 +81,7 @@ pub record Piece (dim depth under : ℕ) (x : List ℕ) : Type 0 where
   pub elem : Elem dim depth under own components
 
 module _ (dim depth under : ℕ) where
-  good_piece : (x : List ℕ) (e d k : ℕ) → element_of dim depth under x 0 (length x) ≡ Good (length x) e d k → Piece dim depth under x
+  good_piece : (x : List ℕ) (e d k : ℕ) → element_of dim depth under x 0 (length x) ≡ good_with (length x) e d k → Piece dim depth under x
   unfolding element_of
   good_piece x e d k q =
       let r = element_sound dim x (2 * (length x - 0) + 1) depth under 0 (length x) (length x) e d k (omega arith) (omega arith) q in
@@ -89,12 +93,12 @@ module _ (dim depth under : ℕ) where
   unfolding piece_fault
   piece_found xs ws h x p q e = go (element_of dim depth under x 0 (length x)) refl (rw (p, q) at e)
     where
-      go : (v : Verdict) → element_of dim depth under x 0 (length x) ≡ v → whole_by v (length x) ≡ fine → Piece dim depth under x
-      go (Fault n place) r e = let z : ◌≡◌ {A = ℕ} 0 1 = cc in absurd (omega arith)
-      go (Good next el d k) r e = whole (eqb next (length x)) refl e
+      go : (v : Result Judgement Refusal) → element_of dim depth under x 0 (length x) ≡ v → whole_by v (length x) ≡ fine → Piece dim depth under x
+      go (Err refusal) r e = let z : ◌≡◌ {A = ℕ} 0 1 = cc in absurd (omega arith)
+      go (Ok judged) r e = whole (eqb judged.next (length x)) refl e
         where
-          whole : (b : Bool) → eqb next (length x) ≡ b → cond b fine (fault 3 next) ≡ fine → Piece dim depth under x
-          whole true s e = good_piece x el d k (r ∙ ap (λ n. Good n el d k) (eqb-true next (length x) s))
+          whole : (b : Bool) → eqb judged.next (length x) ≡ b → cond b fine (fault 3 judged.next) ≡ fine → Piece dim depth under x
+          whole true s e = good_piece x judged.elements judged.deepest judged.direct (r ∙ ap (λ n. good_with n judged.elements judged.deepest judged.direct) (eqb-true judged.next (length x) s))
           whole false s e = let z : ◌≡◌ {A = ℕ} 0 1 = cc in absurd (omega arith)
 
   -- one element is a piece without fault

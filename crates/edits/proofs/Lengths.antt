@@ -6,10 +6,11 @@ use mathlib.Core.List.{List, [], ◌∷◌}
 use mathlib.Core.Option.{Option}
 use native.Mathlib.Omega.{arith}
 use lib.ListN.{length, take, set, replicate, length-set, length-append, length-take, length-drop}
+use Rattle.std.specs.Prelude.{Err, Ok, Result}
+use Rattle.refusals.specs.declared.Refusal.{Refusal}
 use Rattle.words.specs.Words.{word_at}
 use Rattle.words.proofs.Laws.{length_words}
-use Rattle.names.specs.declared.Packed.{Packed}
-use Rattle.names.specs.declared.Packed.TheVariants as name
+use Rattle.names.specs.declared.Name.{Name}
 use Rattle.headers.specs.Header.{type_at, name_place}
 use Rattle.kinds.specs.Kinds.{is_counted}
 use Rattle.files.specs.Spots.{spots_of}
@@ -59,9 +60,9 @@ module _ (dim : ℕ) (s : Session) where
   pub mark_fits : (p : ℕ) (d : Bool) → 2 * length (words_by dim s (mark p d)) ≤ length s.file
   mark_fits p d = let l = length_mark dim (words_of s) p d in let r = used_room in omega arith
 
-  pub text_fits : (q : Packed) (p : ℕ) → 2 * length (words_by dim s (name_of_text q p)) ≤ length s.file
-  text_fits (name.Words a b) p = let l = length_rename dim (words_of s) p a b in let r = used_room in omega arith
-  text_fits (name.Refused n q) p = let l = length_rename dim (words_of s) p 0 0 in let r = used_room in omega arith
+  pub text_fits : (q : Result Name Refusal) (p : ℕ) → 2 * length (words_by dim s (name_of_text q p)) ≤ length s.file
+  text_fits (Ok name) p = let l = length_rename dim (words_of s) p name.first name.second in let r = used_room in omega arith
+  text_fits (Err refusal) p = let l = length_rename dim (words_of s) p 0 0 in let r = used_room in omega arith
 
   pub remove_fits : (p : ℕ) → 2 * length (words_by dim s (remove p)) ≤ length s.file
   remove_fits p = let l = length_remove dim (words_of s) p in let r = used_room in omega arith

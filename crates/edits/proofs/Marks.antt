@@ -14,7 +14,7 @@ use Rattle.words.proofs.Laws.{length_bytes, words_below}
 use Rattle.files.specs.Judge.{top_of, answer, judge_of}
 use Rattle.limits.specs.Limits.{call_ok}
 use Rattle.files.specs.Spots.{deepest, spots_of}
-use Rattle.files.specs.declared.Judged.TheVariants as judged
+use Rattle.files.specs.Accepted.{accepted_with}
 use Rattle.grammar.proofs.Forest.{flat}
 use Rattle.grammar.proofs.Exact.{accepted_is}
 use Rattle.edits.specs.Edits.{mark, extent_in, places_from, extent_places, apply}
@@ -59,7 +59,7 @@ module _ (dim : ℕ) (s : Session) (ready : session_fault dim s ≡ fine) where
 record Judged (dim : ℕ) (u : List ℕ) : Type 0 where
   elements : ℕ
   deep : ℕ
-  is : judge_of dim u ≡ judged.Accepted elements deep (length (words u) - 1)
+  is : judge_of dim u ≡ accepted_with elements deep (length (words u) - 1)
 
 tree_accepted : (dim : ℕ) (u : List ℕ) → call_ok dim u ≡ true → Accepted dim (words u) → Judged dim u
 unfolding judge_of

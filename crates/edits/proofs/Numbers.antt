@@ -10,6 +10,10 @@ use native.Mathlib.Omega.{arith}
 use lib.ListN.{length, length-append}
 use lib.Dec.{eqb, leb}
 use borrow.Author.Tests.{eqb-true, eqb-false, le-leb, leb-true}
+use Rattle.std.specs.Prelude.{Err, Ok, Result}
+use Rattle.refusals.specs.Refusals.{refused_with}
+use Rattle.refusals.proofs.Laws.{number_is, place_is}
+use Rattle.refusals.specs.declared.Refusal.{Refusal}
 use Rattle.words.specs.Words.{words, word_at}
 use Rattle.names.specs.Names.{packed}
 use Rattle.headers.specs.Header.{extent_at, type_at}
@@ -18,20 +22,18 @@ use Rattle.limits.specs.Limits.{call_ok}
 use Rattle.files.specs.Judge.{element_of, top_of, judge_of}
 use Rattle.words.specs.OneOf.{OneOf}
 use Rattle.files.specs.Spots.{spots_of}
-use Rattle.files.specs.declared.Verdict.{Verdict}
-use Rattle.files.specs.declared.Verdict.TheVariants.{Good, Fault}
+use Rattle.files.specs.declared.Judgement.{Judgement}
 use Rattle.grammar.proofs.Numbers.{refusal_number}
 use Rattle.grammar.specs.FirstFault.{ElementNumber}
 use Rattle.grammar.proofs.FirstFault.{number_within, element_refusal}
 use Rattle.grammar.proofs.Forest.{flat}
 use Rattle.grammar.proofs.Sound.{element_sound}
 use Rattle.grammar.proofs.Stands.{stands_fit}
-use Rattle.edits.specs.declared.Edited.TheVariants.{Refused}
 use Rattle.edits.specs.Edits.{Edit, mark, insert, remove, apply, down_to}
 use Rattle.edits.specs.Allowed.{Fault?, fine, fault, or_else, unless, starts_at, flag_differs, mark_fault, rename_fault, gap_ok, depth_under, type_under, whole_by, piece_fault, room_fault, insert_fault, remove_fault, edit_fault}
 use Rattle.edits.specs.Records.{Newest, last_record, reversal, reversible}
 use Rattle.edits.specs.Calls.{Session, size_of, Call, mark_call, rename_call, insert_call, remove_call, undo_call, words_of, journal_of, session_ok, piece_ok, file_fault, session_fault, open_fault}
-use Rattle.edits.specs.Calls.{Result, refused, result_by, words_by, record_by, edit_made, room_for, edit_within, edited, undo_made, reversal_fault, undo_by, undone, name_of_text, text_ok, call_on, step}
+use Rattle.edits.specs.Calls.{Outcome, refused, result_by, words_by, record_by, edit_made, room_for, edit_within, edited, undo_made, reversal_fault, undo_by, undone, name_of_text, text_ok, call_on, step}
 use Rattle.edits.specs.Demand.{used_bytes}
 use Rattle.edits.specs.Refusals.{own_numbers, PieceRefused, RefusedSo, EveryRefusal, PiecePlace}
 use Rattle.edits.proofs.Tested.{tested, used_call}
@@ -56,8 +58,8 @@ abbrev So : ℕ → Session → Call → Fault? → Type 0
 So dim s c fine = Unit {0}
 So dim s c (fault n p) = RefusedSo dim s c n p
 
-abbrev Answered : ℕ → Session → Call → Result → Type 0
-Answered dim s c r = (n p : ℕ) → r.answer ≡ Refused n p → RefusedSo dim s c n p
+abbrev Answered : ℕ → Session → Call → Outcome → Type 0
+Answered dim s c r = (n p : ℕ) → r.answer ≡ refused_with n p → RefusedSo dim s c n p
 
 module _ (dim : ℕ) (s : Session) (c : Call) where
   own : (n : ℕ) → is_one_of (own_numbers c) n ≡ true → RefusedSo dim s c n 0
@@ -72,9 +74,9 @@ module _ (dim : ℕ) (s : Session) (c : Call) where
   unless_so false n e = own n e
 
   answer_so : (n p : ℕ) → RefusedSo dim s c n p → Answered dim s c (refused s n p)
-  answer_so n p h m q e = let a : n ≡ m = cc in let b : p ≡ q = cc in subst₂ (RefusedSo dim s c) a b h
+  answer_so n p h m q e = subst₂ (RefusedSo dim s c) (number_is e) (place_is e) h
 
-  by_so : (f : Fault?) (r : Result) → So dim s c f → Answered dim s c r → Answered dim s c (result_by f s r)
+  by_so : (f : Fault?) (r : Outcome) → So dim s c f → Answered dim s c r → Answered dim s c (result_by f s r)
   by_so fine r h k = k
   by_so (fault n p) r h k = answer_so n p h
 
@@ -83,10 +85,10 @@ module _ (dim : ℕ) (s : Session) (c : Call) where
   first : is_one_of (own_numbers c) 1 ≡ true
   first = elim c as (λ k. is_one_of (own_numbers k) 1 ≡ true) [ mark_call p d ↦ refl | rename_call p t ↦ refl | insert_call h p x ↦ refl | remove_call p ↦ refl | undo_call ↦ refl ]
 
-  file_so : call_ok dim (used_bytes s) ≡ true → (v : Verdict) → top_of dim (words_of s) ≡ v → (last : ℕ) → So dim s c (file_fault v last)
+  file_so : call_ok dim (used_bytes s) ≡ true → (v : Result Judgement Refusal) → top_of dim (words_of s) ≡ v → (last : ℕ) → So dim s c (file_fault v last)
   unfolding judge_of
-  file_so ok (Good next e d k) t last = unless_so (eqb next last) 1 first
-  file_so ok (Fault n p) t last = inl (inl (rw (ok, t) refl))
+  file_so ok (Ok judged) t last = unless_so (eqb judged.next last) 1 first
+  file_so ok (Err refusal) t last = inl (inl (rw (ok, t) refl))
 
   session_so : So dim s c (session_fault dim s)
   unfolding session_fault
@@ -238,17 +240,17 @@ piece_place dim xs ws h x n p = judged (element_of dim (depth_under xs h) (type_
         let other = eqb-false next (length x) t in
         (inl (omega arith), omega arith)
 
-    judged : (v : Verdict) → element_of dim (depth_under xs h) (type_under ws h) x 0 (length x) ≡ v → whole_by v (length x) ≡ fault n p → ElementNumber n × (p < max (length x) 1)
-    judged (Good next e d k) t q =
-        let r = element_sound dim x (2 * (length x - 0) + 1) (depth_under xs h) (type_under ws h) 0 (length x) next e d k (omega arith) (omega arith) t in
+    judged : (v : Result Judgement Refusal) → element_of dim (depth_under xs h) (type_under ws h) x 0 (length x) ≡ v → whole_by v (length x) ≡ fault n p → ElementNumber n × (p < max (length x) 1)
+    judged (Ok one) t q =
+        let r = element_sound dim x (2 * (length x - 0) + 1) (depth_under xs h) (type_under ws h) 0 (length x) one.next one.elements one.deepest one.direct (omega arith) (omega arith) t in
         let l = stands_fit r.stands (omega arith) in
         let long = length-append r.own (flat r.components) in
         let last = r.last in
-        whole next (omega arith) (eqb next (length x)) refl q
-    judged (Fault m r) t q =
-        let number : m ≡ n = cc in
-        let place : r ≡ p = cc in
-        let f = element_refusal dim x (depth_under xs h) (type_under ws h) 0 (length x) (omega arith) (omega arith) m r t in
+        whole one.next (omega arith) (eqb one.next (length x)) refl q
+    judged (Err refusal) t q =
+        let number : refusal.number ≡ n = cc in
+        let place : refusal.place ≡ p = cc in
+        let f = element_refusal dim x (depth_under xs h) (type_under ws h) 0 (length x) (omega arith) (omega arith) refusal.number refusal.place t in
         (subst ElementNumber number f.0, omega arith)
 
 piece_number : (dim : ℕ) (ws : List ℕ) (c : Call) (n p : ℕ) → PieceRefused dim ws c n p → (1 ≤ n) × (n ≤ 21)
@@ -259,7 +261,7 @@ piece_number dim ws (insert_call h p piece) n q (inr x) = let z = x.0 in (omega 
 piece_number dim ws (remove_call p) n q x = absurd x
 piece_number dim ws undo_call n q x = absurd x
 
-pub call_number : (dim : ℕ) (s : Session) (c : Call) (n p : ℕ) → (step dim s c).answer ≡ Refused n p → (1 ≤ n) × (n ≤ 21)
+pub call_number : (dim : ℕ) (s : Session) (c : Call) (n p : ℕ) → (step dim s c).answer ≡ refused_with n p → (1 ≤ n) × (n ≤ 21)
 call_number dim s c n p e = go (every_refusal dim s c n p e)
   where
     go : RefusedSo dim s c n p → (1 ≤ n) × (n ≤ 21)

@@ -11,13 +11,12 @@ use borrow.Author.Tests.{eqb-true}
 use Rattle.words.specs.Words.{words, word_at}
 use Rattle.words.proofs.Laws.{length_words}
 use Rattle.names.specs.Names.{packed}
-use Rattle.names.specs.declared.Packed.TheVariants as name
 use Rattle.names.proofs.OneToOne.{pack_stored}
+use Rattle.names.specs.Name.{packed_to}
 use Rattle.limits.specs.Limits.{size_ok}
 use Rattle.headers.specs.Header.{type_at}
 use Rattle.kinds.specs.Kinds.{is_cell}
 use Rattle.files.specs.Spots.{spots_of, spot_in}
-use Rattle.edits.specs.declared.Edited.TheVariants.{Made}
 use Rattle.edits.specs.Bits.{flag_size}
 use Rattle.edits.specs.Edits.{mark, rename, insert, remove, extent_in, extent_places, flags_at}
 use Rattle.edits.specs.Allowed.{fine, starts_at, flag_differs, mark_fault, rename_fault, remove_fault, edit_fault}
@@ -32,6 +31,7 @@ use Rattle.edits.proofs.Tested.{used_parts, used_twice, ready_tested}
 use Rattle.edits.proofs.Packed.{length_packed}
 use Rattle.edits.proofs.Flags.{length_flags}
 use Rattle.edits.proofs.Lengths.{length_mark, length_rename, length_insert, mark_fits, text_fits, remove_fits}
+use Rattle.edits.specs.UsedLengths.{made_with}
 
 module _ (dim : ℕ) (s : Session) (opens : session_fault dim s ≡ fine) where
   -- twice the used words are the used length
@@ -49,7 +49,7 @@ module _ (dim : ℕ) (s : Session) (opens : session_fault dim s ≡ fine) where
       omega arith
 
   mark_plain : (p : ℕ) (d : Bool) → starts_at (spots_of dim (words_of s)) p ≡ true → index_fits dim (words_by dim s (mark p d)) (size_of s.index) ≡ true → flag_differs d (word_at (words_of s) p) ≡ true →
-      s.jused + mark_bytes dim (words_of s) p ≤ length s.journal → (step dim s (mark_call p d)).answer ≡ Made s.used (s.jused + mark_bytes dim (words_of s) p)
+      s.jused + mark_bytes dim (words_of s) p ≤ length s.journal → (step dim s (mark_call p d)).answer ≡ made_with s.used (s.jused + mark_bytes dim (words_of s) p)
   unfolding edit_fault mark_fault open_fault
   mark_plain p d there beside differs free =
       let record_is = mark_record p d in
@@ -58,23 +58,23 @@ module _ (dim : ℕ) (s : Session) (opens : session_fault dim s ≡ fine) where
       ∙ rw (record_is, length_mark dim (words_of s) p d, used_is) refl
 
   rename_plain : (p : ℕ) (text : List ℕ) (a b : ℕ) → starts_at (spots_of dim (words_of s)) p ≡ true → index_fits dim (words_by dim s (rename p a b)) (size_of s.index) ≡ true →
-      is_cell (type_at (words_of s) p) ≡ true → packed text ≡ name.Words a b →
-      s.jused + 16 ≤ length s.journal → (step dim s (rename_call p text)).answer ≡ Made s.used (s.jused + 16)
+      is_cell (type_at (words_of s) p) ≡ true → packed text ≡ packed_to a b →
+      s.jused + 16 ≤ length s.journal → (step dim s (rename_call p text)).answer ≡ made_with s.used (s.jused + 16)
   unfolding edit_fault rename_fault open_fault record_of record_words
   rename_plain p text a b there beside cell text_is free =
       edits_made dim s (rename_call p text) (rename p a b) (ap (λ q. rename_of q p) text_is)
       (record {
         opens = opens;
         own = fine_both (fine_test 13 there) (fine_both (fine_test 18 cell) (fine_test 12 (pack_stored text a b text_is).ok));
-        file_room = text_fits dim s (name.Words a b) p;
+        file_room = text_fits dim s (packed_to a b) p;
         index_room = beside;
         journal_room = free;
       })
-      ∙ ap (λ n. Made (2 * n) (s.jused + 16)) (length_rename dim (words_of s) p a b) ∙ ap (λ n. Made n (s.jused + 16)) used_is
+      ∙ ap (λ n. made_with (2 * n) (s.jused + 16)) (length_rename dim (words_of s) p a b) ∙ ap (λ n. made_with n (s.jused + 16)) used_is
 
   insert_plain : (h : Option ℕ) (p : ℕ) (piece : List ℕ) → size_ok (length piece) ≡ true → index_fits dim (words_by dim s (insert h p (words piece))) (size_of s.index) ≡ true → edit_fault dim (words_of s) (insert h p (words piece)) ≡ fine →
       s.used + length piece ≤ length s.file → s.jused + 12 ≤ length s.journal →
-      (step dim s (insert_call h p piece)).answer ≡ Made (s.used + length piece) (s.jused + 12)
+      (step dim s (insert_call h p piece)).answer ≡ made_with (s.used + length piece) (s.jused + 12)
   unfolding open_fault record_of record_words
   insert_plain h p piece ok beside own room free =
       let even : length piece % 2 ≡ 0 = eqb-true (length piece % 2) 0 ((and-eq-true_iff (eqb (length piece % 2) 0) (leb (length piece) 1048576)).0 ok).0 in

@@ -12,10 +12,10 @@ use Rattle.edits.specs.Edits.{Edit, mark, insert, remove}
 use Rattle.edits.specs.Allowed.{Fault?, fine, fault, or_else, unless, rename_fault, edit_fault}
 use Rattle.edits.specs.Records.{Newest, last_record}
 use Rattle.edits.specs.Calls.{Session, size_of, Call, mark_call, rename_call, insert_call, remove_call, undo_call, journal_of, words_of, name_of_text, text_ok}
-use Rattle.edits.specs.Calls.{Result, refused, result_by, open_fault, words_by, record_by, edit_made, edit_within, edited, words_back, undo_made, reversal_fault, undo_by, undone, call_on, step}
+use Rattle.edits.specs.Calls.{Outcome, refused, result_by, open_fault, words_by, record_by, edit_made, edit_within, edited, words_back, undo_made, reversal_fault, undo_by, undone, call_on, step}
 
-module _ (dim : ℕ) (s : Session) (P : Result → Type 0) (no : (n p : ℕ) → P (refused s n p)) (edit : (ws r : List ℕ) → P (edit_made dim s ws r)) (undo : (ws : List ℕ) (jused : ℕ) → P (undo_made dim s ws jused)) where
-  of_fault : (f : Fault?) (q : Result) → P q → P (result_by f s q)
+module _ (dim : ℕ) (s : Session) (P : Outcome → Type 0) (no : (n p : ℕ) → P (refused s n p)) (edit : (ws r : List ℕ) → P (edit_made dim s ws r)) (undo : (ws : List ℕ) (jused : ℕ) → P (undo_made dim s ws jused)) where
+  of_fault : (f : Fault?) (q : Outcome) → P q → P (result_by f s q)
   of_fault fine q h = h
   of_fault (fault n p) q h = no n p
 

@@ -8,18 +8,19 @@ use native.Mathlib.Omega.{arith}
 use lib.ListN.{length}
 use lib.Dec.{eqb, leb}
 use borrow.Author.Tests.{leb-true, eq-eqb}
+use Rattle.std.specs.Prelude.{Err, Ok, Result}
+use Rattle.refusals.specs.declared.Refusal.{Refusal}
 use Rattle.words.specs.Words.{words}
 use Rattle.words.proofs.Laws.{words_below}
 use Rattle.names.specs.Names.{packed}
-use Rattle.names.specs.declared.Packed.{Packed}
-use Rattle.names.specs.declared.Packed.TheVariants as name
+use Rattle.names.specs.declared.Name.{Name}
 use Rattle.limits.specs.Limits.{dim_ok, size_ok}
 use Rattle.files.specs.Spots.{spots_of}
 use Rattle.grammar.proofs.Forest.{flat}
 use Rattle.edits.specs.Edits.{Edit, mark, insert, remove, apply}
 use Rattle.edits.specs.Allowed.{Fault?, fine, fault, or_else, rename_fault, edit_fault}
 use Rattle.edits.specs.Records.{record_of, record_words}
-use Rattle.edits.specs.Calls.{Session, size_of, index_ok, index_fits, afresh, Call, mark_call, rename_call, insert_call, remove_call, undo_call, words_of, ends_in_marker, session_ok, session_fault, Result, result_by, edit_made, room_for, edit_within, edited, undone, name_of_text, text_ok, call_on}
+use Rattle.edits.specs.Calls.{Session, size_of, index_ok, index_fits, afresh, Call, mark_call, rename_call, insert_call, remove_call, undo_call, words_of, ends_in_marker, session_ok, session_fault, Outcome, result_by, edit_made, room_for, edit_within, edited, undone, name_of_text, text_ok, call_on}
 use Rattle.edits.specs.Book.{Run, noted, noting}
 use Rattle.edits.specs.Demand.{PieceBytes}
 use Rattle.edits.proofs.Accepted.{Accepted, Carried, Sound}
@@ -82,7 +83,7 @@ module _ (dim : ℕ) (hyp : Hypotheses dim) (s₀ : Session) (B : Begun dim s₀
   same_size s es ws js r i = ap size_of i ∙ index_size dim ws (size_of s₀.index) (fits_at es ws js r)
 
   -- what a refusal leaves is kept, so what is made has to be shown
-  pub after_by : (s : Session) (es : List Edit) (c : Call) (f : Fault?) (r : Result) → Kept dim s₀ s es
+  pub after_by : (s : Session) (es : List Edit) (c : Call) (f : Fault?) (r : Outcome) → Kept dim s₀ s es
       → (f ≡ fine → KeptRun dim s₀ (noting es c r)) → KeptRun dim s₀ (noting es c (result_by f s r))
   after_by s es c fine r K h = h refl
   after_by s es c (fault n p) r K h = K
@@ -139,13 +140,13 @@ module _ (dim : ℕ) (hyp : Hypotheses dim) (s₀ : Session) (B : Begun dim s₀
       subst (λ l. Kept dim s₀ (edit_made dim s x r).after l) (sym q) (kept_made s es e K a.0 a.1 p.1)))
 
   -- a text that packs to two words is a name, so its rename is allowed where the call is
-  kept_text : (p : ℕ) (text ws : List ℕ) (q : Packed) → packed text ≡ q
+  kept_text : (p : ℕ) (text ws : List ℕ) (q : Result Name Refusal) → packed text ≡ q
       → rename_fault (spots_of dim ws) ws p (text_ok q) ≡ fine → (edit_fault dim ws (name_of_text q p) ≡ fine) × Carried (name_of_text q p)
   unfolding edit_fault
-  kept_text p text ws (name.Words a b) e f =
-      let o = hyp.packed_ok text a b e in
+  kept_text p text ws (Ok name) e f =
+      let o = hyp.packed_ok text name.first name.second e in
       (ap (rename_fault (spots_of dim ws) ws p) o.0 ∙ f, (o.1, o.2))
-  kept_text p text ws (name.Refused n place) e f = absurd (not_named (spots_of dim ws) ws p f)
+  kept_text p text ws (Err refusal) e f = absurd (not_named (spots_of dim ws) ws p f)
 
   pub kept_call : (s : Session) (es : List Edit) (c : Call) → PieceBytes c → (K : Kept dim s₀ s es) → KeptRun dim s₀ (noting es undo_call (undone dim s))
       → KeptRun dim s₀ (noting es c (call_on dim s (words_of s) c))

@@ -9,11 +9,11 @@ use native.Mathlib.Omega.{arith}
 use lib.ListN.{length, length-append}
 use lib.Dec.{leb}
 use borrow.Author.Tests.{le-leb, ne_eqb}
-use Rattle.edits.specs.declared.Edited.TheVariants.{Refused}
+use Rattle.refusals.specs.Refusals.{refused_with}
 use Rattle.edits.specs.Edits.{Edit, apply}
 use Rattle.edits.specs.Allowed.{fine}
 use Rattle.edits.specs.Records.{record_of, record_words}
-use Rattle.edits.specs.Calls.{Session, size_of, index_fits, afresh, room_for, Call, undo_call, session_fault, open_fault, journal_of, words_of, Result, refused, undo_made, undone, call_on, step}
+use Rattle.edits.specs.Calls.{Session, size_of, index_fits, afresh, room_for, Call, undo_call, session_fault, open_fault, journal_of, words_of, Outcome, refused, undo_made, undone, call_on, step}
 use Rattle.edits.specs.Book.{Run, ran, struck, noted, noting, was_refused, undos}
 use Rattle.edits.specs.Demand.{PieceBytes, PiecesBytes, none_refused}
 use Rattle.edits.proofs.Accepted.{Sound}
@@ -49,7 +49,7 @@ undos_bytes [] = tt
 undos_bytes (e ∷ es) = (tt, undos_bytes es)
 
 -- an undo that is not refused strikes off the last edit
-noting_undo : (es es₀ : List Edit) (e : Edit) (r : Result) → es ≡ es₀ ++ (e ∷ []) → was_refused r.answer ≡ false
+noting_undo : (es es₀ : List Edit) (e : Edit) (r : Outcome) → es ≡ es₀ ++ (e ∷ []) → was_refused r.answer ≡ false
     → noting es undo_call r ≡ record { session = r.after; book = es₀ }
 noting_undo es es₀ e r q m =
     ap (λ b. record { session = r.after; book = noted es undo_call b }) m
@@ -58,7 +58,7 @@ noting_undo es es₀ e r q m =
 module _ (dim : ℕ) (hyp : Hypotheses dim) (s₀ : Session) (B : Begun dim s₀) where
   pub data UndoStep (s : Session) (es : List Edit) : Type 0 where
     nothing : es ≡ [] → step dim s undo_call ≡ refused s 17 0 → UndoStep s es
-    taken : (es₀ : List Edit) (e : Edit) (r : Result) → es ≡ es₀ ++ (e ∷ []) → step dim s undo_call ≡ r → was_refused r.answer ≡ false →
+    taken : (es₀ : List Edit) (e : Edit) (r : Outcome) → es ≡ es₀ ++ (e ∷ []) → step dim s undo_call ≡ r → was_refused r.answer ≡ false →
         Kept dim s₀ r.after es₀ → UndoStep s es
 
   undo_by_lem : (s : Session) (es : List Edit) (ws js : List ℕ) → step dim s undo_call ≡ undone dim s → Replayed dim s₀ es ws js
@@ -122,10 +122,10 @@ module _ (dim : ℕ) (hyp : Hypotheses dim) (s₀ : Session) (B : Begun dim s₀
       go (taken es₀ e r q u m K₀) =
           ((λ h. absurd (false≢true (sym m ∙ sym (ap (λ x. was_refused x.answer) u) ∙ h))), (λ h. absurd (more_not_nil es₀ e (sym q ∙ h))))
 
-  pub undo_nothing : (s : Session) (es : List Edit) → Kept dim s₀ s es → es ≡ [] → (step dim s undo_call).answer ≡ Refused 17 0
+  pub undo_nothing : (s : Session) (es : List Edit) → Kept dim s₀ s es → es ≡ [] → (step dim s undo_call).answer ≡ refused_with 17 0
   undo_nothing s es K h = go (undo_step s es K)
     where
-      go : UndoStep s es → (step dim s undo_call).answer ≡ Refused 17 0
+      go : UndoStep s es → (step dim s undo_call).answer ≡ refused_with 17 0
       go (nothing q u) = ap (λ r. r.answer) u
       go (taken es₀ e r q u m K₀) = absurd (more_not_nil es₀ e (sym q ∙ h))
 
@@ -133,7 +133,7 @@ module _ (dim : ℕ) (hyp : Hypotheses dim) (s₀ : Session) (B : Begun dim s₀
   abbrev pub Clears : Run → List Call → Type 0
   Clears r cs = (none_refused dim r cs ≡ true) × ((ran dim r cs).book ≡ [])
 
-  clears_more : (s : Session) (es : List Edit) (r : Result) (x : Run) (cs : List Call) → step dim s undo_call ≡ r → was_refused r.answer ≡ false
+  clears_more : (s : Session) (es : List Edit) (r : Outcome) (x : Run) (cs : List Call) → step dim s undo_call ≡ r → was_refused r.answer ≡ false
       → noting es undo_call r ≡ x → Clears x cs → Clears (record { session = s; book = es }) (undo_call ∷ cs)
   clears_more s es r x cs u m n C =
       let made : not (was_refused (step dim s undo_call).answer) ≡ true = ap (λ y. not (was_refused y.answer)) u ∙ ap not m in

@@ -1,6 +1,7 @@
 -- When an edit is refused, by the file's words alone (RULES.md, "Order of checks": 13, 18, 14, 12, the piece's own, 8).
-use Rattle.std.specs.Prelude.{ℕ, ◌+◌, ◌-◌, List, [], ◌∷◌, Bool, true, false, cond, ◌&&◌, ◌||◌, length, eqb, leb}
+use Rattle.std.specs.Prelude.{ℕ, ◌+◌, ◌-◌, List, [], ◌∷◌, Bool, true, false, cond, ◌&&◌, ◌||◌, length, eqb, leb, Err, Ok, Result}
 use Rattle.std.proofs.Math.Option.{Option, none, some}
+use Rattle.refusals.specs.declared.Refusal.{Refusal}
 use Rattle.words.specs.Words.{word_at}
 use Rattle.names.specs.Names.{name_ok}
 use Rattle.kinds.specs.FirstWord.{deleted_of}
@@ -8,8 +9,7 @@ use Rattle.headers.specs.Header.{type_at, extent_at}
 use Rattle.kinds.specs.Kinds.{is_header, is_cell}
 use Rattle.files.specs.Judge.{element_of}
 use Rattle.files.specs.Spots.{Spot, spots_of, spot_in}
-use Rattle.files.specs.declared.Verdict.{Verdict}
-use Rattle.files.specs.declared.Verdict.TheVariants.{Good, Fault}
+use Rattle.files.specs.declared.Judgement.{Judgement}
 use Rattle.edits.specs.Bits.{flags_ok}
 use Rattle.edits.specs.Edits.{Edit, mark, rename, insert, remove, restore, extent_places, down_to}
 
@@ -85,9 +85,9 @@ type_under ws none = 0
 type_under ws (some h) = type_at ws h
 
 -- one whole extent: words left over last, at the first of them
-abbrev pub whole_by : Verdict → ℕ → Fault?
-whole_by (Good next e d k) size = cond (eqb next size) fine (fault 3 next)
-whole_by (Fault n p) size = fault n p
+abbrev pub whole_by : Result Judgement Refusal → ℕ → Fault?
+whole_by (Ok judged) size = cond (eqb judged.next size) fine (fault 3 judged.next)
+whole_by (Err refusal) size = fault refusal.number refusal.place
 
 -- the refusal of a piece at a depth under a header of a type; places are in the piece
 abbrev pub piece_refusal : ℕ → ℕ → ℕ → List ℕ → Fault?

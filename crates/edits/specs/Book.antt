@@ -1,15 +1,15 @@
 -- The book of demand 3 (RULES.md, "The book"): it is fed the calls, and whether each was refused, and nothing else.
-use Rattle.std.specs.Prelude.{ℕ, List, [], ◌∷◌, ◌++◌, Bool, true, false}
+use Rattle.std.specs.Prelude.{ℕ, List, [], ◌∷◌, ◌++◌, Bool, true, false, Err, Ok, Result}
+use Rattle.refusals.specs.declared.Refusal.{Refusal}
 use Rattle.words.specs.Words.{words}
 use Rattle.names.specs.Names.{packed}
-use Rattle.edits.specs.declared.Edited.{Edited}
-use Rattle.edits.specs.declared.Edited.TheVariants.{Made, Refused}
 use Rattle.edits.specs.Edits.{Edit, mark, insert, remove, apply}
-use Rattle.edits.specs.Calls.{Session, Call, mark_call, rename_call, insert_call, remove_call, undo_call, Result, name_of_text, step}
+use Rattle.edits.specs.Calls.{Session, Call, mark_call, rename_call, insert_call, remove_call, undo_call, Outcome, name_of_text, step}
+use Rattle.edits.specs.declared.UsedLengths.{UsedLengths}
 
-abbrev pub was_refused : Edited → Bool
-was_refused (Made used jused) = false
-was_refused (Refused n p) = true
+abbrev pub was_refused : Result UsedLengths Refusal → Bool
+was_refused (Ok lengths) = false
+was_refused (Err refusal) = true
 
 -- the list without its last
 abbrev pub struck : List Edit → List Edit
@@ -36,7 +36,7 @@ pub record Run : Type 0 where
   pub session : Session
   pub book : List Edit
 
-abbrev pub noting : List Edit → Call → Result → Run
+abbrev pub noting : List Edit → Call → Outcome → Run
 noting es c r = record { session = r.after; book = noted es c (was_refused r.answer) }
 
 abbrev pub ran : ℕ → Run → List Call → Run

@@ -1,23 +1,23 @@
 -- The calls of a session on its lent buffers, with their refusals in order (RULES.md, "Order of checks") and what every byte and
 -- length then is.
-use Rattle.std.specs.Prelude.{ℕ, ◌+◌, ◌-◌, ◌*◌, max, List, [], ◌∷◌, ◌++◌, Bool, true, false, not, ◌&&◌, length, take, drop, replicate, eqb, leb}
+use Rattle.std.specs.Prelude.{ℕ, ◌+◌, ◌-◌, ◌*◌, max, List, [], ◌∷◌, ◌++◌, Bool, true, false, not, ◌&&◌, length, take, drop, replicate, eqb, leb, Err, Ok, Result}
 use Rattle.std.proofs.Math.Option.{Option, none, some}
+use Rattle.refusals.specs.Refusals.{refused_with}
+use Rattle.refusals.specs.declared.Refusal.{Refusal}
 use Rattle.words.specs.Words.{words, bytes, word_at, over}
 use Rattle.names.specs.Names.{packed}
-use Rattle.names.specs.declared.Packed.{Packed}
-use Rattle.names.specs.declared.Packed.TheVariants as name
+use Rattle.names.specs.declared.Name.{Name}
 use Rattle.limits.specs.Limits.{dim_ok, size_ok, used_ok}
 use Rattle.files.specs.Judge.{top_of}
 use Rattle.files.specs.Spots.{spots_of}
-use Rattle.files.specs.declared.Verdict.{Verdict}
-use Rattle.files.specs.declared.Verdict.TheVariants.{Good, Fault}
+use Rattle.files.specs.declared.Judgement.{Judgement}
 use Rattle.entries.specs.Entries.{shown, entries_ok}
 use Rattle.cells.specs.Index.{index_of, index_bytes}
-use Rattle.edits.specs.declared.Edited.{Edited}
-use Rattle.edits.specs.declared.Edited.TheVariants.{Made, Refused}
 use Rattle.edits.specs.Edits.{Edit, mark, rename, insert, remove, apply}
 use Rattle.edits.specs.Allowed.{Fault?, fine, fault, or_else, unless, edit_fault, rename_fault}
 use Rattle.edits.specs.Records.{Rec, Newest, record_of, record_words, last_record, reversal, reversible}
+use Rattle.edits.specs.UsedLengths.{made_with}
+use Rattle.edits.specs.declared.UsedLengths.{UsedLengths}
 
 -- an index that is lent: its buffer, and its used length in bytes
 pub record Index : Type 0 where
@@ -91,9 +91,9 @@ piece_ok (remove_call p) = true
 piece_ok undo_call = true
 
 -- the file's own refusals, then 1 if the marker is found before the last used word
-abbrev pub file_fault : Verdict → ℕ → Fault?
-file_fault (Good next e d k) last = unless (eqb next last) 1
-file_fault (Fault n p) last = fault n p
+abbrev pub file_fault : Result Judgement Refusal → ℕ → Fault?
+file_fault (Ok judged) last = unless (eqb judged.next last) 1
+file_fault (Err refusal) last = fault refusal.number refusal.place
 
 -- the refusal of a session: 1, then these; fine where it opens
 unfoldable pub session_fault : ℕ → Session → Fault?
@@ -114,12 +114,12 @@ abbrev pub pushed : List ℕ → ℕ → List ℕ → List ℕ
 pushed s n ws = over s n (bytes ws)
 
 -- what a call answers and what it leaves
-pub record Result : Type 0 where
-  pub answer : Edited
+pub record Outcome : Type 0 where
+  pub answer : Result UsedLengths Refusal
   pub after : Session
 
-abbrev pub refused : Session → ℕ → ℕ → Result
-refused s n p = record { answer = Refused n p; after = s }
+abbrev pub refused : Session → ℕ → ℕ → Outcome
+refused s n p = record { answer = refused_with n p; after = s }
 
 -- the session with the words ws used, this journal, and a lent index of these words built afresh
 abbrev pub session_made : ℕ → Session → List ℕ → List ℕ → ℕ → Session
@@ -132,9 +132,9 @@ session_made dim s ws journal jused = record {
 }
 
 -- an edit made: ws are the used words after it, the record's words r stand behind the journal
-unfoldable pub edit_made : ℕ → Session → List ℕ → List ℕ → Result
+unfoldable pub edit_made : ℕ → Session → List ℕ → List ℕ → Outcome
 edit_made dim s ws r = record {
-  answer = Made (2 * length ws) (s.jused + 2 * length r);
+  answer = made_with (2 * length ws) (s.jused + 2 * length r);
   after = session_made dim s ws (pushed s.journal s.jused r) (s.jused + 2 * length r);
 }
 
@@ -148,7 +148,7 @@ edit_within dim s ws r =
     or_else (unless (room_for dim (length s.file) (size_of s.index) ws) 15)
     (unless (leb (s.jused + 2 * length r) (length s.journal)) 16)
 
-abbrev pub result_by : Fault? → Session → Result → Result
+abbrev pub result_by : Fault? → Session → Outcome → Outcome
 result_by fine s r = r
 result_by (fault n p) s r = refused s n p
 
@@ -160,13 +160,13 @@ abbrev pub record_by : ℕ → Session → Edit → List ℕ
 record_by dim s e = record_words (record_of dim (words_of s) e)
 
 -- an edit on the used words: its own refusals, 15, 16, or it is made
-unfoldable pub edited : ℕ → Session → Edit → Fault? → Result
+unfoldable pub edited : ℕ → Session → Edit → Fault? → Outcome
 edited dim s e own =
     result_by (or_else own (edit_within dim s (words_by dim s e) (record_by dim s e))) s (edit_made dim s (words_by dim s e) (record_by dim s e))
 
 -- an undo made: the words ws used, the journal's bytes as they were and its used length back before the record
-unfoldable pub undo_made : ℕ → Session → List ℕ → ℕ → Result
-undo_made dim s ws jused = record { answer = Made (2 * length ws) jused; after = session_made dim s ws s.journal jused }
+unfoldable pub undo_made : ℕ → Session → List ℕ → ℕ → Outcome
+undo_made dim s ws jused = record { answer = made_with (2 * length ws) jused; after = session_made dim s ws s.journal jused }
 
 -- the words after a record's reversal
 abbrev pub words_back : ℕ → List ℕ → Rec → List ℕ
@@ -178,29 +178,29 @@ reversal_fault dim ws size beside rec =
     or_else (unless (reversible dim ws rec) 19) (unless (room_for dim size beside (words_back dim ws rec)) 15)
 
 -- an undo by the last record: 19 where it is ill-formed or may not be reversed, 15, or it is made
-abbrev pub undo_by : ℕ → Session → List ℕ → Newest → Result
+abbrev pub undo_by : ℕ → Session → List ℕ → Newest → Outcome
 undo_by dim s ws none = refused s 19 0
 undo_by dim s ws (some l) =
     result_by (reversal_fault dim ws (length s.file) (size_of s.index) l.0) s
     (undo_made dim s (words_back dim ws l.0) (2 * length l.1))
 
 -- an undo: 17 where the journal is empty, then these
-unfoldable pub undone : ℕ → Session → Result
+unfoldable pub undone : ℕ → Session → Outcome
 undone dim s =
     result_by (unless (not (eqb s.jused 0)) 17) s
     (undo_by dim s (words_of s) (last_record (journal_of s)))
 
 -- the rename that a text asks for (of a bad text any, since it is refused), and whether the text is good
-abbrev pub name_of_text : Packed → ℕ → Edit
-name_of_text (name.Words a b) p = rename p a b
-name_of_text (name.Refused n q) p = rename p 0 0
+abbrev pub name_of_text : Result Name Refusal → ℕ → Edit
+name_of_text (Ok name) p = rename p name.first name.second
+name_of_text (Err refusal) p = rename p 0 0
 
-abbrev pub text_ok : Packed → Bool
-text_ok (name.Words a b) = true
-text_ok (name.Refused n q) = false
+abbrev pub text_ok : Result Name Refusal → Bool
+text_ok (Ok name) = true
+text_ok (Err refusal) = false
 
 -- what each call asks
-abbrev pub call_on : ℕ → Session → List ℕ → Call → Result
+abbrev pub call_on : ℕ → Session → List ℕ → Call → Outcome
 call_on dim s ws (mark_call p deleted) = edited dim s (mark p deleted) (edit_fault dim ws (mark p deleted))
 call_on dim s ws (rename_call p text) =
     edited dim s (name_of_text (packed text) p) (rename_fault (spots_of dim ws) ws p (text_ok (packed text)))
@@ -209,10 +209,10 @@ call_on dim s ws (remove_call p) = edited dim s (remove p) (edit_fault dim ws (r
 call_on dim s ws undo_call = undone dim s
 
 -- one call
-unfoldable pub step : ℕ → Session → Call → Result
+unfoldable pub step : ℕ → Session → Call → Outcome
 step dim s c = result_by (open_fault dim s c) s (call_on dim s (words_of s) c)
 
 -- the numbers of each answer: 0 and the used lengths, or the refusal's number and place
-abbrev pub edited_numbers : Edited → List ℕ
-edited_numbers (Made used jused) = 0 ∷ used ∷ jused ∷ []
-edited_numbers (Refused number place) = number ∷ place ∷ []
+abbrev pub edited_numbers : Result UsedLengths Refusal → List ℕ
+edited_numbers (Ok lengths) = 0 ∷ lengths.used ∷ lengths.jused ∷ []
+edited_numbers (Err refusal) = refusal.number ∷ refusal.place ∷ []

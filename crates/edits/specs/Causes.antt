@@ -2,9 +2,9 @@
 -- RULES.md, "Order of checks".
 use Rattle.std.specs.Prelude.{ℕ, ◌+◌, ◌*◌, ◌≤◌, ◌<◌, ◌≡◌, ◌↔◌, ◌≢◌, ◌⊎◌, true, false, List, [], ◌∷◌, length}
 use Rattle.std.proofs.Math.Option.{Option, none, some}
+use Rattle.refusals.specs.Refusals.{refused_with}
 use Rattle.headers.specs.Header.{extent_at}
 use Rattle.files.specs.Spots.{spots_of}
-use Rattle.edits.specs.declared.Edited.TheVariants.{Refused}
 use Rattle.edits.specs.Edits.{Edit, insert, down_to}
 use Rattle.edits.specs.Allowed.{fine, fault, gap_ok, piece_fault, edit_fault}
 use Rattle.edits.specs.Records.{Rec, last_record, reversible}
@@ -30,7 +30,7 @@ pub data EditCause (dim : ℕ) (s : Session) (c : Call) (e : Edit) (n p : ℕ) :
 abbrev pub EditRefused : Type 0
 EditRefused =
     (dim : ℕ) (s : Session) (c : Call) (e : Edit) (n p : ℕ) → edit_of c ≡ some e →
-    (step dim s c).answer ≡ Refused n p ↔ EditCause dim s c e n p
+    (step dim s c).answer ≡ refused_with n p ↔ EditCause dim s c e n p
 
 -- p is the first of the headers, outermost first, that would have more than 65,535 words with n more
 abbrev pub Outgrown : ℕ → List ℕ → List ℕ → ℕ → Type 0
@@ -64,4 +64,4 @@ pub data UndoCause (dim : ℕ) (s : Session) (n p : ℕ) : Type 0 where
       n ≡ 15 → p ≡ 0 → UndoCause dim s n p
 
 abbrev pub UndoRefused : Type 0
-UndoRefused = (dim : ℕ) (s : Session) (n p : ℕ) → (step dim s undo_call).answer ≡ Refused n p ↔ UndoCause dim s n p
+UndoRefused = (dim : ℕ) (s : Session) (n p : ℕ) → (step dim s undo_call).answer ≡ refused_with n p ↔ UndoCause dim s n p

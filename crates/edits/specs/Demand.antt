@@ -1,9 +1,9 @@
 -- Demand 3 (RULES.md, "Three demands"): one claim over every list of calls of a session, refused ones among them.
 use Rattle.std.specs.Prelude.{ℕ, ◌-◌, ◌/◌, ◌≡◌, ◌↔◌, List, [], ◌∷◌, Bool, true, not, ◌&&◌, length, take}
+use Rattle.refusals.specs.Refusals.{refused_with}
 use Rattle.words.specs.Words.{bytes, Below}
 use Rattle.files.specs.Judge.{judge_of}
-use Rattle.files.specs.declared.Judged.TheVariants.{Accepted}
-use Rattle.edits.specs.declared.Edited.TheVariants.{Refused}
+use Rattle.files.specs.Accepted.{accepted_with}
 use Rattle.edits.specs.Allowed.{fine}
 use Rattle.edits.specs.Calls.{Session, size_of, index_fits, afresh, Call, mark_call, rename_call, insert_call, remove_call, undo_call, words_of, session_fault, step}
 use Rattle.edits.specs.Book.{Run, ran, noting, was_refused, applied, undos}
@@ -52,7 +52,7 @@ used_bytes s = take s.used s.file
 pub record AcceptedFile (dim : ℕ) (s : Session) : Type 0 where
   pub elements : ℕ
   pub deepest : ℕ
-  pub judged : judge_of dim (used_bytes s) ≡ Accepted elements deepest (s.used / 2 - 1)
+  pub judged : judge_of dim (used_bytes s) ≡ accepted_with elements deepest (s.used / 2 - 1)
 
 -- what holds of a run r that started with the session s
 pub record Demand3 (dim : ℕ) (s : Session) (r : Run) : Type 0 where
@@ -73,7 +73,7 @@ pub record Demand3 (dim : ℕ) (s : Session) (r : Run) : Type 0 where
   -- an undo is refused exactly when the list is empty
   pub undo_refused : was_refused (step dim r.session undo_call).answer ≡ true ↔ r.book ≡ []
   -- and then it answers 17 at 0
-  pub undo_nothing : r.book ≡ [] → (step dim r.session undo_call).answer ≡ Refused 17 0
+  pub undo_nothing : r.book ≡ [] → (step dim r.session undo_call).answer ≡ refused_with 17 0
   -- of as many undos as the list is long none is refused
   pub undos_made : none_refused dim r (undos r.book) ≡ true
   -- they empty the list

@@ -10,3 +10,4 @@ pub mod Refusals
 pub mod Made
 pub mod Marks
 pub mod Causes
+pub mod UsedLengths

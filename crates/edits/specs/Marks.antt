@@ -3,7 +3,7 @@ use Rattle.std.specs.Prelude.{ℕ, ◌+◌, ◌≤◌, ◌<◌, ◌≡◌, Bool,
 use Rattle.words.specs.Words.{words, word_at, Below}
 use Rattle.files.specs.Judge.{judge_of}
 use Rattle.files.specs.Spots.{Spot, spots_of}
-use Rattle.files.specs.declared.Judged.TheVariants.{Accepted}
+use Rattle.files.specs.Accepted.{accepted_with}
 use Rattle.edits.specs.Edits.{mark, extent_in, extent_places, flagged, with_flags, apply}
 use Rattle.edits.specs.Allowed.{starts_at}
 use Rattle.edits.specs.Records.{record_of, reversal, reversible}
@@ -65,7 +65,7 @@ reflagged dim ws p bs = with_flags (extent_places (spots_of dim ws) p) bs ws
 -- a mark's record gives the words back whatever flags stand in the extent then
 abbrev pub FlagsBack : Type 0
 FlagsBack =
-    (dim : ℕ) (s : List ℕ) (e d m p : ℕ) (deleted : Bool) (bs : List Bool) → Below 256 s → judge_of dim s ≡ Accepted e d m → m + 1 ≡ length (words s) →
+    (dim : ℕ) (s : List ℕ) (e d m p : ℕ) (deleted : Bool) (bs : List Bool) → Below 256 s → judge_of dim s ≡ accepted_with e d m → m + 1 ≡ length (words s) →
     starts_at (spots_of dim (words s)) p ≡ true →
     (reversible dim (reflagged dim (words s) p bs) (record_of dim (words s) (mark p deleted)) ≡ true)
     × (apply dim (reflagged dim (words s) p bs) (reversal (reflagged dim (words s) p bs) (record_of dim (words s) (mark p deleted))) ≡ words s)

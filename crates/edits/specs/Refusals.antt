@@ -1,12 +1,12 @@
 -- With which numbers and places each call of a session is refused (RULES.md, "Refusals", "Order of checks").
 use Rattle.std.specs.Prelude.{ℕ, ◌<◌, max, ◌≡◌, ◌⊎◌, List, [], ◌∷◌, length}
 use Rattle.std.proofs.Math.Option.{Option}
+use Rattle.refusals.specs.Refusals.{refused_with}
 use Rattle.words.specs.Words.{words}
 use Rattle.words.specs.OneOf.{OneOf}
 use Rattle.files.specs.Refused.{RefusedBy}
 use Rattle.files.specs.Spots.{Spot, spots_of}
 use Rattle.grammar.specs.FirstFault.{ElementNumber}
-use Rattle.edits.specs.declared.Edited.TheVariants.{Refused}
 use Rattle.edits.specs.Edits.{down_to}
 use Rattle.edits.specs.Allowed.{fault, piece_fault}
 use Rattle.edits.specs.Calls.{Session, Call, mark_call, rename_call, insert_call, remove_call, undo_call, words_of, step}
@@ -34,7 +34,7 @@ abbrev pub RefusedSo : ℕ → Session → Call → ℕ → ℕ → Type 0
 RefusedSo dim s c n p = RefusedBy dim (used_bytes s) (own_numbers c) n p ⊎ PieceRefused dim (words_of s) c n p
 
 abbrev pub EveryRefusal : Type 0
-EveryRefusal = (dim : ℕ) (s : Session) (c : Call) (n p : ℕ) → (step dim s c).answer ≡ Refused n p → RefusedSo dim s c n p
+EveryRefusal = (dim : ℕ) (s : Session) (c : Call) (n p : ℕ) → (step dim s c).answer ≡ refused_with n p → RefusedSo dim s c n p
 
 -- the piece's own: a number of an element's faults, at a word of the piece; of an empty piece at 0
 abbrev pub PiecePlace : Type 0

@@ -5,7 +5,7 @@ use Rattle.std.proofs.Math.Option.{Option}
 use Rattle.words.specs.Words.{Below}
 use Rattle.limits.specs.Limits.{size_ok}
 use Rattle.files.specs.Judge.{judge_of}
-use Rattle.files.specs.declared.Judged.TheVariants.{Accepted}
+use Rattle.files.specs.Accepted.{accepted_with}
 use Rattle.edits.specs.Calls.{Index, Session, index_fits, afresh, used_words}
 use Rattle.edits.specs.Demand.{OpenedEmpty}
 
@@ -26,6 +26,6 @@ start_words file m = used_words file (2 * (m + 1))
 -- buffer of so many bytes, if there is one
 abbrev pub AcceptedOpens : Type 0
 AcceptedOpens =
-    (dim : ℕ) (s file journal : List ℕ) (e d m : ℕ) (beside : Option ℕ) → judge_of dim s ≡ Accepted e d m →
+    (dim : ℕ) (s file journal : List ℕ) (e d m : ℕ) (beside : Option ℕ) → judge_of dim s ≡ accepted_with e d m →
     take (2 * (m + 1)) file ≡ take (2 * (m + 1)) s → Buffer file → Buffer journal →
     index_fits dim (start_words file m) beside ≡ true → OpenedEmpty dim (start_on file m journal (afresh dim (start_words file m) beside))

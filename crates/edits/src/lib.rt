@@ -3,9 +3,9 @@
 
 #![tactic(auto)]
 
-// What a call of a session answers: the new used lengths in bytes, or a number and a place.
+// What a call of a session that is made answers: the new used lengths in bytes.
 #[derive(Clone, Copy)]
-pub enum Edited {
-    Made { used: usize, jused: usize },
-    Refused { number: usize, place: usize },
+pub struct UsedLengths {
+    pub used: usize,
+    pub jused: usize,
 }

@@ -11,8 +11,6 @@ use Rattle.words.specs.Words.{words, Below, word_at}
 use Rattle.names.specs.Names.{name_ok}
 use Rattle.files.specs.Spots.{Spot, spots_of, spot_in}
 use Rattle.places.specs.declared.Above.{Above}
-use Rattle.places.specs.declared.Spotted.{Spotted}
-use Rattle.places.specs.declared.Spotted.TheVariants as spotted
 use Rattle.places.specs.Descent.{locate_of}
 use Rattle.edits.specs.Bits.{flags_ok}
 use Rattle.edits.specs.Allowed.{fine, fault, unless, is_some, same_header, is_under, remove_fault, restore_fault, edit_fault}
@@ -26,6 +24,9 @@ use Rattle.faults.proofs.ExactMarks.{numbered, at_is, under_is, rename_is}
 use Rattle.faults.specs.Inserting.{insert_refusal}
 use Rattle.faults.proofs.ExactInserts.{insert_is}
 use Rattle.faults.specs.Reversing.{flags_fit, reverses_at}
+use Rattle.std.specs.Prelude.{Err, Ok, Result}
+use Rattle.places.specs.declared.Spotted.{Spotted}
+use Rattle.refusals.specs.declared.Refusal.{Refusal}
 
 -- the record of a kind (1 flag, 2 rename, 3 insert, else remove)
 abbrev pub record_by : ℕ → Option ℕ → ℕ → List ℕ → Rec
@@ -63,10 +64,10 @@ module _ (dim : ℕ) (s : List ℕ) (m : ℕ) (used : AcceptedUsed dim s m) (bel
       flag_is : flags_fit (locate_of (words s) p m) (words s) p x ≡ reversible dim (words s) (record_by 1 (header_of h) p x)
       flag_is = found (locate_of (words s) p m) refl
         where
-          found : (f : Spotted) → locate_of (words s) p m ≡ f → flags_fit f (words s) p x ≡ reversible dim (words s) (record_by 1 (header_of h) p x)
-          found (spotted.At end depth above) e =
-              rw (found_starts dim s m used below p end depth above e, found_places dim s m used below p end depth above e) (is_fine_unless (flags_ok (length (places_in (words s) p end)) x) 19)
-          found (spotted.Refused n q) e = rw (sym (at_is dim s m used p), e) refl
+          found : (f : Result Spotted Refusal) → locate_of (words s) p m ≡ f → flags_fit f (words s) p x ≡ reversible dim (words s) (record_by 1 (header_of h) p x)
+          found (Ok spot) e =
+              rw (found_starts dim s m used below p spot.end spot.depth spot.above e, found_places dim s m used below p spot.end spot.depth spot.above e) (is_fine_unless (flags_ok (length (places_in (words s) p spot.end)) x) 19)
+          found (Err refusal) e = rw (sym (at_is dim s m used p), e) refl
 
       renamed_is : eqb (rename_number (words s) (locate_of (words s) p m) p (name_ok (word_at x 0) (word_at x 1))) 0 ≡ reversible dim (words s) (record_by 2 (header_of h) p x)
       renamed_is = numbered_fine (rename_number (words s) (locate_of (words s) p m) p (name_ok (word_at x 0) (word_at x 1))) ∙ ap is_fine (rename_is dim s m used p (name_ok (word_at x 0) (word_at x 1)))

@@ -1,3 +1,4 @@
 pub mod Faults
 pub mod Inserting
 pub mod Reversing
+pub mod Components

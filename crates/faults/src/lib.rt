@@ -10,43 +10,20 @@ ghost use Rattle.std.specs.Prelude.{◌≡◌, ◌||◌, eqb};
 ghost use Rattle.words.specs.Words.{words};
 ghost use Rattle.edits.specs.Allowed.{flag_differs, piece_refusal};
 ghost use Rattle.places.specs.declared.Above.TheVariants.{Under};
-ghost use Rattle.faults.specs.Faults.{is_at, end_of, mark_number, rename_number, same_above, stands_under};
+ghost use Rattle.faults.specs.Faults.{end_of, mark_number, rename_number, same_above, stands_under};
 ghost use Rattle.faults.specs.Inserting.{components_of, room_under, insert_refusal, answer_of};
 ghost use Rattle.faults.specs.Reversing.{flags_fit, reverses_at};
 
 use places::{Above, Spotted};
-
-// Whether an element starts at a place, by what was found there.
-fn is_at(found: Spotted) -> bool
-    ensures { result ≡ is_at found }
-{
-    match found {
-        Spotted::At {
-            end: _,
-            depth: _,
-            above: _,
-        } => true,
-        Spotted::Refused {
-            number: _,
-            place: _,
-        } => false,
-    }
-}
+use refusals::Refusal;
 
 // The place behind the extent that was found, 0 where none was.
-pub fn end_of(found: Spotted) -> usize
+pub fn end_of(found: Result<Spotted, Refusal>) -> usize
     ensures { result ≡ end_of found }
 {
     match found {
-        Spotted::At {
-            end,
-            depth: _,
-            above: _,
-        } => end,
-        Spotted::Refused {
-            number: _,
-            place: _,
-        } => 0,
+        Ok(spot) => spot.end,
+        Err(_) => 0,
     }
 }
 
@@ -61,28 +38,36 @@ fn flag_differs(w: usize, deleted: bool) -> bool
 }
 
 // The number that marking an element deleted or live answers, 0 for none.
-pub fn mark_fault(used: &[u8], found: Spotted, place: usize, deleted: bool) -> usize
+pub fn mark_fault(
+    used: &[u8],
+    found: Result<Spotted, Refusal>,
+    place: usize,
+    deleted: bool,
+) -> usize
     ensures { result ≡ mark_number (words used.now) found place deleted }
 {
-    if is_at(found) {
-        if flag_differs(words::word(used, place), deleted) {
-            return 0;
-        }
+    if found.is_err() {
+        return 13;
+    }
+    if !flag_differs(words::word(used, place), deleted) {
         return 14;
     }
-    13
+    0
 }
 
 // The number that renaming a cell answers, 0 for none; the text is a name or it is not.
-pub fn rename_fault(used: &[u8], found: Spotted, place: usize, named: bool) -> usize
+pub fn rename_fault(
+    used: &[u8],
+    found: Result<Spotted, Refusal>,
+    place: usize,
+    named: bool,
+) -> usize
     ensures { result ≡ rename_number (words used.now) found place named }
 {
-    let there = is_at(found);
-    let cell = cells::is_cell(used, place);
-    if !there {
+    if found.is_err() {
         return 13;
     }
-    if !cell {
+    if !cells::is_cell(used, place) {
         return 18;
     }
     if !named {
@@ -108,83 +93,57 @@ pub fn same_above(a: Above, b: Above) -> bool
 }
 
 // Whether an element starts at a place, directly under a header or at the top, by what was found there.
-fn stands_under(found: Spotted, header: Above) -> bool
+fn stands_under(found: Result<Spotted, Refusal>, header: Above) -> bool
     ensures { result ≡ stands_under found header }
 {
     match found {
-        Spotted::At {
-            end: _,
-            depth: _,
-            above,
-        } => same_above(above, header),
-        Spotted::Refused {
-            number: _,
-            place: _,
-        } => false,
+        Ok(spot) => same_above(spot.above, header),
+        Err(_) => false,
     }
-}
-
-// What an insert is answered.
-#[derive(Clone, Copy)]
-pub enum Insertion {
-    Allowed,
-    Refused { number: usize, place: usize },
 }
 
 // The components under a header, or at the top: where their list ends, their depth and the type above them.
 #[derive(Clone, Copy)]
-enum Components {
-    Absent,
-    Listed {
-        end: usize,
-        depth: usize,
-        under: usize,
-    },
+struct Components {
+    end: usize,
+    depth: usize,
+    under: usize,
 }
 
 // The components under the header at a place.
-fn components_under(used: &[u8], marker: usize, header: usize) -> Components
+fn components_under(used: &[u8], marker: usize, header: usize) -> Option<Components>
     ensures { result ≡ components_of (words used.now) marker (Under header) }
 {
-    match places::locate(used, header, marker) {
-        Spotted::At {
-            end,
-            depth,
-            above: _,
-        } => {
-            let under = headers::type_at(used, header);
-            if kinds::is_header(under) {
-                return Components::Listed {
-                    end,
-                    depth: depth + 1,
-                    under,
-                };
-            }
-            Components::Absent
-        }
-        Spotted::Refused {
-            number: _,
-            place: _,
-        } => Components::Absent,
+    let Ok(spot) = places::locate(used, header, marker) else {
+        return None;
+    };
+    let under = headers::type_at(used, header);
+    if !kinds::is_header(under) {
+        return None;
     }
+    Some(Components {
+        end: spot.end,
+        depth: spot.depth + 1,
+        under,
+    })
 }
 
 // The components under a header, or at the top.
-fn components_of(used: &[u8], marker: usize, header: Above) -> Components
+fn components_of(used: &[u8], marker: usize, header: Above) -> Option<Components>
     ensures { result ≡ components_of (words used.now) marker header }
 {
     match header {
-        Above::Top => Components::Listed {
+        Above::Top => Some(Components {
             end: marker,
             depth: 0,
             under: 0,
-        },
+        }),
         Above::Under { place } => components_under(used, marker, place),
     }
 }
 
 // Whether a direct component starts at a place or the list ends there.
-fn gap_at(found: Spotted, header: Above, end: usize, place: usize) -> bool
+fn gap_at(found: Result<Spotted, Refusal>, header: Above, end: usize, place: usize) -> bool
     ensures { result ≡ (stands_under found header || eqb end place) }
 {
     if stands_under(found, header) {
@@ -194,41 +153,32 @@ fn gap_at(found: Spotted, header: Above, end: usize, place: usize) -> bool
 }
 
 // The piece's own refusal at its new depth under its new header; words left over last.
-fn piece_fault(piece: &[u8], depth: usize, under: usize, dim: usize) -> Insertion
+fn piece_fault(piece: &[u8], depth: usize, under: usize, dim: usize) -> Result<(), Refusal>
     ensures { result ≡ answer_of (piece_refusal dim depth under (words piece.now)) }
 {
     let size = piece.len() / 2;
-    match files::element(piece, 0, depth, under, dim) {
-        files::Verdict::Fault { number, place } => Insertion::Refused { number, place },
-        files::Verdict::Good {
-            next,
-            elements: _,
-            deepest: _,
-            direct: _,
-        } => {
-            if next == size {
-                return Insertion::Allowed;
-            }
-            Insertion::Refused {
-                number: 3,
-                place: next,
-            }
-        }
+    let judged = files::element(piece, 0, depth, under, dim)?;
+    if judged.next == size {
+        return Ok(());
     }
+    Err(Refusal {
+        number: 3,
+        place: judged.next,
+    })
 }
 
 // 8 at the outermost header around the place that would grow too large by n words.
-fn room_under(used: &[u8], header: Above, n: usize) -> Insertion
+fn room_under(used: &[u8], header: Above, n: usize) -> Result<(), Refusal>
     ensures { result ≡ answer_of (room_under used.now header n) }
 {
     match header {
-        Above::Top => Insertion::Allowed,
+        Above::Top => Ok(()),
         Above::Under { place } => match totals::room_fault(used, place, n) {
-            totals::Room::Fine => Insertion::Allowed,
-            totals::Room::Full { place: full } => Insertion::Refused {
+            totals::Room::Fine => Ok(()),
+            totals::Room::Full { place: full } => Err(Refusal {
                 number: 8,
                 place: full,
-            },
+            }),
         },
     }
 }
@@ -238,50 +188,28 @@ pub fn insert_fault(
     used: &[u8],
     dim: usize,
     marker: usize,
-    found: Spotted,
+    found: Result<Spotted, Refusal>,
     header: Above,
     place: usize,
     piece: &[u8],
-) -> Insertion
+) -> Result<(), Refusal>
     ensures { result ≡ answer_of (insert_refusal dim used.now marker found header place (words piece.now)) }
 {
-    match components_of(used, marker, header) {
-        Components::Absent => Insertion::Refused {
-            number: 13,
-            place: 0,
-        },
-        Components::Listed { end, depth, under } => {
-            if !gap_at(found, header, end, place) {
-                return Insertion::Refused {
-                    number: 13,
-                    place: 0,
-                };
-            }
-            match piece_fault(piece, depth, under, dim) {
-                Insertion::Refused { number, place: at } => Insertion::Refused {
-                    number,
-                    place: at,
-                },
-                Insertion::Allowed => room_under(used, header, piece.len() / 2),
-            }
-        }
+    let list = components_of(used, marker, header).ok_or(opening::refused(13))?;
+    if !gap_at(found, header, list.end, place) {
+        return Err(opening::refused(13));
     }
+    piece_fault(piece, list.depth, list.under, dim)?;
+    room_under(used, header, piece.len() / 2)
 }
 
 // Whether a payload is the flags of the extent that was found at a place.
-fn flags_fit(used: &[u8], found: Spotted, place: usize, payload: &[u8]) -> bool
+fn flags_fit(used: &[u8], found: Result<Spotted, Refusal>, place: usize, payload: &[u8]) -> bool
     ensures { result ≡ flags_fit found (words used.now) place (words payload.now) }
 {
     match found {
-        Spotted::At {
-            end,
-            depth: _,
-            above: _,
-        } => flags::flags_ok(flags::count(used, place, end), payload),
-        Spotted::Refused {
-            number: _,
-            place: _,
-        } => false,
+        Ok(spot) => flags::flags_ok(flags::count(used, place, spot.end), payload),
+        Err(_) => false,
     }
 }
 
@@ -291,7 +219,7 @@ pub fn reversible(
     used: &[u8],
     dim: usize,
     marker: usize,
-    found: Spotted,
+    found: Result<Spotted, Refusal>,
     kind: usize,
     header: Above,
     place: usize,
@@ -309,11 +237,5 @@ pub fn reversible(
     if kind == 3 {
         return stands_under(found, header);
     }
-    match insert_fault(used, dim, marker, found, header, place, payload) {
-        Insertion::Allowed => true,
-        Insertion::Refused {
-            number: _,
-            place: _,
-        } => false,
-    }
+    insert_fault(used, dim, marker, found, header, place, payload).is_ok()
 }

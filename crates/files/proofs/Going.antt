@@ -15,13 +15,16 @@ use Rattle.elements.specs.declared.Head.{Head}
 use Rattle.elements.specs.declared.Head.TheVariants.{Bad, Plain, Complex}
 use Rattle.elements.proofs.Laws.{Checked, head_means}
 use Rattle.files.specs.declared.Stop.TheVariants.{More}
-use Rattle.files.specs.declared.Verdict.{Verdict}
-use Rattle.files.specs.declared.Verdict.TheVariants.{Good, Fault}
 use Rattle.files.specs.declared.Progress.TheVariants.{Stopped, Halted, Broken}
 use Rattle.files.specs.Ends.{stop_of}
 use Rattle.files.specs.Reach.{stops_after}
 use Rattle.files.specs.Progress.{IsElement, ElementJudged, list_in, tally, stop_in, ElementIs, ListJudged, GoodAt, Run, stops_in, GoodIn, Steps, depth_of, Gone, Progressed}
 use Rattle.files.proofs.Laws.{passed_none, passed_more, element_plain, element_complex, element_counted, element_miscounted}
+use Rattle.std.specs.Prelude.{Result, Ok, Err}
+use Rattle.files.specs.Judgement.{good_with}
+use Rattle.files.specs.declared.Judgement.{Judgement}
+use Rattle.refusals.specs.Refusals.{refused_with}
+use Rattle.refusals.specs.declared.Refusal.{Refusal}
 
 ---- what stands at an element's head
 
@@ -57,14 +60,14 @@ module _ {dim depth under : ℕ} {s : List ℕ} {at bound : ℕ} {h : Head} (hea
   pub more_complex : {inner end : ℕ} → h ≡ Complex inner end → stop_of depth (words s) at bound ≡ More
   more_complex e = stop_head _ _ _ _ _ _ (head_means dim depth under (words s) at bound _ (sym head.is ∙ e)).0
 
-  module _ {inner end type : ℕ} {v : Verdict} (e : h ≡ Complex inner end) (t : type ≡ type_at (words s) at) (l : ListJudged (list_in dim (depth + 1) type s inner end) v) where
-    pub fault_beneath : {n p : ℕ} → v ≡ Fault n p → IsElement dim depth under (words s) at bound (Fault n p)
+  module _ {inner end type : ℕ} {v : Result Judgement Refusal} (e : h ≡ Complex inner end) (t : type ≡ type_at (words s) at) (l : ListJudged (list_in dim (depth + 1) type s inner end) v) where
+    pub fault_beneath : {x : Refusal} → v ≡ Err x → IsElement dim depth under (words s) at bound (Err x)
     fault_beneath f =
         let w = rw e at head.within in
         element_complex _ _ _ _ _ _ _ _ _ (sym head.is ∙ e) (omega arith) (rw (f, t) at l.is)
 
-    module _ {next elements deepest direct : ℕ} {b : Bool} (g : v ≡ Good next elements deepest direct) (o : b ≡ count_ok (words s) at direct) where
-      pub good_complex : {m : ℕ} → b ≡ true → m ≡ max depth deepest → ElementJudged (list_in dim depth under s at bound) (Good end (1 + elements) m 1)
+    module _ {list : Judgement} {b : Bool} (g : v ≡ Ok list) (o : b ≡ count_ok (words s) at list.direct) where
+      pub good_complex : {m : ℕ} → b ≡ true → m ≡ max depth list.deepest → ElementJudged (list_in dim depth under s at bound) (good_with end (1 + list.elements) m 1)
       good_complex y q =
           let w = rw e at head.within in
           let u = rw g at l.within in
@@ -81,7 +84,7 @@ module _ {dim depth under : ℕ} {s : List ℕ} {at bound : ℕ} {h : Head} (hea
             words_each = omega arith;
           }
 
-      pub fault_count : b ≡ false → IsElement dim depth under (words s) at bound (Fault 9 at)
+      pub fault_count : b ≡ false → IsElement dim depth under (words s) at bound (refused_with 9 at)
       fault_count y =
           let w = rw e at head.within in
           element_miscounted _ _ _ _ _ _ _ _ _ _ _ _ (sym head.is ∙ e) (omega arith) (rw (g, t) at l.is) (sym o ∙ y)
@@ -141,8 +144,7 @@ module _ {run : Run} {here below deepest direct : ℕ} (g : Going run here below
       d ≡ depth_of direct run.list.depth deepest → Progressed run (Halted n here (direct + below) d direct)
   going_halted head e q = record { gone = rw q g.gone; head = sym head.is ∙ e }
 
-  pub going_broken : {n p : ℕ} → stop_in run.list here ≡ More → ElementIs run.list here (Fault n p) →
-      Progressed run (Broken n p)
+  pub going_broken : {x : Refusal} → stop_in run.list here ≡ More → ElementIs run.list here (Err x) → Progressed run (Broken x)
   going_broken m f = record { here = here; before = _; gone = g.gone; more = m; fault = f }
 
   -- one more element

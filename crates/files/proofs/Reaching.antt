@@ -8,31 +8,35 @@ use native.Mathlib.Nat.{zero-add, zero-max}
 use borrow.Author.Tests.{ltb-true, lt-ltb}
 use Rattle.words.specs.Words.{words}
 use Rattle.files.specs.declared.Stop.TheVariants.{More, Done, Lacking}
-use Rattle.files.specs.declared.Verdict.TheVariants.{Good, Fault}
 use Rattle.files.specs.declared.Progress.TheVariants.{Stopped, Halted, Broken}
-use Rattle.files.specs.declared.Reached.{Reached}
 use Rattle.files.specs.declared.Reached.TheVariants as reached
 use Rattle.files.specs.Ends.{stop_of}
 use Rattle.files.specs.Judge.{element_of}
 use Rattle.files.specs.Reach.{stops_after, reached_from, reached_of}
 use Rattle.files.specs.Progress.{ListIn, list_in, Tally, stop_in, ListJudged, GoodAt, Run, run_of, Steps, Gone, StoppedAt, Progressed}
 use Rattle.files.proofs.Laws.{passed_done, passed_lacking, passed_refused, element_bad, element_of_lem}
+use Rattle.std.specs.Prelude.{Result, Err}
+use Rattle.files.specs.Judgement.{good_with}
+use Rattle.files.specs.ReachedAnswers.{an_element, an_end}
+use Rattle.files.specs.declared.Reached.{Reached}
+use Rattle.refusals.specs.Refusals.{refused_with}
+use Rattle.refusals.specs.declared.Refusal.{Refusal}
 
 ---- a whole list
 
 module _ {run : Run} where
   module _ {n p e d k : ℕ} (x : Progressed run (Halted n p e d k)) where
-    pub halted_done : stop_in run.list p ≡ Done → ListJudged run.list (Good p e d k)
+    pub halted_done : stop_in run.list p ≡ Done → ListJudged run.list (good_with p e d k)
     halted_done h = record { is = passed_done run.list p _ x.gone.passed h; within = (x.gone.words_each, x.gone.inside) }
 
-    pub halted_lacking : stop_in run.list p ≡ Lacking → ListJudged run.list (Fault 2 p)
+    pub halted_lacking : stop_in run.list p ≡ Lacking → ListJudged run.list (refused_with 2 p)
     halted_lacking h = record { is = passed_lacking run.list p _ x.gone.passed h; within = tt }
 
-    pub halted_more : stop_in run.list p ≡ More → ListJudged run.list (Fault n p)
+    pub halted_more : stop_in run.list p ≡ More → ListJudged run.list (refused_with n p)
     halted_more h = record { is = passed_refused run.list p _ x.gone.passed h n p (element_bad _ _ _ _ _ _ _ x.head); within = tt }
 
-  pub broken_list : {n p : ℕ} → Progressed run (Broken n p) → ListJudged run.list (Fault n p)
-  broken_list {n} {p} x = record { is = passed_refused run.list x.here _ x.gone.passed x.more n p x.fault; within = tt }
+  pub broken_list : {r : Refusal} → Progressed run (Broken r) → ListJudged run.list (Err r)
+  broken_list {r} x = record { is = passed_refused run.list x.here _ x.gone.passed x.more r.number r.place x.fault; within = tt }
 
 -- no element ends after the bound
 pub never_stops : {l : ListIn} {last next : ℕ} {t : Tally} → StoppedAt (run_of l l.bound false) last next t → ⊥
@@ -58,51 +62,51 @@ module _ {l : ListIn} where
   gone_none {here = here} {t = t} x = steps_none l t.direct here x.steps
 
   pub stopped_element : {next last e d k : ℕ} → Progressed (one_of l) (Stopped next last e d k) →
-      Good next e d k ≡ element_of l.dim l.depth l.under (words l.file) l.at l.bound
+      good_with next e d k ≡ element_of l.dim l.depth l.under (words l.file) l.at l.bound
   stopped_element x =
       let o = gone_none x.gone in
       let z = x.gone.none o.0 in
       rw (x.all, x.deep, x.counted, z.0, z.1, o.0, zero-add x.own, zero-max x.depth_own) (element_of_lem _ _ _ _ _ _ _ (rw o.1 x.good.good))
 
   pub halted_element : {n p e d k : ℕ} → Progressed (one_of l) (Halted n p e d k) →
-      Fault n p ≡ element_of l.dim l.depth l.under (words l.file) l.at l.bound
+      refused_with n p ≡ element_of l.dim l.depth l.under (words l.file) l.at l.bound
   halted_element x =
       let o = gone_none x.gone in
       rw (sym o.1) (element_of_lem _ _ _ _ _ _ _ (element_bad _ _ _ _ _ _ _ (rw o.1 x.head)))
 
-  pub broken_element : {n p : ℕ} → Progressed (one_of l) (Broken n p) →
-      Fault n p ≡ element_of l.dim l.depth l.under (words l.file) l.at l.bound
+  pub broken_element : {r : Refusal} → Progressed (one_of l) (Broken r) →
+      Err r ≡ element_of l.dim l.depth l.under (words l.file) l.at l.bound
   broken_element x = let o = gone_none x.gone in element_of_lem _ _ _ _ _ _ _ (rw o.1 x.fault)
 
 ---- the elements at the top
 
 -- r is what is reached, whatever the number of reachedFrom, where it is enough
-abbrev pub IsReached : ℕ → List ℕ → ℕ → Bool → ℕ → ℕ → ℕ → Reached → Type 0
+abbrev pub IsReached : ℕ → List ℕ → ℕ → Bool → ℕ → ℕ → ℕ → Result Reached Refusal → Type 0
 IsReached dim ws until each bound before at r = (n : ℕ) → bound - at < n → r ≡ reached_from n dim ws until each before at bound
 
 module _ (dim : ℕ) (ws : List ℕ) (until : ℕ) (each : Bool) (bound before at : ℕ) where
-  reach_done : stop_of 0 ws at bound ≡ Done → IsReached dim ws until each bound before at (reached.End at before)
+  reach_done : stop_of 0 ws at bound ≡ Done → IsReached dim ws until each bound before at (an_end at before)
   unfolding reached_from
   reach_done h zero l = absurd (omega arith)
   reach_done h (suc n) l = rw h refl
 
-  reach_lacking : stop_of 0 ws at bound ≡ Lacking → IsReached dim ws until each bound before at (reached.Refused 2 at)
+  reach_lacking : stop_of 0 ws at bound ≡ Lacking → IsReached dim ws until each bound before at (refused_with 2 at)
   unfolding reached_from
   reach_lacking h zero l = absurd (omega arith)
   reach_lacking h (suc n) l = rw h refl
 
-  reach_fault : (k p : ℕ) → stop_of 0 ws at bound ≡ More → Fault k p ≡ element_of dim 0 0 ws at bound → IsReached dim ws until each bound before at (reached.Refused k p)
+  reach_fault : (k p : ℕ) → stop_of 0 ws at bound ≡ More → refused_with k p ≡ element_of dim 0 0 ws at bound → IsReached dim ws until each bound before at (refused_with k p)
   unfolding reached_from
   reach_fault k p h e zero l = absurd (omega arith)
   reach_fault k p h e (suc n) l = rw (h, sym e) refl
 
   module _ {next e d : ℕ} (g : GoodAt dim 0 0 ws bound at next e d) where
-    reach_stop : stops_after ws until each at next ≡ true → IsReached dim ws until each bound before at (reached.Element at next before)
+    reach_stop : stops_after ws until each at next ≡ true → IsReached dim ws until each bound before at (an_element at next before)
     unfolding reached_from
     reach_stop h zero l = absurd (omega arith)
     reach_stop h (suc n) l = rw (g.more, sym (element_of_lem _ _ _ _ _ _ _ g.good), h) refl
 
-    reach_on : (r : Reached) → stops_after ws until each at next ≡ false → IsReached dim ws until each bound (before + 1) next r → IsReached dim ws until each bound before at r
+    reach_on : (r : Result Reached Refusal) → stops_after ws until each at next ≡ false → IsReached dim ws until each bound (before + 1) next r → IsReached dim ws until each bound before at r
     unfolding reached_from
     reach_on r h i zero l = absurd (omega arith)
     reach_on r h i (suc n) l = let o = g.on in let b = g.by in rw (g.more, sym (element_of_lem _ _ _ _ _ _ _ g.good), h) (i n (omega arith))
@@ -111,37 +115,37 @@ module _ (dim : ℕ) (ws : List ℕ) (until : ℕ) (each : Bool) (bound before a
 abbrev top_run : ℕ → List ℕ → ℕ → ℕ → ℕ → Bool → Run
 top_run dim s at bound until each = run_of (list_in dim 0 0 s at bound) until each
 
-reach_steps : (dim : ℕ) (s : List ℕ) (at bound until : ℕ) (each : Bool) (k here : ℕ) (r : Reached) → Steps (top_run dim s at bound until each) k here →
+reach_steps : (dim : ℕ) (s : List ℕ) (at bound until : ℕ) (each : Bool) (k here : ℕ) (r : Result Reached Refusal) → Steps (top_run dim s at bound until each) k here →
     IsReached dim (words s) until each bound k here r → IsReached dim (words s) until each bound 0 at r
 reach_steps dim s at bound until each zero here r x i = rw (sym x) at i
 reach_steps dim s at bound until each (suc k) here r (last, e, d, (x, (g, n))) i =
     let z : suc k ≡ k + 1 = omega arith in
     reach_steps dim s at bound until each k last r x (reach_on dim (words s) until each bound k last g r n (rw z at i))
 
-pub reach_of : (dim : ℕ) (ws : List ℕ) (until : ℕ) (each : Bool) (bound at : ℕ) (r : Reached) → IsReached dim ws until each bound 0 at r → r ≡ reached_of dim ws at bound until each
+pub reach_of : (dim : ℕ) (ws : List ℕ) (until : ℕ) (each : Bool) (bound at : ℕ) (r : Result Reached Refusal) → IsReached dim ws until each bound 0 at r → r ≡ reached_of dim ws at bound until each
 unfolding reached_of
 reach_of dim ws until each bound at r i = i (suc (bound - at)) (omega arith)
 
 module _ {dim : ℕ} {s : List ℕ} {at bound until : ℕ} {each : Bool} where
-  from_gone : {here : ℕ} {t : Tally} (r : Reached) → Gone (top_run dim s at bound until each) here t → IsReached dim (words s) until each bound t.direct here r →
+  from_gone : {here : ℕ} {t : Tally} (r : Result Reached Refusal) → Gone (top_run dim s at bound until each) here t → IsReached dim (words s) until each bound t.direct here r →
       r ≡ reached_of dim (words s) at bound until each
   from_gone {here = here} {t = t} r x i =
       reach_of dim (words s) until each bound at r (reach_steps dim s at bound until each t.direct here r x.steps i)
 
-  pub reach_stopped : {next last e d k : ℕ} → Progressed (top_run dim s at bound until each) (Stopped next last e d k) → reached.Element last next (k - 1) ≡ reached_of dim (words s) at bound until each
+  pub reach_stopped : {next last e d k : ℕ} → Progressed (top_run dim s at bound until each) (Stopped next last e d k) → an_element last next (k - 1) ≡ reached_of dim (words s) at bound until each
   reach_stopped {k = k} x =
       let z : k - 1 ≡ x.before.direct = omega (arith, x.counted) in
       rw z (from_gone _ x.gone (reach_stop _ _ _ _ _ _ _ x.good x.stops))
 
-  pub reach_broken : {n p : ℕ} → Progressed (top_run dim s at bound until each) (Broken n p) → reached.Refused n p ≡ reached_of dim (words s) at bound until each
+  pub reach_broken : {r : Refusal} → Progressed (top_run dim s at bound until each) (Broken r) → Err r ≡ reached_of dim (words s) at bound until each
   reach_broken x = from_gone _ x.gone (reach_fault _ _ _ _ _ _ _ _ _ x.more (element_of_lem _ _ _ _ _ _ _ x.fault))
 
   module _ {n p e d k : ℕ} (x : Progressed (top_run dim s at bound until each) (Halted n p e d k)) where
-    pub reach_halted_done : stop_of 0 (words s) p bound ≡ Done → reached.End p k ≡ reached_of dim (words s) at bound until each
+    pub reach_halted_done : stop_of 0 (words s) p bound ≡ Done → an_end p k ≡ reached_of dim (words s) at bound until each
     reach_halted_done h = from_gone _ x.gone (reach_done _ _ _ _ _ _ _ h)
 
-    pub reach_halted_lacking : stop_of 0 (words s) p bound ≡ Lacking → reached.Refused 2 p ≡ reached_of dim (words s) at bound until each
+    pub reach_halted_lacking : stop_of 0 (words s) p bound ≡ Lacking → refused_with 2 p ≡ reached_of dim (words s) at bound until each
     reach_halted_lacking h = from_gone _ x.gone (reach_lacking _ _ _ _ _ _ _ h)
 
-    pub reach_halted_more : stop_of 0 (words s) p bound ≡ More → reached.Refused n p ≡ reached_of dim (words s) at bound until each
+    pub reach_halted_more : stop_of 0 (words s) p bound ≡ More → refused_with n p ≡ reached_of dim (words s) at bound until each
     reach_halted_more h = from_gone _ x.gone (reach_fault _ _ _ _ _ _ _ _ _ h (element_of_lem _ _ _ _ _ _ _ (element_bad _ _ _ _ _ _ _ x.head)))

@@ -4,3 +4,6 @@ pub mod Progress
 pub mod Spots
 pub mod Ends
 pub mod Refused
+pub mod Accepted
+pub mod Judgement
+pub mod ReachedAnswers

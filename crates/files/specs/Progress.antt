@@ -1,39 +1,40 @@
 -- The contracts of judging's private functions, which no public one cites: of an element, and of how far the elements of one
 -- list were judged, one after another.
-use Rattle.std.specs.Prelude.{ℕ, zero, suc, ◌+◌, ◌-◌, ◌*◌, ◌<◌, ◌≤◌, max, ◌≡◌, Bool, true, false, cond, List, eqb}
+use Rattle.std.specs.Prelude.{ℕ, zero, suc, ◌+◌, ◌-◌, ◌*◌, ◌<◌, ◌≤◌, max, ◌≡◌, Bool, true, false, cond, List, eqb, Err, Ok, Result}
 use Rattle.words.specs.Words.{words}
 use Rattle.elements.specs.Rules.{head_of}
 use Rattle.elements.specs.declared.Head.{Head}
 use Rattle.elements.specs.declared.Head.TheVariants.{Bad}
 use Rattle.files.specs.declared.Stop.{Stop}
 use Rattle.files.specs.declared.Stop.TheVariants.{More}
-use Rattle.files.specs.declared.Verdict.{Verdict}
-use Rattle.files.specs.declared.Verdict.TheVariants.{Good, Fault}
 use Rattle.files.specs.declared.Progress.{Progress}
 use Rattle.files.specs.declared.Progress.TheVariants.{Stopped, Halted, Broken}
 use Rattle.files.specs.Ends.{stop_of}
 use Rattle.files.specs.Judge.{add_to, element_from, list_from}
 use Rattle.files.specs.Reach.{stops_after}
+use Rattle.files.specs.Judgement.{good_with}
+use Rattle.files.specs.declared.Judgement.{Judgement}
+use Rattle.refusals.specs.declared.Refusal.{Refusal}
 
 -- r is what the element is judged to be, whatever the number of elementFrom, where it is enough
-abbrev pub IsElement : ℕ → ℕ → ℕ → List ℕ → ℕ → ℕ → Verdict → Type 0
+abbrev pub IsElement : ℕ → ℕ → ℕ → List ℕ → ℕ → ℕ → Result Judgement Refusal → Type 0
 IsElement dim depth under ws at bound r = (n : ℕ) → 2 * (bound - at) < n → r ≡ element_from n dim depth under ws at bound
 
 -- r is what the list is judged to be, whatever the number of list_from, where it is enough
-abbrev pub IsList : ℕ → ℕ → ℕ → List ℕ → ℕ → ℕ → Verdict → Type 0
+abbrev pub IsList : ℕ → ℕ → ℕ → List ℕ → ℕ → ℕ → Result Judgement Refusal → Type 0
 IsList dim depth under ws at bound r = (n : ℕ) → 2 * (bound - at) + 1 < n → r ≡ list_from n dim depth under ws at bound
 
 -- a good element of a list, with e elements in all, the deepest at depth d
 pub record GoodAt (dim depth under : ℕ) (ws : List ℕ) (bound at next e d : ℕ) : Type 0 where
   pub more : stop_of depth ws at bound ≡ More
-  pub good : IsElement dim depth under ws at bound (Good next e d 1)
+  pub good : IsElement dim depth under ws at bound (good_with next e d 1)
   pub on : at < next
   pub by : next ≤ bound
 
 -- the bounds of an answer: each of its elements has a word of its own between `at` and `next`
-abbrev pub Within : ℕ → ℕ → Verdict → Type 0
-Within at bound (Good next e d k) = (at + e ≤ next) × (next ≤ max at bound)
-Within at bound (Fault n p) = Unit
+abbrev pub Within : ℕ → ℕ → Result Judgement Refusal → Type 0
+Within at bound (Ok judged) = (at + judged.elements ≤ judged.next) × (judged.next ≤ max at bound)
+Within at bound (Err refusal) = Unit
 
 ---- a list of elements, and what is found of it
 
@@ -67,20 +68,20 @@ abbrev pub head_in : ListIn → ℕ → Head
 head_in l here = head_of l.dim l.depth l.under (words l.file) here l.bound
 
 -- what its element at a place, or its rest from a place on, is judged to be
-abbrev pub ElementIs : ListIn → ℕ → Verdict → Type 0
+abbrev pub ElementIs : ListIn → ℕ → Result Judgement Refusal → Type 0
 ElementIs l here r = IsElement l.dim l.depth l.under (words l.file) here l.bound r
 
-abbrev pub RestIs : ListIn → ℕ → Verdict → Type 0
+abbrev pub RestIs : ListIn → ℕ → Result Judgement Refusal → Type 0
 RestIs l here r = IsList l.dim l.depth l.under (words l.file) here l.bound r
 
 -- what judging it answers
-pub record ListJudged (l : ListIn) (r : Verdict) : Type 0 where
+pub record ListJudged (l : ListIn) (r : Result Judgement Refusal) : Type 0 where
   pub is : RestIs l l.at r
   pub within : Within l.at l.bound r
 
 -- its elements up to `here` come to a tally: what the rest is judged to be, with the tally added, is what the list is judged to be
 abbrev pub Passed : ListIn → ℕ → Tally → Type 0
-Passed l here t = (r : Verdict) → RestIs l here r → RestIs l l.at (add_to t.elements t.deepest t.direct r)
+Passed l here t = (r : Result Judgement Refusal) → RestIs l here r → RestIs l l.at (add_to t.elements t.deepest t.direct r)
 
 -- a good element of it from `at` to `next`, with e elements in all, the deepest at depth d
 abbrev pub GoodIn : ListIn → ℕ → ℕ → ℕ → ℕ → Type 0
@@ -95,9 +96,9 @@ pub record FirstGood (l : ListIn) (next : ℕ) (t : Tally) : Type 0 where
   pub deep : l.depth ≤ t.deepest
   pub words_each : l.at + t.elements ≤ next
 
-abbrev pub ElementJudged : ListIn → Verdict → Type 0
-ElementJudged l (Good next e d k) = FirstGood l next (tally e d k)
-ElementJudged l (Fault n p) = ElementIs l l.at (Fault n p)
+abbrev pub ElementJudged : ListIn → Result Judgement Refusal → Type 0
+ElementJudged l (Ok judged) = FirstGood l judged.next (tally judged.elements judged.deepest judged.direct)
+ElementJudged l (Err refusal) = ElementIs l l.at (Err refusal)
 
 ---- judging a list, one element after another
 
@@ -150,15 +151,15 @@ pub record HaltedAt (run : Run) (here n : ℕ) (t : Tally) : Type 0 where
   pub head : head_in run.list here ≡ Bad n
 
 -- the element at `here`, with a good head, is refused
-pub record BrokenAt (run : Run) (n p : ℕ) : Type 0 where
+pub record BrokenAt (run : Run) (refusal : Refusal) : Type 0 where
   pub here : ℕ
   pub before : Tally
   pub gone : Gone run here before
   pub more : stop_in run.list here ≡ More
-  pub fault : ElementIs run.list here (Fault n p)
+  pub fault : ElementIs run.list here (Err refusal)
 
 -- what judging a list's elements comes to
 abbrev pub Progressed : Run → Progress → Type 0
 Progressed run (Stopped next last e d k) = StoppedAt run last next (tally e d k)
 Progressed run (Halted n p e d k) = HaltedAt run p n (tally e d k)
-Progressed run (Broken n p) = BrokenAt run n p
+Progressed run (Broken refusal) = BrokenAt run refusal

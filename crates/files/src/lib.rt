@@ -14,6 +14,8 @@ ghost use Rattle.files.specs.Judge.{element_of, judge_of};
 ghost use Rattle.files.specs.Reach.{reached_of};
 ghost use Rattle.files.specs.Progress.{depth_of, list_in, ElementJudged, ListJudged, run_of, Progressed};
 
+use refusals::Refusal;
+
 mod ends;
 
 // What stands where an element of a list would begin.
@@ -24,34 +26,22 @@ pub enum Stop {
     Lacking,
 }
 
-// What an element or a list of elements is judged to be: where it ends, its elements at all depths, the greatest
-// depth and how many of them stand in the list itself; or a number and a place.
+// What an element or a list of elements that is accepted is judged to be: where it ends, its elements at all depths, the
+// greatest depth and how many of them stand in the list itself.
 #[derive(Clone, Copy)]
-pub enum Verdict {
-    Good {
-        next: usize,
-        elements: usize,
-        deepest: usize,
-        direct: usize,
-    },
-    Fault {
-        number: usize,
-        place: usize,
-    },
+pub struct Judgement {
+    pub next: usize,
+    pub elements: usize,
+    pub deepest: usize,
+    pub direct: usize,
 }
 
-// What judging a file answers.
+// What judging a file answers where it is accepted: its elements, their greatest depth and the marker's place.
 #[derive(Clone, Copy)]
-pub enum Judged {
-    Accepted {
-        elements: usize,
-        deepest: usize,
-        marker: usize,
-    },
-    Refused {
-        number: usize,
-        place: usize,
-    },
+pub struct Accepted {
+    pub elements: usize,
+    pub deepest: usize,
+    pub marker: usize,
 }
 
 // The larger of two numbers.
@@ -79,7 +69,7 @@ fn stops(each: bool, until: usize, end: usize) -> bool
 }
 
 // How far elements of a list were judged, one after another: up to one that ends after a place, or is a header (`last`); up
-// to a place where no head of an element stands; or to a fault beneath an element.
+// to a place where no head of an element stands; or to a refusal beneath an element.
 #[derive(Clone, Copy)]
 enum Progress {
     Stopped {
@@ -97,13 +87,12 @@ enum Progress {
         direct: usize,
     },
     Broken {
-        number: usize,
-        place: usize,
+        refusal: Refusal,
     },
 }
 
-// What the elements at the top come to, one after another: the first that ends after a place, or is a header, with how many
-// stand before it; the end of all; or a fault.
+// What the elements at the top come to, one after another, where none is refused: the first that ends after a place, or is a
+// header, with how many stand before it; or the end of all.
 #[derive(Clone, Copy)]
 pub enum Reached {
     Element {
@@ -114,10 +103,6 @@ pub enum Reached {
     End {
         place: usize,
         before: usize,
-    },
-    Refused {
-        number: usize,
-        place: usize,
     },
 }
 
@@ -132,7 +117,7 @@ fn depth_of(direct: usize, depth: usize, below: usize) -> usize
 }
 
 // A whole list, by how far its elements were judged.
-fn closed(s: &[u8], bound: usize, depth: usize, progress: Progress) -> Verdict
+fn closed(s: &[u8], bound: usize, depth: usize, progress: Progress) -> Result<Judgement, Refusal>
     ensures { (dim under at : ℕ) → Progressed (run_of (list_in dim depth under s.now at bound) bound false) progress → ListJudged (list_in dim depth under s.now at bound) result }
 {
     match progress {
@@ -142,13 +127,12 @@ fn closed(s: &[u8], bound: usize, depth: usize, progress: Progress) -> Verdict
             elements,
             deepest,
             direct,
-        } => Verdict::Good {
+        } => Ok(Judgement {
             next,
             elements,
             deepest,
             direct,
-        },
-        Progress::Broken { number, place } => Verdict::Fault { number, place },
+        }),
         Progress::Halted {
             number,
             place,
@@ -156,15 +140,16 @@ fn closed(s: &[u8], bound: usize, depth: usize, progress: Progress) -> Verdict
             deepest,
             direct,
         } => match ends::stop_at(s, place, bound, depth) {
-            Stop::Done => Verdict::Good {
+            Stop::Done => Ok(Judgement {
                 next: place,
                 elements,
                 deepest,
                 direct,
-            },
-            Stop::Lacking => Verdict::Fault { number: 2, place },
-            Stop::More => Verdict::Fault { number, place },
+            }),
+            Stop::Lacking => Err(Refusal { number: 2, place }),
+            Stop::More => Err(Refusal { number, place }),
         },
+        Progress::Broken { refusal } => Err(refusal),
     }
 }
 
@@ -182,49 +167,46 @@ fn count_ok(s: &[u8], at: usize, t: usize, direct: usize) -> bool
 // An element whose own words are read as a header: its components, a list of their own, then its count. Most headers have
 // components; one that has none needs no list.
 #[cycle(judging)]
-fn judge_element(s: &[u8], at: usize, inner: usize, end: usize, depth: usize, dim: usize) -> Verdict
+fn judge_element(
+    s: &[u8],
+    at: usize,
+    inner: usize,
+    end: usize,
+    depth: usize,
+    dim: usize,
+) -> Result<Judgement, Refusal>
     requires { (at + 20 ≤ inner) × ((inner ≤ end) × ((depth ≤ 8) × (end ≤ length s.now / 2))) }
     ensures { (under bound : ℕ) → HeadRead dim depth under s.now at bound (Complex inner end) → ElementJudged (list_in dim depth under s.now at bound) result }
 {
     let t = headers::type_at(s, at);
     if inner == end {
         if count_ok(s, at, t, 0) {
-            return Verdict::Good {
+            return Ok(Judgement {
                 next: end,
                 elements: 1,
                 deepest: depth,
                 direct: 1,
-            };
+            });
         }
-        return Verdict::Fault {
+        return Err(Refusal {
             number: 9,
             place: at,
-        };
+        });
     }
     let components = judge_list(s, inner, end, depth + 1, t, dim, end, false);
-    match closed(s, end, depth + 1, components) {
-        Verdict::Fault { number, place } => Verdict::Fault { number, place },
-        Verdict::Good {
-            next: _,
-            elements,
-            deepest,
-            direct,
-        } => {
-            if count_ok(s, at, t, direct) {
-                Verdict::Good {
-                    next: end,
-                    elements: 1 + elements,
-                    deepest: larger(depth, deepest),
-                    direct: 1,
-                }
-            } else {
-                Verdict::Fault {
-                    number: 9,
-                    place: at,
-                }
-            }
-        }
+    let list = closed(s, end, depth + 1, components)?;
+    if count_ok(s, at, t, list.direct) {
+        return Ok(Judgement {
+            next: end,
+            elements: 1 + list.elements,
+            deepest: larger(depth, list.deepest),
+            direct: 1,
+        });
     }
+    Err(Refusal {
+        number: 9,
+        place: at,
+    })
 }
 
 // The elements of a list in order, up to and with the first that ends after `until`, or, where `each` holds, that is a header. No
@@ -276,39 +258,38 @@ fn judge_list(
                 here = next;
             }
             elements::Head::Complex { inner, end } => {
-                match judge_element(s, here, inner, end, depth, dim) {
-                    Verdict::Fault { number, place } => {
-                        return Progress::Broken { number, place };
-                    }
-                    Verdict::Good {
-                        next,
-                        elements: e,
+                let judged = match judge_element(s, here, inner, end, depth, dim) {
+                    Ok(judged) => judged,
+                    Err(refusal) => return Progress::Broken { refusal },
+                };
+                direct += 1;
+                below += judged.elements - 1;
+                deepest = larger(deepest, judged.deepest);
+                if stops(each, until, judged.next) {
+                    let d = larger(depth, deepest);
+                    return Progress::Stopped {
+                        next: judged.next,
+                        last: here,
+                        elements: direct + below,
                         deepest: d,
-                        direct: _,
-                    } => {
-                        direct += 1;
-                        below += e - 1;
-                        deepest = larger(deepest, d);
-                        if stops(each, until, next) {
-                            let d = larger(depth, deepest);
-                            return Progress::Stopped {
-                                next,
-                                last: here,
-                                elements: direct + below,
-                                deepest: d,
-                                direct,
-                            };
-                        }
-                        here = next;
-                    }
+                        direct,
+                    };
                 }
+                here = judged.next;
             }
         }
     }
 }
 
 // The elements of one list in order, to its end or to the first fault.
-fn judge_all(s: &[u8], at: usize, bound: usize, depth: usize, under: usize, dim: usize) -> Verdict
+fn judge_all(
+    s: &[u8],
+    at: usize,
+    bound: usize,
+    depth: usize,
+    under: usize,
+    dim: usize,
+) -> Result<Judgement, Refusal>
     requires { bound ≤ length s.now / 2 }
     ensures { ListJudged (list_in dim depth under s.now at bound) result }
 {
@@ -318,7 +299,7 @@ fn judge_all(s: &[u8], at: usize, bound: usize, depth: usize, under: usize, dim:
 
 // The elements at the top from a place on, to the first that ends after `until`, or, where `each` holds, that is a header. The slice's
 // end is their bound.
-pub fn reach(s: &[u8], at: usize, dim: usize, until: usize, each: bool) -> Reached
+pub fn reach(s: &[u8], at: usize, dim: usize, until: usize, each: bool) -> Result<Reached, Refusal>
     ensures { result ≡ reached_of dim (words s.now) at (length s.now / 2) until each }
 {
     let bound = s.len() / 2;
@@ -329,12 +310,11 @@ pub fn reach(s: &[u8], at: usize, dim: usize, until: usize, each: bool) -> Reach
             elements: _,
             deepest: _,
             direct,
-        } => Reached::Element {
+        } => Ok(Reached::Element {
             start: last,
             end: next,
             before: direct - 1,
-        },
-        Progress::Broken { number, place } => Reached::Refused { number, place },
+        }),
         Progress::Halted {
             number,
             place,
@@ -342,18 +322,25 @@ pub fn reach(s: &[u8], at: usize, dim: usize, until: usize, each: bool) -> Reach
             deepest: _,
             direct,
         } => match ends::stop_at(s, place, bound, 0) {
-            Stop::Done => Reached::End {
+            Stop::Done => Ok(Reached::End {
                 place,
                 before: direct,
-            },
-            Stop::Lacking => Reached::Refused { number: 2, place },
-            Stop::More => Reached::Refused { number, place },
+            }),
+            Stop::Lacking => Err(Refusal { number: 2, place }),
+            Stop::More => Err(Refusal { number, place }),
         },
+        Progress::Broken { refusal } => Err(refusal),
     }
 }
 
 // The element with its extent that starts at a place, with the slice's end as its bound.
-pub fn element(s: &[u8], at: usize, depth: usize, under: usize, dim: usize) -> Verdict
+pub fn element(
+    s: &[u8],
+    at: usize,
+    depth: usize,
+    under: usize,
+    dim: usize,
+) -> Result<Judgement, Refusal>
     ensures { result ≡ element_of dim depth under (words s.now) at (length s.now / 2) }
 {
     let bound = s.len() / 2;
@@ -364,45 +351,37 @@ pub fn element(s: &[u8], at: usize, depth: usize, under: usize, dim: usize) -> V
             elements,
             deepest,
             direct,
-        } => Verdict::Good {
+        } => Ok(Judgement {
             next,
             elements,
             deepest,
             direct,
-        },
+        }),
         Progress::Halted {
             number,
             place,
             elements: _,
             deepest: _,
             direct: _,
-        } => Verdict::Fault { number, place },
-        Progress::Broken { number, place } => Verdict::Fault { number, place },
+        } => Err(Refusal { number, place }),
+        Progress::Broken { refusal } => Err(refusal),
     }
 }
 
 // What a file is judged to be: 1 for the call, then the file's first fault, or its elements.
-pub fn judge(file: &[u8], dim: usize) -> Judged
+pub fn judge(file: &[u8], dim: usize) -> Result<Accepted, Refusal>
     ensures { result ≡ judge_of dim file.now }
 {
-    if limits::call_ok(file, dim) {
-        match judge_all(file, 0, file.len() / 2, 0, 0, dim) {
-            Verdict::Good {
-                next,
-                elements,
-                deepest,
-                direct: _,
-            } => Judged::Accepted {
-                elements,
-                deepest,
-                marker: next,
-            },
-            Verdict::Fault { number, place } => Judged::Refused { number, place },
-        }
-    } else {
-        Judged::Refused {
+    if !limits::call_ok(file, dim) {
+        return Err(Refusal {
             number: 1,
             place: 0,
-        }
+        });
     }
+    let all = judge_all(file, 0, file.len() / 2, 0, 0, dim)?;
+    Ok(Accepted {
+        elements: all.elements,
+        deepest: all.deepest,
+        marker: all.next,
+    })
 }

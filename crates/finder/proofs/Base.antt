@@ -5,15 +5,15 @@ use mathlib.Core.Bool.{Bool, true, false, ◌&&◌}
 use mathlib.Core.List.{List, [], ◌∷◌}
 use Rattle.words.specs.Words.{words}
 use Rattle.names.specs.Names.{packed}
-use Rattle.names.specs.declared.Packed.{Packed}
-use Rattle.names.specs.declared.Packed.TheVariants as text
 use Rattle.files.specs.Judge.{judge_of}
 use Rattle.files.specs.Spots.{Spot, spots_of}
-use Rattle.files.specs.declared.Judged.{Judged}
-use Rattle.files.specs.declared.Judged.TheVariants as judged
 use Rattle.finder.specs.declared.Wanted.TheVariants.{WithDeleted}
 use Rattle.finder.specs.Finder.{has_name, is_hit, hit_if, first_named, find_by, find_of}
 use Rattle.finder.specs.Base as base
+use Rattle.std.specs.Prelude.{Err, Ok, Result}
+use Rattle.files.specs.declared.Accepted.{Accepted}
+use Rattle.names.specs.declared.Name.{Name}
+use Rattle.refusals.specs.declared.Refusal.{Refusal}
 
 and-true : (b : Bool) → (b && true) ≡ b
 and-true true = refl
@@ -32,7 +32,7 @@ pub asked_as_base : (dim : ℕ) (s t : List ℕ) → find_of WithDeleted dim s t
 unfolding find_of base.find_of
 asked_as_base dim s t = go (judge_of dim s) (packed t)
   where
-    go : (j : Judged) (p : Packed) → find_by WithDeleted j p (words s) (spots_of dim (words s)) ≡ base.find_by j p (words s) (spots_of dim (words s))
-    go (judged.Refused n p) t = refl
-    go (judged.Accepted e d m) (text.Refused n p) = refl
-    go (judged.Accepted e d m) (text.Words a b) = first_as_base (words s) a b 0 (spots_of dim (words s))
+    go : (j : Result Accepted Refusal) (p : Result Name Refusal) → find_by WithDeleted j p (words s) (spots_of dim (words s)) ≡ base.find_by j p (words s) (spots_of dim (words s))
+    go (Err refusal) t = refl
+    go (Ok file) (Err refusal) = refl
+    go (Ok file) (Ok name) = first_as_base (words s) name.first name.second 0 (spots_of dim (words s))

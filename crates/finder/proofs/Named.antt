@@ -21,18 +21,20 @@ use Rattle.kinds.specs.FirstWord.{deleted_of}
 use Rattle.kinds.specs.Kinds.{is_cell}
 use Rattle.headers.specs.Header.{type_at, name_first, name_second}
 use Rattle.names.specs.Names.{packed, unpacked, text_answer}
-use Rattle.names.specs.declared.Packed.{Packed}
-use Rattle.names.specs.declared.Packed.TheVariants as text
 use Rattle.names.proofs.OneToOne.{unpack_pack, no_two_share}
 use Rattle.files.specs.Judge.{judge_of}
 use Rattle.files.specs.Spots.{Spot, spots_of}
-use Rattle.files.specs.declared.Judged.{Judged}
-use Rattle.files.specs.declared.Judged.TheVariants as judged
-use Rattle.finder.specs.declared.Found.TheVariants as found
 use Rattle.finder.specs.declared.Wanted.{Wanted}
 use Rattle.finder.specs.declared.Wanted.TheVariants.{Live}
 use Rattle.finder.specs.Finder.{has_name, is_wanted, is_hit, hit_if, first_named, find_by, find_of}
 use Rattle.finder.specs.Meaning.{NoneNamed, FirstAt, Finds, Stored}
+use Rattle.std.specs.Prelude.{Err, Ok, Result}
+use Rattle.files.specs.Accepted.{accepted_with}
+use Rattle.files.specs.declared.Accepted.{Accepted}
+use Rattle.finder.specs.Found.{found_with, missed_with}
+use Rattle.names.specs.Name.{packed_to}
+use Rattle.names.specs.declared.Name.{Name}
+use Rattle.refusals.specs.declared.Refusal.{Refusal}
 
 ---- an element that has the name, by its type
 
@@ -116,22 +118,22 @@ first_of w ws a b all past (x ∷ xs) n e l h =
 ---- an accepted file
 
 -- the finder looks at the elements in file order: the count of an answer is the element's ordinal plus one, or of all
-pub finder_count : (w : Wanted) (dim : ℕ) (s t : List ℕ) (e d m a b : ℕ) → judge_of dim s ≡ judged.Accepted e d m → packed t ≡ text.Words a b →
+pub finder_count : (w : Wanted) (dim : ℕ) (s t : List ℕ) (e d m a b : ℕ) → judge_of dim s ≡ accepted_with e d m → packed t ≡ packed_to a b →
     Finds w (words s) a b (spots_of dim (words s)) (find_of w dim s t)
 unfolding find_of
 finder_count w dim s t e d m a b q p = rw (q, p) (first_of w (words s) a b (spots_of dim (words s)) [] (spots_of dim (words s)) 0 refl refl tt)
 
 -- with none among them the answer is 13 and the count of all
-none_refused : (w : Wanted) (ws : List ℕ) (a b n : ℕ) (xs : List Spot) → NoneNamed w ws a b xs → first_named w ws a b n xs ≡ found.Refused 13 0 (n + length xs)
-none_refused w ws a b n [] h = ap (found.Refused 13 0) (omega arith)
-none_refused w ws a b n (x ∷ xs) h = rw h.0 (none_refused w ws a b (n + 1) xs h.1 ∙ ap (found.Refused 13 0) (omega arith))
+none_refused : (w : Wanted) (ws : List ℕ) (a b n : ℕ) (xs : List Spot) → NoneNamed w ws a b xs → first_named w ws a b n xs ≡ missed_with 13 0 (n + length xs)
+none_refused w ws a b n [] h = ap (missed_with 13 0) (omega arith)
+none_refused w ws a b n (x ∷ xs) h = rw h.0 (none_refused w ws a b (n + 1) xs h.1 ∙ ap (missed_with 13 0) (omega arith))
 
-pub no_such_exactly : (w : Wanted) (dim : ℕ) (s t : List ℕ) (e d m a b : ℕ) → judge_of dim s ≡ judged.Accepted e d m → packed t ≡ text.Words a b →
-    (find_of w dim s t ≡ found.Refused 13 0 (length (spots_of dim (words s)))) ↔ NoneNamed w (words s) a b (spots_of dim (words s))
+pub no_such_exactly : (w : Wanted) (dim : ℕ) (s t : List ℕ) (e d m a b : ℕ) → judge_of dim s ≡ accepted_with e d m → packed t ≡ packed_to a b →
+    (find_of w dim s t ≡ missed_with 13 0 (length (spots_of dim (words s)))) ↔ NoneNamed w (words s) a b (spots_of dim (words s))
 unfolding find_of
 no_such_exactly w dim s t e d m a b q p = (
   λ h. (subst (Finds w (words s) a b (spots_of dim (words s))) h (finder_count w dim s t e d m a b q p)).3,
-  λ h. rw (q, p) (none_refused w (words s) a b 0 (spots_of dim (words s)) h ∙ ap (found.Refused 13 0) (omega arith)),
+  λ h. rw (q, p) (none_refused w (words s) a b 0 (spots_of dim (words s)) h ∙ ap (missed_with 13 0) (omega arith)),
 )
 
 -- the cell that an answer names
@@ -141,31 +143,31 @@ pub record FoundCell (w : Wanted) (dim : ℕ) (s t : List ℕ) (place looked : �
   pub marker : ℕ
   pub first : ℕ
   pub second : ℕ
-  pub accepted : judge_of dim s ≡ judged.Accepted elements deepest marker
-  pub packs : packed t ≡ text.Words first second
+  pub accepted : judge_of dim s ≡ accepted_with elements deepest marker
+  pub packs : packed t ≡ packed_to first second
   pub cell : FirstAt w (words s) first second (spots_of dim (words s)) place looked
 
-pub found_accepted : (w : Wanted) (dim : ℕ) (s t : List ℕ) (place looked : ℕ) → find_of w dim s t ≡ found.At place looked → FoundCell w dim s t place looked
+pub found_accepted : (w : Wanted) (dim : ℕ) (s t : List ℕ) (place looked : ℕ) → find_of w dim s t ≡ found_with place looked → FoundCell w dim s t place looked
 unfolding find_of
 found_accepted w dim s t place looked q = go (judge_of dim s) refl (packed t) refl q
   where
-    go : (j : Judged) → judge_of dim s ≡ j → (p : Packed) → packed t ≡ p → find_by w j p (words s) (spots_of dim (words s)) ≡ found.At place looked → FoundCell w dim s t place looked
-    go (judged.Refused n k) e p f h = let z : ◌≡◌ {A = ℕ} 0 1 = cc in absurd (omega arith)
-    go (judged.Accepted n d m) e (text.Refused k i) f h = let z : ◌≡◌ {A = ℕ} 0 1 = cc in absurd (omega arith)
-    go (judged.Accepted n d m) e (text.Words a b) f h =
+    go : (j : Result Accepted Refusal) → judge_of dim s ≡ j → (p : Result Name Refusal) → packed t ≡ p → find_by w j p (words s) (spots_of dim (words s)) ≡ found_with place looked → FoundCell w dim s t place looked
+    go (Err refusal) e p f h = absurd (cc)
+    go (Ok file) e (Err refusal) f h = absurd (cc)
+    go (Ok file) e (Ok name) f h =
         record {
-          elements = n;
-          deepest = d;
-          marker = m;
-          first = a;
-          second = b;
+          elements = file.elements;
+          deepest = file.deepest;
+          marker = file.marker;
+          first = name.first;
+          second = name.second;
           accepted = e;
           packs = f;
-          cell = subst (Finds w (words s) a b (spots_of dim (words s))) q (finder_count w dim s t n d m a b e f);
+          cell = subst (Finds w (words s) name.first name.second (spots_of dim (words s))) q (finder_count w dim s t file.elements file.deepest file.marker name.first name.second e f);
         }
 
 -- where deleted cells are passed over it is live
-pub found_live : (dim : ℕ) (s t : List ℕ) (place looked : ℕ) → find_of Live dim s t ≡ found.At place looked → deleted_of (word_at (words s) place) ≡ 0
+pub found_live : (dim : ℕ) (s t : List ℕ) (place looked : ℕ) → find_of Live dim s t ≡ found_with place looked → deleted_of (word_at (words s) place) ≡ 0
 found_live dim s t place looked q = eqb-true _ _ (found_accepted Live dim s t place looked q).cell.wanted
 
 ---- its stored name
@@ -182,8 +184,8 @@ named_stored ws at a b e =
     (p.0, (eqb-true _ _ q.0, eqb-true _ _ q.1))
 
 -- the stored name of the cell that is found unpacks to the text
-pub never_another : (w : Wanted) (dim : ℕ) (s t : List ℕ) (place looked : ℕ) → find_of w dim s t ≡ found.At place looked →
-    Stored (words s) place (λ x y. unpacked x y ≡ text_answer t)
+pub never_another : (w : Wanted) (dim : ℕ) (s t : List ℕ) (place looked : ℕ) → find_of w dim s t ≡ found_with place looked →
+    Stored (words s) place (λ x y. unpacked x y ≡ Ok (text_answer t))
 never_another w dim s t place looked q =
     let c = found_accepted w dim s t place looked q in
     let u = unpack_pack t c.first c.second c.packs in
@@ -195,10 +197,10 @@ stored_one : (ws : List ℕ) (at a b c d : ℕ) → Stored ws at (Both a b) → 
 stored_one ws at a b c d p q = (sym p.1.0 ∙ q.1.0, sym p.1.1 ∙ q.1.1)
 
 -- so two texts that find the same place are the same: 00417 never finds 417
-pub one_text : (w v : Wanted) (dim : ℕ) (s t u : List ℕ) (place n k : ℕ) → find_of w dim s t ≡ found.At place n → find_of v dim s u ≡ found.At place k → t ≡ u
+pub one_text : (w v : Wanted) (dim : ℕ) (s t u : List ℕ) (place n k : ℕ) → find_of w dim s t ≡ found_with place n → find_of v dim s u ≡ found_with place k → t ≡ u
 one_text w v dim s t u place n k p q =
     let c = found_accepted w dim s t place n p in
     let d = found_accepted v dim s u place k q in
     let e = stored_one (words s) place c.first c.second d.first d.second
     (named_stored (words s) place c.first c.second c.cell.named) (named_stored (words s) place d.first d.second d.cell.named) in
-    no_two_share t u d.first d.second (c.packs ∙ ap₂ text.Words e.0 e.1) d.packs
+    no_two_share t u d.first d.second (c.packs ∙ ap₂ packed_to e.0 e.1) d.packs

@@ -10,13 +10,13 @@ use Rattle.words.specs.Words.{words}
 use Rattle.headers.specs.Header.{size_at}
 use Rattle.files.specs.Judge.{judge_of}
 use Rattle.files.specs.Spots.{Spot, spots_of}
-use Rattle.files.specs.declared.Judged.TheVariants.{Accepted}
 use Rattle.finder.specs.Look.{InOrder}
 use Rattle.grammar.proofs.Forest.{Forest, nil, node, flat, Wf, spots, weight, length_node, own_stands, components_stand, rest_stand}
 use Rattle.grammar.proofs.Stands.{Stands}
 use Rattle.grammar.proofs.Rules.{own_size}
 use Rattle.grammar.proofs.Whole.{file_tree}
 use Rattle.grammar.proofs.Exact.{accepted_is}
+use Rattle.files.specs.Accepted.{accepted_with}
 
 pub order_append : (ws : List ℕ) (at mid end : ℕ) (xs ys : List Spot) → InOrder ws at xs mid → InOrder ws mid ys end → InOrder ws at (xs ++ ys) end
 order_append ws at mid end [] ys p q = rw p q
@@ -42,7 +42,7 @@ tree_order dim ws depth under header at end (node own k r) w s e =
 ---- an accepted file
 
 -- a hop by size from 0 meets every element, and then the marker
-pub file_order : (dim : ℕ) (s : List ℕ) (e d m : ℕ) → judge_of dim s ≡ Accepted e d m → InOrder (words s) 0 (spots_of dim (words s)) m
+pub file_order : (dim : ℕ) (s : List ℕ) (e d m : ℕ) → judge_of dim s ≡ accepted_with e d m → InOrder (words s) 0 (spots_of dim (words s)) m
 file_order dim s e d m q =
     let t = file_tree (accepted_is dim s e d m q).file in
     let l = t.end in

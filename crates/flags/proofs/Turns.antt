@@ -4,8 +4,9 @@ use mathlib.Core.Path.{◌≡◌, refl, sym, ap, ◌∙◌}
 use mathlib.Core.Bool.{Bool, true, false}
 use mathlib.Core.List.{List}
 use native.Mathlib.Omega.{arith}
-use native.Mathlib.Nat.{mul-add, mul_assoc, mul-suc, pow-succ'}
+use native.Mathlib.Nat.{mul-add, mul_assoc, mul-suc, pow-succ', div-eq_of_lt, div-add-mod, mod-lt}
 use lib.ListN.{length}
+use Rattle.std.proofs.lemmas.Nat.{pow_pos}
 use lib.Dec.{eqb, ltb}
 use borrow.Author.Tests.{eq-eqb, ne_eqb, ltb-true, ltb-false, lt-ltb, le-ltb, le-leb, lt-leb}
 use Rattle.words.specs.Words.{words, word_at}
@@ -136,16 +137,13 @@ module _ (s₀ : List ℕ) (at end new : ℕ) (s : List ℕ) (here rest bits wei
 ---- binary digits
 
 -- a digit less
-pub within_turn : (w k : ℕ) → ltb (w / 2) (2 ^ k) ≡ ltb w (2 ^ suc k)
-within_turn w k = go (ltb w (2 ^ suc k)) refl
+-- a shift by k leaves nothing of a number with at most k digits, and of no other
+pub shifted_out : (w k : ℕ) → eqb (w / 2 ^ k) 0 ≡ ltb w (2 ^ k)
+shifted_out w k = go (ltb w (2 ^ k)) refl
   where
-    go : (t : Bool) → ltb w (2 ^ suc k) ≡ t → ltb (w / 2) (2 ^ k) ≡ t
-    go true e = let l = ltb-true w (2 ^ suc k) e in let p = pow-succ' 2 k in lt-ltb (w / 2) (2 ^ k) (omega arith)
-    go false e = let l = ltb-false w (2 ^ suc k) e in let p = pow-succ' 2 k in le-ltb (w / 2) (2 ^ k) (omega arith)
-
-pub within_end : (w : ℕ) → eqb w 0 ≡ ltb w (2 ^ 0)
-within_end zero = refl
-within_end (suc w) = ne_eqb (suc w) 0 (λ e. omega arith) ∙ sym (le-ltb (suc w) (2 ^ 0) (omega arith))
+    go : (t : Bool) → ltb w (2 ^ k) ≡ t → eqb (w / 2 ^ k) 0 ≡ t
+    go true e = eq-eqb (w / 2 ^ k) 0 (div-eq_of_lt (ltb-true w (2 ^ k) e))
+    go false e = ne_eqb (w / 2 ^ k) 0 (λ z. let q = div-add-mod w (2 ^ k) in let m = mod-lt w (pow_pos k) in omega (arith, ltb-false w (2 ^ k) e, rw z at q))
 
 ---- a payload's size, then its spare bits
 

@@ -25,7 +25,6 @@ use Rattle.edits.proofs.Reversed.{spot_there, there}
 use Rattle.edits.proofs.Extents.{starts}
 use Rattle.edits.proofs.MarkSound.{extent_there, extent_within}
 use Rattle.places.specs.declared.Above.{Above}
-use Rattle.places.specs.declared.Spotted.TheVariants.{At}
 use Rattle.places.specs.Places.{found_by}
 use Rattle.places.specs.Descent.{locate_of}
 use Rattle.places.proofs.Places.{spot_inside}
@@ -33,6 +32,9 @@ use Rattle.opening.proofs.Opening.{AcceptedUsed}
 use Rattle.opening.proofs.Accepted.{standing, found_is}
 use Rattle.flags.specs.Extents.{places_by, places_in}
 use Rattle.flags.proofs.Places.{places_by_lem}
+use Rattle.places.specs.Spotted.{spotted_with}
+use Rattle.places.specs.declared.Spotted.{Spotted}
+use Rattle.refusals.proofs.Laws.{given_not_refused, given_is}
 
 -- the places from a place on, by every bound that is enough
 abbrev Left : List ℕ → ℕ → ℕ → List ℕ → Type 0
@@ -93,7 +95,7 @@ spot_place (y ∷ ys) p x e = go (eqb y.place p) refl (spot_place ys p x) e
     go false q f e = f e
 
 -- an accepted used file, whose marker is its last word
-module _ (dim : ℕ) (s : List ℕ) (m : ℕ) (used : AcceptedUsed dim s m) (below : Below 256 s) (p end depth : ℕ) (above : Above) (located : locate_of (words s) p m ≡ At end depth above) where
+module _ (dim : ℕ) (s : List ℕ) (m : ℕ) (used : AcceptedUsed dim s m) (below : Below 256 s) (p end depth : ℕ) (above : Above) (located : locate_of (words s) p m ≡ spotted_with end depth above) where
   abbrev ws : List ℕ
   ws = words s
 
@@ -106,9 +108,9 @@ module _ (dim : ℕ) (s : List ℕ) (m : ℕ) (used : AcceptedUsed dim s m) (bel
   listed : Listed
   listed = go (spot_in (spots_of dim ws) p) refl (sym (found_is dim s m used p) ∙ located)
     where
-      go : (o : Option Spot) → spot_in (spots_of dim ws) p ≡ o → found_by o ≡ At end depth above → Listed
-      go none e f = let z : ◌≡◌ {A = ℕ} 0 1 = cc in absurd (omega arith)
-      go (some x) e f = let q : x.end ≡ end = cc in record { spot = x; found = e; ends = q }
+      go : (o : Option Spot) → spot_in (spots_of dim ws) p ≡ o → found_by o ≡ spotted_with end depth above → Listed
+      go none e f = absurd (given_not_refused f)
+      go (some x) e f = record { spot = x; found = e; ends = ap (λ (y : Spotted). y.end) (given_is f) }
 
   pub found_starts : starts_at (spots_of dim ws) p ≡ true
   found_starts = ap is_some listed.found

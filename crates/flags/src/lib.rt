@@ -54,8 +54,7 @@ fn exchange(used: &mut [u8], at: usize, end: usize, new: usize) -> Sixteen
     let mut rest = new;
     let mut bits = 0;
     let mut weight = 1;
-    let mut left: usize = 16;
-    while left != 0 {
+    for _ in 0..16usize {
         if end <= here {
             return Sixteen { next: here, bits };
         }
@@ -65,7 +64,6 @@ fn exchange(used: &mut [u8], at: usize, end: usize, new: usize) -> Sixteen
         here = next;
         rest /= 2;
         weight *= 2;
-        left -= 1;
     }
     Sixteen { next: here, bits }
 }
@@ -98,11 +96,9 @@ pub fn restore(used: &mut [u8], at: usize, end: usize, payload: &[u8])
     }
     let n = payload.len() / 2;
     let mut here = at;
-    let mut i = 0;
-    while i < n {
+    for i in 0..n {
         let old = exchange(used, here, end, words::word(payload, i));
         here = old.next;
-        i += 1;
     }
 }
 
@@ -113,19 +109,6 @@ pub fn flag_size(n: usize) -> usize
     n / 16 + (n % 16 + 15) / 16
 }
 
-// Whether a number has at most k binary digits.
-fn within(w: usize, k: usize) -> bool
-    ensures { result ≡ ltb w (2 ^ k) }
-{
-    let mut rest = w;
-    let mut left = k;
-    while left != 0 {
-        rest /= 2;
-        left -= 1;
-    }
-    rest == 0
-}
-
 // Whether a payload is the flags of n elements: as many words as they take, with no spare bit set.
 pub fn flags_ok(n: usize, payload: &[u8]) -> bool
     ensures { result ≡ flags_ok n (words payload.now) }
@@ -133,5 +116,5 @@ pub fn flags_ok(n: usize, payload: &[u8]) -> bool
     if payload.len() / 2 != flag_size(n) {
         return false;
     }
-    within(words::word(payload, n / 16), n % 16)
+    words::word(payload, n / 16) >> (n % 16) == 0
 }

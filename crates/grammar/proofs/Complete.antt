@@ -17,7 +17,7 @@ use Rattle.files.specs.Ends.{stop_of}
 use Rattle.files.specs.Judge.{element_from, list_from}
 use Rattle.files.specs.Spots.{deepest, spots_from}
 use Rattle.files.specs.declared.Stop.TheVariants.{More, Done}
-use Rattle.files.specs.declared.Verdict.TheVariants.{Good}
+use Rattle.files.specs.Judgement.{good_with}
 use Rattle.grammar.proofs.Tests.{OwnTests, Extent}
 use Rattle.grammar.proofs.Forest.{Forest, nil, node, flat, num, weight, Wf, spots, length_node, own_stands, components_stand, rest_stand, deepest_append}
 use Rattle.grammar.proofs.Stands.{Stands, stands_left, stands_right}
@@ -25,7 +25,7 @@ use Rattle.elements.proofs.Laws.{fault_none, head_plain, head_complex}
 use Rattle.grammar.proofs.Rules.{own_two, own_type, own_size, own_extent, own_count, own_checked}
 use Rattle.grammar.proofs.Ends.{Ends, ends_by, ends_stop, own_more}
 
-pub good : {n m e f d g k l : ℕ} → n ≡ m → e ≡ f → d ≡ g → k ≡ l → Good n e d k ≡ Good m f g l
+pub good : {n m e f d g k l : ℕ} → n ≡ m → e ≡ f → d ≡ g → k ≡ l → good_with n e d k ≡ good_with m f g l
 good p q r s = cc
 
 ---- one element, by what is judged of those under it
@@ -55,14 +55,14 @@ module _ (dim : ℕ) (ws : List ℕ) where
 
   element_by_lem : (depth under at bound : ℕ) (own : List ℕ) (k : Forest) (e d : ℕ) → Placed depth under at bound own k →
       (k ≡ nil → (e ≡ 0) × (d ≡ 0)) →
-      ((n : ℕ) → 2 * (length (flat k)) + 1 < n → list_from n dim (suc depth) (type_at own 0) ws (at + length own) (at + weight own k) ≡ Good (at + weight own k) e d (num k)) →
-      (n : ℕ) → 2 * (bound - at) < n → element_from n dim depth under ws at bound ≡ Good (at + weight own k) (suc e) (max depth d) 1
+      ((n : ℕ) → 2 * (length (flat k)) + 1 < n → list_from n dim (suc depth) (type_at own 0) ws (at + length own) (at + weight own k) ≡ good_with (at + weight own k) e d (num k)) →
+      (n : ℕ) → 2 * (bound - at) < n → element_from n dim depth under ws at bound ≡ good_with (at + weight own k) (suc e) (max depth d) 1
   unfolding element_from
   element_by_lem depth under at bound own k e d p z f zero l = absurd (omega arith)
   element_by_lem depth under at bound own k e d p z f (suc n) l = go (is_header (type_at own 0)) refl p.rules.extent
     where
       go : (b : Bool) → is_header (type_at own 0) ≡ b → Extent b own (length (flat k)) (num k) →
-          element_from (suc n) dim depth under ws at bound ≡ Good (at + weight own k) (suc e) (max depth d) 1
+          element_from (suc n) dim depth under ws at bound ≡ good_with (at + weight own k) (suc e) (max depth d) 1
       go false h x =
           let w = x.0 in
           let y = z (none_under k own x) in
@@ -83,7 +83,7 @@ module _ (dim : ℕ) (ws : List ℕ) where
       record { rules = w.0; first = own_stands own k r s; room = omega arith }
 
   list_end : (depth under at bound : ℕ) → stop_of depth ws at bound ≡ Done → (n : ℕ) → 2 * (bound - at) + 1 < n →
-      list_from n dim depth under ws at bound ≡ Good at 0 0 0
+      list_from n dim depth under ws at bound ≡ good_with at 0 0 0
   unfolding list_from
   list_end depth under at bound h zero l = absurd (omega arith)
   list_end depth under at bound h (suc n) l = rw h refl
@@ -91,16 +91,16 @@ module _ (dim : ℕ) (ws : List ℕ) where
   -- what a tree is judged to be, its list starting at a place
   abbrev pub GoodList : ℕ → ℕ → Option ℕ → ℕ → ℕ → Forest → Type 0
   GoodList depth under header at bound f = (n : ℕ) → 2 * (bound - at) + 1 < n →
-      list_from n dim depth under ws at bound ≡ Good (at + length (flat f)) (length (spots depth header at f)) (deepest (spots depth header at f)) (num f)
+      list_from n dim depth under ws at bound ≡ good_with (at + length (flat f)) (length (spots depth header at f)) (deepest (spots depth header at f)) (num f)
 
   element_step : (depth under at bound : ℕ) (own : List ℕ) (k : Forest) → Placed depth under at bound own k →
       GoodList (suc depth) (type_at own 0) (some at) (at + length own) (at + weight own k) k → (n : ℕ) → 2 * (bound - at) < n →
       element_from n dim depth under ws at bound
-      ≡ Good (at + weight own k) (suc (length (spots (suc depth) (some at) (at + length own) k))) (max depth (deepest (spots (suc depth) (some at) (at + length own) k))) 1
+      ≡ good_with (at + weight own k) (suc (length (spots (suc depth) (some at) (at + length own) k))) (max depth (deepest (spots (suc depth) (some at) (at + length own) k))) 1
   element_step depth under at bound own k p f =
       let i = spots (suc depth) (some at) (at + length own) k in
       let e : at + length own + length (flat k) ≡ at + weight own k = omega arith in
-      element_by_lem depth under at bound own k (length i) (deepest i) p (λ q. rw q (refl, refl)) (λ m h. f m (omega arith) ∙ ap (λ y. Good y (length i) (deepest i) (num k)) e)
+      element_by_lem depth under at bound own k (length i) (deepest i) p (λ q. rw q (refl, refl)) (λ m h. f m (omega arith) ∙ ap (λ y. good_with y (length i) (deepest i) (num k)) e)
 
   list_step : (depth under : ℕ) (header : Option ℕ) (at bound : ℕ) (own : List ℕ) (k r : Forest) → Placed depth under at bound own k →
       GoodList (suc depth) (type_at own 0) (some at) (at + length own) (at + weight own k) k → GoodList depth under header (at + weight own k) bound r →
@@ -132,7 +132,7 @@ module _ (dim : ℕ) (ws : List ℕ) where
   pub element_complete : (depth under at bound : ℕ) (own : List ℕ) (k : Forest) → OwnTests dim depth under own (length (flat k)) (num k) →
       Wf dim (suc depth) (type_at own 0) k → Stands (own ++ flat k) at ws → at + weight own k ≤ bound → (n : ℕ) → 2 * (bound - at) < n →
       element_from n dim depth under ws at bound
-      ≡ Good (at + weight own k) (suc (length (spots (suc depth) (some at) (at + length own) k))) (max depth (deepest (spots (suc depth) (some at) (at + length own) k))) 1
+      ≡ good_with (at + weight own k) (suc (length (spots (suc depth) (some at) (at + length own) k))) (max depth (deepest (spots (suc depth) (some at) (at + length own) k))) 1
   element_complete depth under at bound own k o w s b =
       element_step depth under at bound own k (record { rules = o; first = stands_left own (flat k) s; room = b })
       (list_complete (suc depth) (type_at own 0) (some at) (at + length own) (at + weight own k) k w (stands_right own (flat k) s) (omega arith))

@@ -11,6 +11,10 @@ use native.Mathlib.Numerals.{add-one}
 use lib.ListN.{length, take, drop, length-append, length-drop}
 use lib.Seq.{length-take-le}
 use lib.Dec.{eqb, leb}
+use Rattle.std.specs.Prelude.{Err, Ok, Result}
+use Rattle.refusals.specs.Refusals.{refused_with}
+use Rattle.refusals.specs.declared.Refusal as declared
+use Rattle.refusals.proofs.Laws.{number_is, place_is, refused_is}
 use Rattle.words.specs.Words.{words}
 use Rattle.headers.specs.Header.{type_at}
 use Rattle.headers.proofs.Checks.{first_in}
@@ -25,10 +29,9 @@ use Rattle.files.specs.Progress.{IsElement, IsList, GoodAt}
 use Rattle.files.specs.Spots.{Spot, deepest}
 use Rattle.files.specs.declared.Stop.{Stop}
 use Rattle.files.specs.declared.Stop.TheVariants.{More, Done, Lacking}
-use Rattle.files.specs.declared.Verdict.{Verdict}
-use Rattle.files.specs.declared.Verdict.TheVariants.{Good, Fault}
-use Rattle.files.specs.declared.Judged.TheVariants.{Refused}
 use Rattle.files.proofs.Laws as laws
+use Rattle.files.specs.Judgement.{good_with}
+use Rattle.files.specs.declared.Judgement.{Judgement}
 use Rattle.grammar.specs.Grammar.{Element, element, Components}
 use Rattle.grammar.specs.FirstFault.{from_to, Due, ElementFault, own_words, inside, count, ListFault, here, later, no_end, FirstFault, ElementNumber, Refusal}
 use Rattle.grammar.proofs.Meaning.{tests_own}
@@ -62,30 +65,30 @@ number_within (inr (inr x)) = omega arith
 ---- what a refusal was made of
 
 -- of an element and then the rest of its list: the element's, or that of the rest after a good one
-data Then (v : Verdict) (rest : ℕ → Verdict) (n p : ℕ) : Type 0 where
-  first : v ≡ Fault n p → Then v rest n p
-  after : (next e d k : ℕ) → v ≡ Good next e d k → rest next ≡ Fault n p → Then v rest n p
+data Then (v : Result Judgement declared.Refusal) (rest : ℕ → Result Judgement declared.Refusal) (n p : ℕ) : Type 0 where
+  first : v ≡ refused_with n p → Then v rest n p
+  after : (next e d k : ℕ) → v ≡ good_with next e d k → rest next ≡ refused_with n p → Then v rest n p
 
-add_fault : (e d k : ℕ) (v : Verdict) (n p : ℕ) → add_to e d k v ≡ Fault n p → v ≡ Fault n p
-add_fault e d k (Good next e₁ d₁ k₁) n p q = cc
-add_fault e d k (Fault m r) n p q = q
+add_fault : (e d k : ℕ) (v : Result Judgement declared.Refusal) (n p : ℕ) → add_to e d k v ≡ refused_with n p → v ≡ refused_with n p
+add_fault e d k (Ok judged) n p q = cc
+add_fault e d k (Err refusal) n p q = q
 
-then_fault : (v : Verdict) (rest : ℕ → Verdict) (n p : ℕ) → and_then v rest ≡ Fault n p → Then v rest n p
-then_fault (Good next e d k) rest n p q = after next e d k refl (add_fault e d k (rest next) n p q)
-then_fault (Fault m r) rest n p q = first q
+then_fault : (v : Result Judgement declared.Refusal) (rest : ℕ → Result Judgement declared.Refusal) (n p : ℕ) → and_then v rest ≡ refused_with n p → Then v rest n p
+then_fault (Ok judged) rest n p q = after judged.next judged.elements judged.deepest judged.direct refl (add_fault judged.elements judged.deepest judged.direct (rest judged.next) n p q)
+then_fault (Err refusal) rest n p q = first q
 
 -- of a header around its components: theirs, or its count differs
-data Around (ws : List ℕ) (at : ℕ) (v : Verdict) (n p : ℕ) : Type 0 where
-  within : v ≡ Fault n p → Around ws at v n p
-  miscounted : (stop e d k : ℕ) → v ≡ Good stop e d k → count_ok ws at k ≡ false → 9 ≡ n → at ≡ p → Around ws at v n p
+data Around (ws : List ℕ) (at : ℕ) (v : Result Judgement declared.Refusal) (n p : ℕ) : Type 0 where
+  within : v ≡ refused_with n p → Around ws at v n p
+  miscounted : (stop e d k : ℕ) → v ≡ good_with stop e d k → count_ok ws at k ≡ false → 9 ≡ n → at ≡ p → Around ws at v n p
 
-around_fault : (ws : List ℕ) (at end depth : ℕ) (v : Verdict) (n p : ℕ) → enclose ws at end depth v ≡ Fault n p → Around ws at v n p
-around_fault ws at end depth (Fault m r) n p q = within q
-around_fault ws at end depth (Good stop e d k) n p q = go (count_ok ws at k) refl q
+around_fault : (ws : List ℕ) (at end depth : ℕ) (v : Result Judgement declared.Refusal) (n p : ℕ) → enclose ws at end depth v ≡ refused_with n p → Around ws at v n p
+around_fault ws at end depth (Err refusal) n p q = within q
+around_fault ws at end depth (Ok judged) n p q = go (count_ok ws at judged.direct) refl q
   where
-    go : (b : Bool) → count_ok ws at k ≡ b → cond b (Good end (1 + e) (max depth d) 1) (Fault 9 at) ≡ Fault n p → Around ws at (Good stop e d k) n p
+    go : (b : Bool) → count_ok ws at judged.direct ≡ b → cond b (good_with end (1 + judged.elements) (max depth judged.deepest) 1) (refused_with 9 at) ≡ refused_with n p → Around ws at (Ok judged) n p
     go true c q = let z : ◌≡◌ {A = ℕ} 0 1 = cc in absurd (omega arith)
-    go false c q = miscounted stop e d k refl c (cc) (cc)
+    go false c q = miscounted judged.next judged.elements judged.deepest judged.direct refl c (number_is q) (place_is q)
 
 module _ (dim : ℕ) (ws : List ℕ) where
   ---- what is judged good is of the grammar over the words between its two places, and back
@@ -135,14 +138,14 @@ module _ (dim : ℕ) (ws : List ℕ) where
         d,
         record {
           more = own_more o.rules (stands_left own (flat k) s.0) bound (omega arith);
-          good = λ fuel h. ap (λ j. Good j e d 1) (sym i) ∙ sym (element_complete dim ws depth under at bound own k o.rules o.wf s.0 (omega arith) fuel h);
+          good = λ fuel h. ap (λ j. good_with j e d 1) (sym i) ∙ sym (element_complete dim ws depth under at bound own k o.rules o.wf s.0 (omega arith) fuel h);
           on = omega arith;
           by = l;
         },
       )
 
   components_good : {depth under : ℕ} {header : Option ℕ} {at end k : ℕ} {xs : List Spot} → Components dim (suc depth) under header at k xs (from_to ws at end) →
-      at ≤ end → end ≤ length ws → (e d : ℕ) × IsList dim (depth + 1) under ws at end (Good end e d k)
+      at ≤ end → end ≤ length ws → (e d : ℕ) × IsList dim (depth + 1) under ws at end (good_with end e d k)
   components_good {depth} {under} {header} {at} {end} {k} x a b =
       let t = components_tree x in
       let s = from_to_stands at end (omega arith) b (flat t.tree) t.words in
@@ -167,14 +170,14 @@ module _ (dim : ℕ) (ws : List ℕ) where
 
   ---- a refusal is the first fault
 
-  element_by_lem : (depth under at bound n p : ℕ) (components : ℕ → ℕ → Verdict) (h : Head) → head_of dim depth under ws at bound ≡ h → element_by h ws at depth components ≡ Fault n p →
-      ((inner end : ℕ) → h ≡ Complex inner end → components inner end ≡ Fault n p → ListFault dim ws (suc depth) (type_at ws at) (some at) inner end n p) →
-      ((inner end stop e d k : ℕ) → h ≡ Complex inner end → components inner end ≡ Good stop e d k →
+  element_by_lem : (depth under at bound n p : ℕ) (components : ℕ → ℕ → Result Judgement declared.Refusal) (h : Head) → head_of dim depth under ws at bound ≡ h → element_by h ws at depth components ≡ refused_with n p →
+      ((inner end : ℕ) → h ≡ Complex inner end → components inner end ≡ refused_with n p → ListFault dim ws (suc depth) (type_at ws at) (some at) inner end n p) →
+      ((inner end stop e d k : ℕ) → h ≡ Complex inner end → components inner end ≡ good_with stop e d k →
       (xs : List Spot) × Components dim (suc depth) (type_at ws at) (some at) inner k xs (from_to ws inner end)) →
       ElementFault dim ws depth under at bound n p
   element_by_lem depth under at bound n p components (Bad m) h q f g =
-      let i : m ≡ n = cc in
-      let j : at ≡ p = cc in
+      let i = number_is q in
+      let j = place_is q in
       rw (← i, ← j) (own_words h)
   element_by_lem depth under at bound n p components (Plain next) h q f g = let z : ◌≡◌ {A = ℕ} 0 1 = cc in absurd (omega arith)
   element_by_lem depth under at bound n p components (Complex inner end) h q f g = go (around_fault ws at end depth (components inner end) n p q)
@@ -183,9 +186,9 @@ module _ (dim : ℕ) (ws : List ℕ) where
       go (within e) = inside inner end h (f inner end refl e)
       go (miscounted stop e d k c o i j) = let x = g inner end stop e d k refl c in rw (← i, ← j) (count inner end k x.0 h x.1 o)
 
-  list_by_lem : (depth under : ℕ) (header : Option ℕ) (at bound n p : ℕ) (each rest : ℕ → Verdict) (s : Stop) → stop_of depth ws at bound ≡ s → at ≤ bound →
-      list_by s at each rest ≡ Fault n p → (each at ≡ Fault n p → ElementFault dim ws depth under at bound n p) →
-      ((next e d k : ℕ) → at < bound → each at ≡ Good next e d k → rest next ≡ Fault n p → ListFault dim ws depth under header at bound n p) →
+  list_by_lem : (depth under : ℕ) (header : Option ℕ) (at bound n p : ℕ) (each rest : ℕ → Result Judgement declared.Refusal) (s : Stop) → stop_of depth ws at bound ≡ s → at ≤ bound →
+      list_by s at each rest ≡ refused_with n p → (each at ≡ refused_with n p → ElementFault dim ws depth under at bound n p) →
+      ((next e d k : ℕ) → at < bound → each at ≡ good_with next e d k → rest next ≡ refused_with n p → ListFault dim ws depth under header at bound n p) →
       ListFault dim ws depth under header at bound n p
   list_by_lem depth under header at bound n p each rest More h a q f g = go (then_fault (each at) rest n p q)
     where
@@ -195,15 +198,15 @@ module _ (dim : ℕ) (ws : List ℕ) where
   list_by_lem depth under header at bound n p each rest Done h a q f g = let z : ◌≡◌ {A = ℕ} 0 1 = cc in absurd (omega arith)
   list_by_lem depth under header at bound n p each rest Lacking h a q f g =
       let s = stopped depth ws at bound Lacking h a in
-      let i : 2 ≡ n = cc in
-      let j : at ≡ p = cc in
+      let i = number_is q in
+      let j = place_is q in
       rw (s.0, s.1, ← i, ← j) no_end
 
   mutual
     unfolding element_from
 
     element_first : (fuel depth under at bound n p : ℕ) → at ≤ bound → bound ≤ length ws → 2 * (bound - at) < fuel →
-        element_from fuel dim depth under ws at bound ≡ Fault n p → ElementFault dim ws depth under at bound n p
+        element_from fuel dim depth under ws at bound ≡ refused_with n p → ElementFault dim ws depth under at bound n p
     element_first zero depth under at bound n p a b l q = absurd (omega arith)
     element_first (suc fuel) depth under at bound n p a b l q =
         element_by_lem depth under at bound n p (λ inner end. list_from fuel dim (depth + 1) (type_at ws at) ws inner end) (head_of dim depth under ws at bound) refl q
@@ -217,7 +220,7 @@ module _ (dim : ℕ) (ws : List ℕ) where
         (list_sound dim ws fuel (depth + 1) (type_at ws at) (some at) inner end stop e d k (omega arith) (omega arith) r)))
 
     list_first : (fuel depth under : ℕ) (header : Option ℕ) (at bound n p : ℕ) → at ≤ bound → bound ≤ length ws → 2 * (bound - at) + 1 < fuel →
-        list_from fuel dim depth under ws at bound ≡ Fault n p → ListFault dim ws depth under header at bound n p
+        list_from fuel dim depth under ws at bound ≡ refused_with n p → ListFault dim ws depth under header at bound n p
     list_first zero depth under header at bound n p a b l q = absurd (omega arith)
     list_first (suc fuel) depth under header at bound n p a b l q =
         list_by_lem depth under header at bound n p (λ at. element_from fuel dim depth under ws at bound) (λ next. list_from fuel dim depth under ws next bound)
@@ -234,11 +237,11 @@ module _ (dim : ℕ) (ws : List ℕ) where
 
   mutual
     element_refused : {depth under at bound n p : ℕ} → ElementFault dim ws depth under at bound n p → at ≤ bound → bound ≤ length ws →
-        IsElement dim depth under ws at bound (Fault n p)
+        IsElement dim depth under ws at bound (refused_with n p)
     element_refused {depth} {under} {at} {bound} {n} (own_words h) a b = laws.element_bad dim depth under ws at bound n h
     element_refused {depth} {under} {at} {bound} {n} {p} (inside inner end h f) a b =
         let w = complex_within depth under at bound inner end h in
-        laws.element_complex dim depth under ws at bound inner end (Fault n p) h w
+        laws.element_complex dim depth under ws at bound inner end (refused_with n p) h w
         (rw (add-one depth) (list_refused f (omega arith) (omega arith)))
     element_refused {depth} {under} {at} {bound} (count inner end k xs h c o) a b =
         let w = complex_within depth under at bound inner end h in
@@ -246,29 +249,29 @@ module _ (dim : ℕ) (ws : List ℕ) where
         laws.element_miscounted dim depth under ws at bound inner end end g.0 g.1 k h w g.2 o
 
     list_refused : {depth under : ℕ} {header : Option ℕ} {at bound n p : ℕ} → ListFault dim ws depth under header at bound n p → at ≤ bound → bound ≤ length ws →
-        IsList dim depth under ws at bound (Fault n p)
+        IsList dim depth under ws at bound (refused_with n p)
     list_refused {depth} {under} {header} {at} {bound} {n} {p} (here d f) a b =
         laws.list_refused dim depth under ws at bound n p (due_more depth ws at bound d) (element_refused f a b)
     list_refused {depth} {under} {header} {at} {bound} {n} {p} (later next xs l x f) a b =
         let g = element_good x bound a l b in
-        laws.list_more dim depth under ws at bound next g.0 g.1 1 (Fault n p) g.2.more g.2.good g.2.on (list_refused f l b)
+        laws.list_more dim depth under ws at bound next g.0 g.1 1 (refused_with n p) g.2.more g.2.good g.2.on (list_refused f l b)
     list_refused (no_end {under} {header} {bound}) a b = laws.list_lacking dim 0 under ws bound bound (end_lacking ws bound)
 
   -- of an element with its extent, as a piece that is handed in
   pub element_exactly : (depth under at bound n p : ℕ) → at ≤ bound → bound ≤ length ws →
-      (element_of dim depth under ws at bound ≡ Fault n p) ↔ ElementFault dim ws depth under at bound n p
+      (element_of dim depth under ws at bound ≡ refused_with n p) ↔ ElementFault dim ws depth under at bound n p
   unfolding element_of
   element_exactly depth under at bound n p a b = (
     element_first (2 * (bound - at) + 1) depth under at bound n p a b (omega arith),
-    λ f. sym (laws.element_of_lem dim depth under ws at bound (Fault n p) (element_refused f a b)),
+    λ f. sym (laws.element_of_lem dim depth under ws at bound (refused_with n p) (element_refused f a b)),
   )
 
   -- of all elements of a file
-  pub top_exactly : (n p : ℕ) → (top_of dim ws ≡ Fault n p) ↔ FirstFault dim ws n p
+  pub top_exactly : (n p : ℕ) → (top_of dim ws ≡ refused_with n p) ↔ FirstFault dim ws n p
   unfolding top_of
   top_exactly n p = (
     list_first (2 * length ws + 2) 0 0 none 0 (length ws) n p (omega arith) (omega arith) (omega arith),
-    λ f. sym (laws.top_of_lem dim ws (Fault n p) (list_refused f (omega arith) (omega arith))),
+    λ f. sym (laws.top_of_lem dim ws (refused_with n p) (list_refused f (omega arith) (omega arith))),
   )
 
   ---- where it is
@@ -304,7 +307,7 @@ module _ (dim : ℕ) (ws : List ℕ) where
     list_place no_end = inl (refl, refl)
 
   -- of an element with its extent, and of a file
-  pub element_refusal : (depth under at bound : ℕ) → at ≤ bound → bound ≤ length ws → (n p : ℕ) → element_of dim depth under ws at bound ≡ Fault n p →
+  pub element_refusal : (depth under at bound : ℕ) → at ≤ bound → bound ≤ length ws → (n p : ℕ) → element_of dim depth under ws at bound ≡ refused_with n p →
       ElementNumber n × (p < max bound (at + 1))
   element_refusal depth under at bound a b n p q = element_place ((element_exactly depth under at bound n p a b).0 q)
 
@@ -313,12 +316,12 @@ module _ (dim : ℕ) (ws : List ℕ) where
 
 ---- a file
 
-answer_fault : (v : Verdict) (n p : ℕ) → answer v ≡ Refused n p → v ≡ Fault n p
-answer_fault (Good next e d k) n p q = cc
-answer_fault (Fault m r) n p q = cc
+answer_fault : (v : Result Judgement declared.Refusal) (n p : ℕ) → answer v ≡ refused_with n p → v ≡ refused_with n p
+answer_fault (Ok judged) n p q = cc
+answer_fault (Err refusal) n p q = cc
 
 -- a file of an allowed length and dimension is refused exactly at its first fault
-pub refused_exactly : (dim : ℕ) (s : List ℕ) (n p : ℕ) → call_ok dim s ≡ true → (judge_of dim s ≡ Refused n p) ↔ FirstFault dim (words s) n p
+pub refused_exactly : (dim : ℕ) (s : List ℕ) (n p : ℕ) → call_ok dim s ≡ true → (judge_of dim s ≡ refused_with n p) ↔ FirstFault dim (words s) n p
 unfolding judge_of
 refused_exactly dim s n p c = (
   λ q. (top_exactly dim (words s) n p).0 (answer_fault (top_of dim (words s)) n p (rw c at q)),
@@ -330,10 +333,10 @@ above_one : {n p size : ℕ} → ((n ≡ 2) × (p ≡ size)) ⊎ (ElementNumber 
 above_one (inl x) e = omega arith
 above_one (inr x) e = omega (arith, number_within x.0)
 
-pub refused_call : (dim : ℕ) (s : List ℕ) → (judge_of dim s ≡ Refused 1 0) ↔ (call_ok dim s ≡ false)
+pub refused_call : (dim : ℕ) (s : List ℕ) → (judge_of dim s ≡ refused_with 1 0) ↔ (call_ok dim s ≡ false)
 refused_call dim s = (λ q. go (call_ok dim s) refl q, λ c. sym (laws.judge_call dim s c))
   where
-    go : (b : Bool) → call_ok dim s ≡ b → judge_of dim s ≡ Refused 1 0 → call_ok dim s ≡ false
+    go : (b : Bool) → call_ok dim s ≡ b → judge_of dim s ≡ refused_with 1 0 → call_ok dim s ≡ false
     go false c q = c
     go true c q = absurd (above_one (fault_place dim (words s) 1 0 ((refused_exactly dim s 1 0 c).0 q)) refl)
 
@@ -342,12 +345,12 @@ pub one_fault : (dim : ℕ) (ws : List ℕ) (n p m q : ℕ) → FirstFault dim w
 one_fault dim ws n p m q f g =
     let a = (top_exactly dim ws n p).1 f in
     let b = (top_exactly dim ws m q).1 g in
-    (cc, cc)
+    refused_is (sym a ∙ b)
 
 -- the number and the place of a refusal
-pub refusal_place : (dim : ℕ) (s : List ℕ) (n p : ℕ) → judge_of dim s ≡ Refused n p → Refusal (length (words s)) n p
+pub refusal_place : (dim : ℕ) (s : List ℕ) (n p : ℕ) → judge_of dim s ≡ refused_with n p → Refusal (length (words s)) n p
 refusal_place dim s n p q = go (call_ok dim s) refl
   where
     go : (b : Bool) → call_ok dim s ≡ b → Refusal (length (words s)) n p
     go true c = inr (fault_place dim (words s) n p ((refused_exactly dim s n p c).0 q))
-    go false c = let e = laws.judge_call dim s c in inl (cc, cc)
+    go false c = let e = sym q ∙ sym (laws.judge_call dim s c) in inl (refused_is e)

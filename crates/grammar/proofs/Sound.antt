@@ -10,6 +10,10 @@ use native.Mathlib.Numerals.{add-one}
 use lib.ListN.{length, take, drop, length-append, length-drop}
 use lib.Seq.{length-take-le}
 use borrow.Author.Tests.{leb-true}
+use Rattle.std.specs.Prelude.{Err, Ok, Result}
+use Rattle.refusals.proofs.Laws.{given_is}
+use Rattle.refusals.specs.Refusals.{refused_with}
+use Rattle.refusals.specs.declared.Refusal.{Refusal}
 use Rattle.headers.specs.Header.{type_at, size_at}
 use Rattle.elements.specs.Rules.{head_of, count_ok}
 use Rattle.elements.specs.declared.Head.{Head}
@@ -19,9 +23,9 @@ use Rattle.files.specs.Judge.{add_to, and_then, enclose, element_by, list_by, el
 use Rattle.files.specs.Spots.{deepest}
 use Rattle.files.specs.declared.Stop.{Stop}
 use Rattle.files.specs.declared.Stop.TheVariants.{More, Done, Lacking}
-use Rattle.files.specs.declared.Verdict.{Verdict}
-use Rattle.files.specs.declared.Verdict.TheVariants.{Good, Fault}
 use Rattle.files.proofs.Laws.{stop_more}
+use Rattle.files.specs.Judgement.{good_with}
+use Rattle.files.specs.declared.Judgement.{Judgement}
 use Rattle.grammar.proofs.Tests.{OwnTests}
 use Rattle.grammar.proofs.Forest.{Forest, nil, node, flat, num, weight, Wf, spots, length_node, deepest_append}
 use Rattle.grammar.proofs.Stands.{Stands, stands_nil, stands_part, stands_join}
@@ -32,7 +36,7 @@ use Rattle.grammar.proofs.Ends.{Ends, stop_ends}
 ---- what a good verdict was made of
 
 -- an element and then the rest of its list
-record Then (v : Verdict) (rest : ℕ → Verdict) (next e d k : ℕ) : Type 0 where
+record Then (v : Result Judgement Refusal) (rest : ℕ → Result Judgement Refusal) (next e d k : ℕ) : Type 0 where
   mid : ℕ
   e₁ : ℕ
   d₁ : ℕ
@@ -40,57 +44,57 @@ record Then (v : Verdict) (rest : ℕ → Verdict) (next e d k : ℕ) : Type 0 w
   e₂ : ℕ
   d₂ : ℕ
   k₂ : ℕ
-  first : v ≡ Good mid e₁ d₁ k₁
-  others : rest mid ≡ Good next e₂ d₂ k₂
+  first : v ≡ good_with mid e₁ d₁ k₁
+  others : rest mid ≡ good_with next e₂ d₂ k₂
   elements : e₁ + e₂ ≡ e
   deep : max d₁ d₂ ≡ d
   direct : k₁ + k₂ ≡ k
 
-good_same : {n m e f d g k l : ℕ} → Good n e d k ≡ Good m f g l → (n ≡ m) × (e ≡ f) × (d ≡ g) × (k ≡ l)
-good_same q = (cc, cc, cc, cc)
+good_same : {n m e f d g k l : ℕ} → good_with n e d k ≡ good_with m f g l → (n ≡ m) × (e ≡ f) × (d ≡ g) × (k ≡ l)
+good_same q = let e = given_is q in (ap (λ j. j.next) e, ap (λ j. j.elements) e, ap (λ j. j.deepest) e, ap (λ j. j.direct) e)
 
-then_inv : (v : Verdict) (rest : ℕ → Verdict) (next e d k : ℕ) → and_then v rest ≡ Good next e d k → Then v rest next e d k
-then_inv (Fault n p) rest next e d k q = let z : ◌≡◌ {A = ℕ} 0 1 = cc in absurd (omega arith)
-then_inv (Good mid e₁ d₁ k₁) rest next e d k q = go (rest mid) refl q
+then_inv : (v : Result Judgement Refusal) (rest : ℕ → Result Judgement Refusal) (next e d k : ℕ) → and_then v rest ≡ good_with next e d k → Then v rest next e d k
+then_inv (Err refusal) rest next e d k q = let z : ◌≡◌ {A = ℕ} 0 1 = cc in absurd (omega arith)
+then_inv (Ok one) rest next e d k q = go (rest one.next) refl q
   where
-    go : (w : Verdict) → rest mid ≡ w → add_to e₁ d₁ k₁ w ≡ Good next e d k → Then (Good mid e₁ d₁ k₁) rest next e d k
-    go (Fault n p) r q = let z : ◌≡◌ {A = ℕ} 0 1 = cc in absurd (omega arith)
-    go (Good m e₂ d₂ k₂) r q = let s = good_same q in record {
-      mid = mid;
-      e₁ = e₁;
-      d₁ = d₁;
-      k₁ = k₁;
-      e₂ = e₂;
-      d₂ = d₂;
-      k₂ = k₂;
+    go : (w : Result Judgement Refusal) → rest one.next ≡ w → add_to one.elements one.deepest one.direct w ≡ good_with next e d k → Then (Ok one) rest next e d k
+    go (Err refusal) r q = let z : ◌≡◌ {A = ℕ} 0 1 = cc in absurd (omega arith)
+    go (Ok more) r q = let s = good_same q in record {
+      mid = one.next;
+      e₁ = one.elements;
+      d₁ = one.deepest;
+      k₁ = one.direct;
+      e₂ = more.elements;
+      d₂ = more.deepest;
+      k₂ = more.direct;
       first = refl;
-      others = r ∙ ap (λ x. Good x e₂ d₂ k₂) s.0;
+      others = r ∙ ap (λ x. good_with x more.elements more.deepest more.direct) s.0;
       elements = s.1;
       deep = s.2;
       direct = s.3;
     }
 
 -- a header around its components
-record Around (ws : List ℕ) (at end depth : ℕ) (v : Verdict) (next e d k : ℕ) : Type 0 where
+record Around (ws : List ℕ) (at end depth : ℕ) (v : Result Judgement Refusal) (next e d k : ℕ) : Type 0 where
   stop : ℕ
   e₁ : ℕ
   d₁ : ℕ
   k₁ : ℕ
-  inside : v ≡ Good stop e₁ d₁ k₁
+  inside : v ≡ good_with stop e₁ d₁ k₁
   count : count_ok ws at k₁ ≡ true
   last : end ≡ next
   elements : 1 + e₁ ≡ e
   deep : max depth d₁ ≡ d
   direct : 1 ≡ k
 
-around_inv : (ws : List ℕ) (at end depth : ℕ) (v : Verdict) (next e d k : ℕ) → enclose ws at end depth v ≡ Good next e d k → Around ws at end depth v next e d k
-around_inv ws at end depth (Fault n p) next e d k q = let z : ◌≡◌ {A = ℕ} 0 1 = cc in absurd (omega arith)
-around_inv ws at end depth (Good stop e₁ d₁ k₁) next e d k q = go (count_ok ws at k₁) refl q
+around_inv : (ws : List ℕ) (at end depth : ℕ) (v : Result Judgement Refusal) (next e d k : ℕ) → enclose ws at end depth v ≡ good_with next e d k → Around ws at end depth v next e d k
+around_inv ws at end depth (Err refusal) next e d k q = let z : ◌≡◌ {A = ℕ} 0 1 = cc in absurd (omega arith)
+around_inv ws at end depth (Ok judged) next e d k q = go (count_ok ws at judged.direct) refl q
   where
-    go : (b : Bool) → count_ok ws at k₁ ≡ b → cond b (Good end (1 + e₁) (max depth d₁) 1) (Fault 9 at) ≡ Good next e d k → Around ws at end depth (Good stop e₁ d₁ k₁) next e d k
+    go : (b : Bool) → count_ok ws at judged.direct ≡ b → cond b (good_with end (1 + judged.elements) (max depth judged.deepest) 1) (refused_with 9 at) ≡ good_with next e d k → Around ws at end depth (Ok judged) next e d k
     go false c q = let z : ◌≡◌ {A = ℕ} 0 1 = cc in absurd (omega arith)
     go true c q = let s = good_same q in record
-        { stop = stop; e₁ = e₁; d₁ = d₁; k₁ = k₁; inside = refl; count = c; last = s.0; elements = s.1; deep = s.2; direct = s.3 }
+        { stop = judged.next; e₁ = judged.elements; d₁ = judged.deepest; k₁ = judged.direct; inside = refl; count = c; last = s.0; elements = s.1; deep = s.2; direct = s.3 }
 
 module _ (dim : ℕ) (ws : List ℕ) where
   -- an element of the grammar from the place at to the place next, with e elements, the deepest at d
@@ -119,12 +123,12 @@ module _ (dim : ℕ) (ws : List ℕ) where
 
   ---- the cases
 
-  list_done : (depth under : ℕ) (header : Option ℕ) (at bound next e d k : ℕ) → Ends depth ws at bound → Good at 0 0 0 ≡ Good next e d k →
+  list_done : (depth under : ℕ) (header : Option ℕ) (at bound next e d k : ℕ) → Ends depth ws at bound → good_with at 0 0 0 ≡ good_with next e d k →
       ListRead depth under header at bound next e d k
   list_done depth under header at bound next e d k n q = let s = good_same q in record
       { tree = nil; wf = tt; stands = stands_nil at ws; last = omega arith; ends = rw s.0 at n; elements = s.1; deep = s.2; direct = s.3 }
 
-  list_more : (depth under : ℕ) (header : Option ℕ) (at bound next e d k : ℕ) (v : Verdict) (rest : ℕ → Verdict) (t : Then v rest next e d k) →
+  list_more : (depth under : ℕ) (header : Option ℕ) (at bound next e d k : ℕ) (v : Result Judgement Refusal) (rest : ℕ → Result Judgement Refusal) (t : Then v rest next e d k) →
       ElementRead depth under at bound t.mid t.e₁ t.d₁ t.k₁ → ListRead depth under header t.mid bound next t.e₂ t.d₂ t.k₂ →
       ListRead depth under header at bound next e d k
   list_more depth under header at bound next e d k v rest t x y =
@@ -154,7 +158,7 @@ module _ (dim : ℕ) (ws : List ℕ) where
       (omega arith, length-take-le (size_at ws at) (drop at ws) (omega arith))
 
   element_plain : (depth under at bound next' next e d k : ℕ) → head_of dim depth under ws at bound ≡ Plain next' → bound ≤ length ws →
-      Good next' 1 depth 1 ≡ Good next e d k → ElementRead depth under at bound next e d k
+      good_with next' 1 depth 1 ≡ good_with next e d k → ElementRead depth under at bound next e d k
   element_plain depth under at bound next' next e d k h b q =
       let r = plain_read dim depth under ws at bound next' h in
       let w = own_words r.0 b in
@@ -174,7 +178,7 @@ module _ (dim : ℕ) (ws : List ℕ) where
         direct = s.3;
       }
 
-  element_complex : (depth under at bound inner end next e d k : ℕ) (v : Verdict) → head_of dim depth under ws at bound ≡ Complex inner end → bound ≤ length ws →
+  element_complex : (depth under at bound inner end next e d k : ℕ) (v : Result Judgement Refusal) → head_of dim depth under ws at bound ≡ Complex inner end → bound ≤ length ws →
       (t : Around ws at end depth v next e d k) → ListRead (suc depth) (type_at ws at) (some at) inner end t.stop t.e₁ t.d₁ t.k₁ →
       ElementRead depth under at bound next e d k
   element_complex depth under at bound inner end next e d k v h b t l =
@@ -198,16 +202,16 @@ module _ (dim : ℕ) (ws : List ℕ) where
 
   ---- by the fuel
 
-  list_by_lem : (depth under : ℕ) (header : Option ℕ) (at bound next e d k : ℕ) (element rest : ℕ → Verdict) (s : Stop) → stop_of depth ws at bound ≡ s → at ≤ bound →
-      list_by s at element rest ≡ Good next e d k → (at < bound → Then (element at) rest next e d k → ListRead depth under header at bound next e d k) →
+  list_by_lem : (depth under : ℕ) (header : Option ℕ) (at bound next e d k : ℕ) (element rest : ℕ → Result Judgement Refusal) (s : Stop) → stop_of depth ws at bound ≡ s → at ≤ bound →
+      list_by s at element rest ≡ good_with next e d k → (at < bound → Then (element at) rest next e d k → ListRead depth under header at bound next e d k) →
       ListRead depth under header at bound next e d k
   list_by_lem depth under header at bound next e d k element rest More h a q f = f (stop_more depth ws at bound h) (then_inv (element at) rest next e d k q)
   list_by_lem depth under header at bound next e d k element rest Done h a q f = list_done depth under header at bound next e d k (stop_ends depth ws at bound h a) q
   list_by_lem depth under header at bound next e d k element rest Lacking h a q f = let z : ◌≡◌ {A = ℕ} 0 1 = cc in absurd (omega arith)
 
-  element_by_lem : (depth under at bound next e d k : ℕ) (components : ℕ → ℕ → Verdict) (h : Head) → head_of dim depth under ws at bound ≡ h → bound ≤ length ws →
-      element_by h ws at depth components ≡ Good next e d k →
-      ((inner end stop e₁ d₁ k₁ : ℕ) → inner ≤ end → end ≤ bound → components inner end ≡ Good stop e₁ d₁ k₁ →
+  element_by_lem : (depth under at bound next e d k : ℕ) (components : ℕ → ℕ → Result Judgement Refusal) (h : Head) → head_of dim depth under ws at bound ≡ h → bound ≤ length ws →
+      element_by h ws at depth components ≡ good_with next e d k →
+      ((inner end stop e₁ d₁ k₁ : ℕ) → inner ≤ end → end ≤ bound → components inner end ≡ good_with stop e₁ d₁ k₁ →
       ListRead (suc depth) (type_at ws at) (some at) inner end stop e₁ d₁ k₁) →
       ElementRead depth under at bound next e d k
   element_by_lem depth under at bound next e d k components (Bad n) h b q f = let z : ◌≡◌ {A = ℕ} 0 1 = cc in absurd (omega arith)
@@ -223,7 +227,7 @@ module _ (dim : ℕ) (ws : List ℕ) where
     unfolding element_from
 
     pub element_sound : (n depth under at bound next e d k : ℕ) → at ≤ bound → bound ≤ length ws →
-        element_from n dim depth under ws at bound ≡ Good next e d k → ElementRead depth under at bound next e d k
+        element_from n dim depth under ws at bound ≡ good_with next e d k → ElementRead depth under at bound next e d k
     element_sound zero depth under at bound next e d k a b q = let z : ◌≡◌ {A = ℕ} 0 1 = cc in absurd (omega arith)
     element_sound (suc n) depth under at bound next e d k a b q =
         element_by_lem depth under at bound next e d k (λ inner end. list_from n dim (depth + 1) (type_at ws at) ws inner end) (head_of dim depth under ws at bound) refl b q
@@ -232,7 +236,7 @@ module _ (dim : ℕ) (ws : List ℕ) where
         (list_sound n (depth + 1) (type_at ws at) (some at) inner end stop e₁ d₁ k₁ i (omega arith) p))
 
     pub list_sound : (n depth under : ℕ) (header : Option ℕ) (at bound next e d k : ℕ) → at ≤ bound → bound ≤ length ws →
-        list_from n dim depth under ws at bound ≡ Good next e d k → ListRead depth under header at bound next e d k
+        list_from n dim depth under ws at bound ≡ good_with next e d k → ListRead depth under header at bound next e d k
     list_sound zero depth under header at bound next e d k a b q = let z : ◌≡◌ {A = ℕ} 0 1 = cc in absurd (omega arith)
     list_sound (suc n) depth under header at bound next e d k a b q =
         list_by_lem depth under header at bound next e d k (λ here. element_from n dim depth under ws here bound) (λ next. list_from n dim depth under ws next bound)

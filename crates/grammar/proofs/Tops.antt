@@ -6,6 +6,9 @@ use mathlib.Core.Bool.{Bool, true, false}
 use mathlib.Core.List.{List}
 use native.Mathlib.Omega.{arith}
 use lib.ListN.{length}
+use Rattle.std.specs.Prelude.{Err, Ok, Result}
+use Rattle.refusals.specs.Refusals.{refused_with}
+use Rattle.refusals.specs.declared.Refusal.{Refusal}
 use Rattle.words.specs.Words.{words}
 use Rattle.words.proofs.Laws.{length_words}
 use Rattle.headers.specs.Header.{type_at}
@@ -17,22 +20,22 @@ use Rattle.files.specs.Judge.{add_to, and_then, enclose, element_by, list_by, el
 use Rattle.limits.specs.Limits.{call_ok}
 use Rattle.files.specs.Progress.{IsElement, ListIn, list_in, tally, Passed}
 use Rattle.files.specs.Reach.{reached_if, reached_by, reached_from, reached_of, stops_after}
-use Rattle.files.specs.declared.Reached.{Reached}
 use Rattle.files.specs.declared.Reached.TheVariants as reached
 use Rattle.files.specs.declared.Stop.{Stop}
 use Rattle.files.specs.declared.Stop.TheVariants.{More, Done, Lacking}
-use Rattle.files.specs.declared.Verdict.{Verdict}
-use Rattle.files.specs.declared.Verdict.TheVariants.{Good, Fault}
-use Rattle.files.specs.declared.Judged.TheVariants.{Accepted, Refused}
 use Rattle.files.proofs.Laws.{passed_none, passed_done, passed_lacking, passed_refused, passed_more, judge_top, stop_more}
 use Rattle.grammar.proofs.Rules.{complex_read, checked_extent, own_two}
 use Rattle.grammar.proofs.Sound.{ElementRead, element_sound}
+use Rattle.files.specs.declared.Reached.{Reached}
+use Rattle.files.specs.Accepted.{accepted_with}
+use Rattle.files.specs.Judgement.{good_with}
+use Rattle.files.specs.declared.Judgement.{Judgement}
 
 ---- the number does not matter
 
 module _ (dim : ℕ) (ws : List ℕ) where
   -- an element, by its components
-  element_by_lem : (depth under at bound : ℕ) (f g : ℕ → ℕ → Verdict) (h : Head) → head_of dim depth under ws at bound ≡ h →
+  element_by_lem : (depth under at bound : ℕ) (f g : ℕ → ℕ → Result Judgement Refusal) (h : Head) → head_of dim depth under ws at bound ≡ h →
       ((inner end : ℕ) → at < inner → inner ≤ end → end ≤ bound → f inner end ≡ g inner end) → element_by h ws at depth f ≡ element_by h ws at depth g
   element_by_lem depth under at bound f g (Bad n) e k = refl
   element_by_lem depth under at bound f g (Plain next) e k = refl
@@ -42,13 +45,13 @@ module _ (dim : ℕ) (ws : List ℕ) where
       ap (enclose ws at end depth) (k inner end (omega arith) (omega arith) (omega arith))
 
   -- an element and then the rest of its list
-  then_by : (v : Verdict) (f g : ℕ → Verdict) → ((next e d k : ℕ) → v ≡ Good next e d k → f next ≡ g next) → and_then v f ≡ and_then v g
-  then_by (Good next e d k) f g h = ap (add_to e d k) (h next e d k refl)
-  then_by (Fault n p) f g h = refl
+  then_by : (v : Result Judgement Refusal) (f g : ℕ → Result Judgement Refusal) → ((next e d k : ℕ) → v ≡ good_with next e d k → f next ≡ g next) → and_then v f ≡ and_then v g
+  then_by (Ok judged) f g h = ap (add_to judged.elements judged.deepest judged.direct) (h judged.next judged.elements judged.deepest judged.direct refl)
+  then_by (Err refusal) f g h = refl
 
   -- a list, by its first element and the rest
-  list_by_lem : (depth at bound : ℕ) (a b f g : ℕ → Verdict) (h : Stop) → stop_of depth ws at bound ≡ h →
-      (at < bound → a at ≡ b at) → ((next e d k : ℕ) → at < bound → a at ≡ Good next e d k → f next ≡ g next) → list_by h at a f ≡ list_by h at b g
+  list_by_lem : (depth at bound : ℕ) (a b f g : ℕ → Result Judgement Refusal) (h : Stop) → stop_of depth ws at bound ≡ h →
+      (at < bound → a at ≡ b at) → ((next e d k : ℕ) → at < bound → a at ≡ good_with next e d k → f next ≡ g next) → list_by h at a f ≡ list_by h at b g
   list_by_lem depth at bound a b f g Done e x y = refl
   list_by_lem depth at bound a b f g Lacking e x y = refl
   list_by_lem depth at bound a b f g More e x y =
@@ -84,12 +87,12 @@ module _ (dim : ℕ) (ws : List ℕ) where
         let z = r.last in
         list_same n m depth under next bound b (omega arith) (omega arith))
 
-  pub element_is : (depth under at bound : ℕ) (r : Verdict) → bound ≤ length ws → r ≡ element_of dim depth under ws at bound → IsElement dim depth under ws at bound r
+  pub element_is : (depth under at bound : ℕ) (r : Result Judgement Refusal) → bound ≤ length ws → r ≡ element_of dim depth under ws at bound → IsElement dim depth under ws at bound r
   unfolding element_of
   element_is depth under at bound r b e n l = e ∙ element_same (2 * (bound - at) + 1) n depth under at bound b (omega arith) l
 
   -- a good one is of the grammar
-  pub element_read : (depth under at bound next e d k : ℕ) → at ≤ bound → bound ≤ length ws → Good next e d k ≡ element_of dim depth under ws at bound →
+  pub element_read : (depth under at bound next e d k : ℕ) → at ≤ bound → bound ≤ length ws → good_with next e d k ≡ element_of dim depth under ws at bound →
       ElementRead dim ws depth under at bound next e d k
   unfolding element_of
   element_read depth under at bound next e d k a b q = element_sound dim ws (2 * (bound - at) + 1) depth under at bound next e d k a b (sym q)
@@ -114,23 +117,23 @@ judged_none {dim} {s} = record { inside = omega arith; elements = 0; deepest = 0
 module _ {dim : ℕ} {s : List ℕ} {here : ℕ} (j : Judged dim s here) where
   -- the marker, or the end of the file, stands there
   module _ (call : call_ok dim s ≡ true) where
-    pub judged_done : stop_of 0 (words s) here (length s / 2) ≡ Done → judge_of dim s ≡ Accepted j.elements j.deepest here
-    judged_done h = sym (judge_top dim s (Good here j.elements j.deepest j.direct) call (passed_done (top_list dim s) here _ j.passed h))
+    pub judged_done : stop_of 0 (words s) here (length s / 2) ≡ Done → judge_of dim s ≡ accepted_with j.elements j.deepest here
+    judged_done h = sym (judge_top dim s (good_with here j.elements j.deepest j.direct) call (passed_done (top_list dim s) here _ j.passed h))
 
-    pub judged_lacking : stop_of 0 (words s) here (length s / 2) ≡ Lacking → judge_of dim s ≡ Refused 2 here
-    judged_lacking h = sym (judge_top dim s (Fault 2 here) call (passed_lacking (top_list dim s) here _ j.passed h))
+    pub judged_lacking : stop_of 0 (words s) here (length s / 2) ≡ Lacking → judge_of dim s ≡ refused_with 2 here
+    judged_lacking h = sym (judge_top dim s (refused_with 2 here) call (passed_lacking (top_list dim s) here _ j.passed h))
 
   -- an element stands there
   module _ (more : stop_of 0 (words s) here (length s / 2) ≡ More) where
     bound_in : length s / 2 ≤ length (words s)
     bound_in = let l = length_words s in omega arith
 
-    pub judged_fault : (n p : ℕ) → call_ok dim s ≡ true → Fault n p ≡ element_of dim 0 0 (words s) here (length s / 2) → judge_of dim s ≡ Refused n p
+    pub judged_fault : (n p : ℕ) → call_ok dim s ≡ true → refused_with n p ≡ element_of dim 0 0 (words s) here (length s / 2) → judge_of dim s ≡ refused_with n p
     judged_fault n p call q =
-        sym (judge_top dim s (Fault n p) call
-        (passed_refused (top_list dim s) here _ j.passed more n p (element_is dim (words s) 0 0 here (length s / 2) (Fault n p) bound_in q)))
+        sym (judge_top dim s (refused_with n p) call
+        (passed_refused (top_list dim s) here _ j.passed more n p (element_is dim (words s) 0 0 here (length s / 2) (refused_with n p) bound_in q)))
 
-    module _ {next e d k : ℕ} (good : Good next e d k ≡ element_of dim 0 0 (words s) here (length s / 2)) where
+    module _ {next e d k : ℕ} (good : good_with next e d k ≡ element_of dim 0 0 (words s) here (length s / 2)) where
       pub judged_read : ElementRead dim (words s) 0 0 here (length s / 2) next e d k
       judged_read = element_read dim (words s) 0 0 here (length s / 2) next e d k j.inside bound_in good
 
@@ -144,36 +147,36 @@ module _ {dim : ℕ} {s : List ℕ} {here : ℕ} (j : Judged dim s here) where
         deepest = _;
         direct = _;
         passed =
-            passed_more (top_list dim s) here _ j.passed more next e d k (element_is dim (words s) 0 0 here (length s / 2) (Good next e d k) bound_in good) judged_on;
+            passed_more (top_list dim s) here _ j.passed more next e d k (element_is dim (words s) 0 0 here (length s / 2) (good_with next e d k) bound_in good) judged_on;
       }
 
 ---- what is reached from a place at the top
 
 module _ (dim : ℕ) (s : List ℕ) (until : ℕ) (each : Bool) (Q : ℕ → ℕ → Type 0) where
   -- Q holds, with the number of elements passed, where judging came to
-  abbrev pub Arrived : Reached → Type 0
-  Arrived (reached.Element a b k) =
-      (e d j : ℕ) × (Q k a × (stop_of 0 (words s) a (length s / 2) ≡ More) × (Good b e d j ≡ element_of dim 0 0 (words s) a (length s / 2)) × (stops_after (words s) until each a b ≡ true))
-  Arrived (reached.End a k) = Q k a × (stop_of 0 (words s) a (length s / 2) ≡ Done)
-  Arrived (reached.Refused n p) = judge_of dim s ≡ Refused n p
+  abbrev pub Arrived : Result Reached Refusal → Type 0
+  Arrived (Ok (reached.Element a b k)) =
+      (e d j : ℕ) × (Q k a × (stop_of 0 (words s) a (length s / 2) ≡ More) × (good_with b e d j ≡ element_of dim 0 0 (words s) a (length s / 2)) × (stops_after (words s) until each a b ≡ true))
+  Arrived (Ok (reached.End a k)) = Q k a × (stop_of 0 (words s) a (length s / 2) ≡ Done)
+  Arrived (Err refusal) = judge_of dim s ≡ Err refusal
 
   module _ (call : call_ok dim s ≡ true) (judged : (k a : ℕ) → Q k a → Judged dim s a)
-      (step : (k a next e d j : ℕ) → Q k a → stop_of 0 (words s) a (length s / 2) ≡ More → Good next e d j ≡ element_of dim 0 0 (words s) a (length s / 2) →
+      (step : (k a next e d j : ℕ) → Q k a → stop_of 0 (words s) a (length s / 2) ≡ More → good_with next e d j ≡ element_of dim 0 0 (words s) a (length s / 2) →
       stops_after (words s) until each a next ≡ false → Q (k + 1) next) where
     -- one element further, by what the rest comes to
-    module _ (k a : ℕ) (q : Q k a) (rest : ℕ → Reached) (then : (next : ℕ) → a < next → next ≤ length s / 2 → Q (k + 1) next → Arrived (rest next)) where
-      arrive_if : (next e d j : ℕ) → stop_of 0 (words s) a (length s / 2) ≡ More → Good next e d j ≡ element_of dim 0 0 (words s) a (length s / 2) →
+    module _ (k a : ℕ) (q : Q k a) (rest : ℕ → Result Reached Refusal) (then : (next : ℕ) → a < next → next ≤ length s / 2 → Q (k + 1) next → Arrived (rest next)) where
+      arrive_if : (next e d j : ℕ) → stop_of 0 (words s) a (length s / 2) ≡ More → good_with next e d j ≡ element_of dim 0 0 (words s) a (length s / 2) →
           (b : Bool) → stops_after (words s) until each a next ≡ b → Arrived (reached_if b a next k (rest next))
       arrive_if next e d j h g true t = (e, d, j, (q, h, g, t))
       arrive_if next e d j h g false t =
           then next (judged_on (judged k a q) h g) (judged_read (judged k a q) h g).within (step k a next e d j q h g t)
 
-      arrive_by : (h : Stop) → stop_of 0 (words s) a (length s / 2) ≡ h → (v : Verdict) → element_of dim 0 0 (words s) a (length s / 2) ≡ v →
+      arrive_by : (h : Stop) → stop_of 0 (words s) a (length s / 2) ≡ h → (v : Result Judgement Refusal) → element_of dim 0 0 (words s) a (length s / 2) ≡ v →
           Arrived (reached_by h v a k (λ next. stops_after (words s) until each a next) rest)
       arrive_by Done h v e = (q, h)
       arrive_by Lacking h v e = judged_lacking (judged k a q) call h
-      arrive_by More h (Fault m p) e = judged_fault (judged k a q) h m p call (sym e)
-      arrive_by More h (Good next e d j) g = arrive_if next e d j h (sym g) (stops_after (words s) until each a next) refl
+      arrive_by More h (Err refusal) e = judged_fault (judged k a q) h refusal.number refusal.place call (sym e)
+      arrive_by More h (Ok judged) g = arrive_if judged.next judged.elements judged.deepest judged.direct h (sym g) (stops_after (words s) until each a judged.next) refl
 
     arrive : (n k a : ℕ) → length s / 2 - a < n → Q k a → Arrived (reached_from n dim (words s) until each k a (length s / 2))
     unfolding reached_from
@@ -182,6 +185,6 @@ module _ (dim : ℕ) (s : List ℕ) (until : ℕ) (each : Bool) (Q : ℕ → ℕ
         arrive_by k a q (λ next. reached_from n dim (words s) until each (k + 1) next (length s / 2)) (λ next o w z. arrive n (k + 1) next (omega arith) z)
         (stop_of 0 (words s) a (length s / 2)) refl (element_of dim 0 0 (words s) a (length s / 2)) refl
 
-    pub arrived : (at : ℕ) (r : Reached) → Q 0 at → r ≡ reached_of dim (words s) at (length s / 2) until each → Arrived r
+    pub arrived : (at : ℕ) (r : Result Reached Refusal) → Q 0 at → r ≡ reached_of dim (words s) at (length s / 2) until each → Arrived r
     unfolding reached_of
     arrived at r q e = subst Arrived (sym e) (arrive (suc (length s / 2 - at)) 0 at (omega arith) q)

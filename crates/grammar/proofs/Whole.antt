@@ -10,7 +10,7 @@ use lib.Seq.{get_or-append_seam, drop-cons}
 use Rattle.words.specs.Words.{word_at}
 use Rattle.files.specs.Judge.{top_of}
 use Rattle.files.specs.Spots.{Spot, deepest, spots_of}
-use Rattle.files.specs.declared.Verdict.TheVariants.{Good}
+use Rattle.files.specs.Judgement.{good_with}
 use Rattle.grammar.specs.Grammar.{Components, File}
 use Rattle.grammar.proofs.Forest.{Forest, flat, num, Wf, spots, components_tree, tree_components}
 use Rattle.grammar.proofs.Stands.{Stands, stands_append, stands_split}
@@ -57,7 +57,7 @@ tree_file {dim} {ws} f =
 
 ---- a file of the grammar is read so
 
-pub file_top : {dim : ℕ} {ws : List ℕ} {xs : List Spot} {marker : ℕ} → File dim ws xs marker → (direct : ℕ) × (top_of dim ws ≡ Good marker (length xs) (deepest xs) direct)
+pub file_top : {dim : ℕ} {ws : List ℕ} {xs : List Spot} {marker : ℕ} → File dim ws xs marker → (direct : ℕ) × (top_of dim ws ≡ good_with marker (length xs) (deepest xs) direct)
 unfolding top_of
 file_top {dim} {ws} f =
     let t = file_tree f in (
@@ -74,7 +74,7 @@ file_spots {dim} {ws} f =
     spots_complete dim ws 0 0 none 0 (length ws) t.tree t.wf t.stands t.ends (suc (length ws)) (omega arith) ∙ t.read
 
 -- and what is read good is a file of the grammar
-pub top_file : (dim : ℕ) (ws : List ℕ) (next e d k : ℕ) → top_of dim ws ≡ Good next e d k →
+pub top_file : (dim : ℕ) (ws : List ℕ) (next e d k : ℕ) → top_of dim ws ≡ good_with next e d k →
     File dim ws (spots_of dim ws) next × (e ≡ length (spots_of dim ws)) × (d ≡ deepest (spots_of dim ws))
 unfolding top_of
 top_file dim ws next e d k q =

@@ -4,7 +4,7 @@ use Rattle.std.specs.Prelude.{ℕ, ◌+◌, ◌*◌, ◌/◌, ◌%◌, ◌≤◌
 use Rattle.words.specs.Words.{bytes, word_at}
 use Rattle.words.specs.OneOf.{OneOf}
 use Rattle.names.specs.Names.{packed}
-use Rattle.names.specs.declared.Packed.TheVariants.{Words}
+use Rattle.names.specs.Name.{packed_to}
 use Rattle.kinds.specs.FirstWord.{reserved_of, c_of, type_of}
 use Rattle.linkages.specs.Linkages.{Linkages}
 use Rattle.grammar.specs.Types.{headers, counted, pointed, linked, characters, field_count, fixed_parts, NotBelow}
@@ -64,7 +64,7 @@ pub record Attributes (dim : ℕ) (own : List ℕ) : Type 0 where
 -- two words are a name: some text packs to them
 pub record Named (first second : ℕ) : Type 0 where
   pub text : List ℕ
-  pub packs : packed text ≡ Words first second
+  pub packs : packed text ≡ packed_to first second
 
 -- the own words of an element that has `depth` headers above it, the direct one of the type `under` (0 at the top), and
 -- under it so many words, with n direct components

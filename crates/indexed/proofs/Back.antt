@@ -13,11 +13,12 @@ use Rattle.headers.specs.Header.{type_at, size_at}
 use Rattle.buffers.proofs.Laws.{part_words}
 use Rattle.cells.specs.Cells.{Cell, cell_if, cell_here, cells_from, cells_between}
 use Rattle.edits.specs.Calls.{used_words}
-use Rattle.journals.specs.declared.Last.{Last}
-use Rattle.journals.specs.declared.Last.TheVariants as last
 use Rattle.journals.specs.Journals.{RecordWithin, LastRead}
 use Rattle.undoing.specs.Undoing.{RecordBy}
-use Rattle.indexed.specs.Parts.{cells_used, cells_under, cells_by, MayCount, CellsBack}
+use Rattle.indexed.specs.Parts.{cells_used, cells_by, MayCount, CellsBack}
+use Rattle.std.specs.Prelude.{Option}
+use Rattle.journals.specs.LastAnswers.{last_removed}
+use Rattle.journals.specs.declared.Last.{Last}
 
 ---- no more cells than words and one
 
@@ -55,7 +56,7 @@ sum_few file used small n is s end more counted =
 
 ---- by the record
 
-module _ (file : List ℕ) (used : ℕ) (journal : List ℕ) (jused : ℕ) (may : MayCount file used journal jused) (l : Last) (learn : RecordBy journal jused l)
+module _ (file : List ℕ) (used : ℕ) (journal : List ℕ) (jused : ℕ) (may : MayCount file used journal jused) (l : Option Last) (learn : RecordBy journal jused l)
     (n : ℕ) (is : n ≡ cells_used file used) where
   read : LastRead (take jused journal) l
   read = learn.within may.jused_within
@@ -63,22 +64,10 @@ module _ (file : List ℕ) (used : ℕ) (journal : List ℕ) (jused : ℕ) (may 
   abbrev js : List ℕ
   js = used_words journal jused
 
-  by_record : (r : Last) → l ≡ r → (k : ℕ) → k ≡ cells_by file used js r → CellsBack file used journal jused k
+  by_record : (r : Option Last) → l ≡ r → (k : ℕ) → k ≡ cells_by file used js r → CellsBack file used journal jused k
   by_record r e k f = record { record_is = l; read = read; is = f ∙ ap (cells_by file used js) (sym e) }
 
-  pub back_bad : l ≡ last.Bad → CellsBack file used journal jused n
-  back_bad e = by_record last.Bad e n is
-
-  pub back_flag : (p k before : ℕ) → l ≡ last.Flag p k before → CellsBack file used journal jused n
-  back_flag p k before e = by_record (last.Flag p k before) e n is
-
-  pub back_renamed : (p a b before : ℕ) → l ≡ last.Renamed p a b before → CellsBack file used journal jused n
-  back_renamed p a b before e = by_record (last.Renamed p a b before) e n is
-
-  pub back_less : (h p before : ℕ) → l ≡ last.Inserted h p before → (under k : ℕ) → under ≡ cells_under file used p → k ≡ n - under → CellsBack file used journal jused k
-  back_less h p before e under k u d = by_record (last.Inserted h p before) e k (d ∙ ap₂ ◌-◌ is u)
-
-  module _ (h p k before : ℕ) (e : l ≡ last.Removed h p k before) where
+  module _ (h p k before : ℕ) (e : l ≡ last_removed h p k before) where
     within : RecordWithin (length (take jused journal)) k p before
     within = (subst (LastRead (take jused journal)) e read).within.1
 
@@ -108,6 +97,6 @@ module _ (file : List ℕ) (used : ℕ) (journal : List ℕ) (jused : ℕ) (may 
 
       pub back_more : CellsBack file used journal jused (n + more)
       back_more =
-          by_record (last.Removed h p k before) e (n + more)
+          by_record (last_removed h p k before) e (n + more)
           (ap₂ ◌+◌ is (counted ∙ ap (λ x. length (cells_between x 0 k)) payload_words
           ∙ ap (λ m. length (cells_between (take k (drop (before / 2) js)) 0 m)) (sym payload_long)))

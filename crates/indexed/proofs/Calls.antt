@@ -10,12 +10,9 @@ use lib.ListN.{length, take, drop}
 use lib.Dec.{leb}
 use Rattle.words.specs.Words.{words, Below}
 use Rattle.names.specs.Names.{packed}
-use Rattle.names.specs.declared.Packed.{Packed}
-use Rattle.names.specs.declared.Packed.TheVariants as name
 use Rattle.files.specs.Spots.{spots_of}
 use Rattle.cells.specs.Cells.{cells_between}
 use Rattle.cell_edits.specs.After.{number_after}
-use Rattle.edits.specs.declared.Edited.{Edited}
 use Rattle.edits.specs.Edits.{Edit, mark, insert, remove}
 use Rattle.edits.specs.Allowed.{Fault?, fine, rename_fault, edit_fault}
 use Rattle.edits.specs.Calls.{Index, Session, Call, mark_call, rename_call, insert_call, remove_call, undo_call, used_words, session_fault, edited, name_of_text, text_ok, call_on}
@@ -27,13 +24,17 @@ use Rattle.opening.proofs.Beside.{bare_ready}
 use Rattle.opening.proofs.Opening.{lengths_true}
 use Rattle.undoing.specs.Undoing.{undo_told}
 use Rattle.undoing.proofs.Ways.{told_step}
-use Rattle.indexed.specs.declared.Indexed.{Indexed}
 use Rattle.indexed.specs.Indexed.{index_lent, session_indexed, SteppedWith}
 use Rattle.indexed.specs.Parts.{lent_ok, cells_used, cells_under, MayCount, CellsBack, Finishable, Finished}
 use Rattle.indexed.proofs.Made.{text_allowed}
 use Rattle.indexed.proofs.Others.{Other, mark_other, rename_other, insert_other, remove_other}
 use Rattle.indexed.proofs.Numbers as numbers
 use Rattle.indexed.proofs.Ways.{told_none, tests, used_in, jused_in, edit_stepped, finishable, complete}
+use Rattle.std.specs.Prelude.{Err, Ok, Result}
+use Rattle.edits.specs.declared.UsedLengths.{UsedLengths}
+use Rattle.indexed.specs.declared.AllLengths.{AllLengths}
+use Rattle.names.specs.declared.Name.{Name}
+use Rattle.refusals.specs.declared.Refusal.{Refusal}
 
 -- what a call is lent, where the three used lengths are right
 pub record Lent : Type 0 where
@@ -56,7 +57,7 @@ abbrev pub cut : Lent → ℕ → Session
 cut l room = session_of l.file l.used (take room l.journal) l.jused
 
 -- what a call owes
-abbrev pub Owes : Lent → Call → Indexed → List ℕ → List ℕ → List ℕ → Type 0
+abbrev pub Owes : Lent → Call → Result AllLengths Refusal → List ℕ → List ℕ → List ℕ → Type 0
 Owes l c r file' journal' index' = SteppedWith l.dim l.file l.used l.journal l.jused l.index l.iused c r file' journal' index'
 
 room_in : (full : Bool) (jused size room : ℕ) → jused ≤ size → room ≡ cond full jused size → room ≤ size
@@ -79,7 +80,7 @@ module _ (l : Lent) where
   pub room_fits : (full : Bool) (room : ℕ) → room ≡ cond full l.jused (length l.journal) → room ≤ length l.journal
   room_fits full room e = room_in full l.jused (length l.journal) room may_count.jused_within e
 
-  pub finishes : (c : Call) → PieceBytes c → (room : ℕ) (r : Edited) (file' part : List ℕ) → Stepped l.dim (cut l room) c r file' part → Finishable r (length file')
+  pub finishes : (c : Call) → PieceBytes c → (room : ℕ) (r : Result UsedLengths Refusal) (file' part : List ℕ) → Stepped l.dim (cut l room) c r file' part → Finishable r (length file')
   finishes c piece room r file' part t =
       finishable l.dim l.file l.used l.journal l.jused l.index l.iused l.ok l.below c piece (take room l.journal) none
       (below_take 256 room l.journal (omega arith) l.journal_below) r file' part t
@@ -91,7 +92,7 @@ module _ (l : Lent) where
 
   -- n cells will be there, the index is full or not, the journal is lent with a room, the call without an index answers r, and all is finished
   module _ (n : ℕ) (full : Bool) (is : full ≡ not (leb (8 * n) (length l.index))) (room : ℕ) (lent : room ≡ cond full l.jused (length l.journal))
-      (r : Edited) (file' part : List ℕ) (r' : Indexed) (index' : List ℕ) (f : Finished r full file' l.index r' index') where
+      (r : Result UsedLengths Refusal) (file' part : List ℕ) (r' : Result AllLengths Refusal) (index' : List ℕ) (f : Finished r full file' l.index r' index') where
     module _ (c : Call) (piece : PieceBytes c) (e : Edit) (own : Fault?)
         (asks : (j : List ℕ) (x : Option Index) → call_on l.dim (session_with l.file l.used j l.jused x) ws c ≡ edited l.dim (session_with l.file l.used j l.jused x) e own)
         (own_fine : session_fault l.dim (session l) ≡ fine → own ≡ fine → edit_fault l.dim ws e ≡ fine) (other : Other own)
@@ -107,9 +108,9 @@ module _ (l : Lent) where
         edit_done (mark_call p d) tt (mark p d) (edit_fault l.dim ws (mark p d)) (λ j x. refl) (λ ready g. g) (mark_other l.dim ws p d)
         (λ ready g. e ∙ numbers.mark_number l.dim l.file l.used l.journal l.jused l.below (bare ready) p d)
 
-    name_number : session_fault l.dim (session l) ≡ fine → (p : ℕ) (q : Packed) → cells_used l.file l.used ≡ number_after l.dim ws (name_of_text q p)
-    name_number ready p (name.Words a b) = numbers.rename_number l.dim l.file l.used l.journal l.jused l.below (bare ready) p a b
-    name_number ready p (name.Refused m q) = numbers.rename_number l.dim l.file l.used l.journal l.jused l.below (bare ready) p 0 0
+    name_number : session_fault l.dim (session l) ≡ fine → (p : ℕ) (q : Result Name Refusal) → cells_used l.file l.used ≡ number_after l.dim ws (name_of_text q p)
+    name_number ready p (Ok name2) = numbers.rename_number l.dim l.file l.used l.journal l.jused l.below (bare ready) p name2.first name2.second
+    name_number ready p (Err refusal) = numbers.rename_number l.dim l.file l.used l.journal l.jused l.below (bare ready) p 0 0
 
     pub rename_done : (p : ℕ) (text : List ℕ) → n ≡ cells_used l.file l.used → Stepped l.dim (cut l room) (rename_call p text) r file' part →
         Owes l (rename_call p text) r' file' (part ++ drop room l.journal) index'
@@ -133,7 +134,7 @@ module _ (l : Lent) where
   ---- undo
 
   module _ (n : ℕ) (full : Bool) (back : CellsBack l.file l.used l.journal l.jused n) (is : full ≡ not (leb (8 * n) (length l.index)))
-      (r : Edited) (file' : List ℕ) (t : Leaves (undo_told l.dim (session_of l.file l.used l.journal l.jused) full) r file' l.journal) where
+      (r : Result UsedLengths Refusal) (file' : List ℕ) (t : Leaves (undo_told l.dim (session_of l.file l.used l.journal l.jused) full) r file' l.journal) where
     undo_stepped : Stepped l.dim (session l) undo_call r file' l.journal
     undo_stepped =
         told_step l.dim l.file l.used l.journal l.jused (index_lent l.index l.iused) full
@@ -145,7 +146,7 @@ module _ (l : Lent) where
         finishable l.dim l.file l.used l.journal l.jused l.index l.iused l.ok l.below undo_call tt l.journal (index_lent l.index l.iused) l.journal_below r file' l.journal
         undo_stepped
 
-    pub undo_done : (r' : Indexed) (index' : List ℕ) → Finished r false file' l.index r' index' → Owes l undo_call r' file' l.journal index'
+    pub undo_done : (r' : Result AllLengths Refusal) (index' : List ℕ) → Finished r false file' l.index r' index' → Owes l undo_call r' file' l.journal index'
     undo_done r' index' f =
         complete l.dim l.file l.used l.journal l.jused l.index l.iused l.ok l.below undo_call tt l.journal_below false r file' l.journal r' index'
         (rw (told_none r) undo_stepped) f

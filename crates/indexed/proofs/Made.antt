@@ -12,16 +12,13 @@ use borrow.Author.Tests.{leb-true}
 use Rattle.words.specs.Words.{words, word_at, long_at, Below}
 use Rattle.words.proofs.Laws.{words_below}
 use Rattle.names.specs.Names.{packed}
-use Rattle.names.specs.declared.Packed.{Packed}
-use Rattle.names.specs.declared.Packed.TheVariants as name
 use Rattle.names.proofs.OneToOne.{pack_stored}
 use Rattle.files.specs.Spots.{spots_of}
-use Rattle.edits.specs.declared.Edited.TheVariants.{Made, Refused}
 use Rattle.edits.specs.Edits.{Edit, mark, insert, remove, apply}
 use Rattle.edits.specs.Allowed.{Fault?, fine, fault, or_else, unless, rename_fault, edit_fault}
 use Rattle.edits.specs.Records.{Rec, flag, renamed, inserted, removed, Newest, Kind, flags, renames, inserts, removes, no_kind, keep, build, formed, kind_of, place_of, last_record, reversal, reversible}
 use Rattle.edits.specs.Calls.{Session, size_of, index_fits, afresh, room_for, Call, mark_call, rename_call, insert_call, remove_call, undo_call, words_of, journal_of, session_fault, open_fault, piece_ok}
-use Rattle.edits.specs.Calls.{stored, Result, result_by, words_by, record_by, edit_made, edit_within, edited, undo_made, words_back, reversal_fault, undo_by, undone, name_of_text, text_ok, call_on, step}
+use Rattle.edits.specs.Calls.{stored, Outcome, result_by, words_by, record_by, edit_made, edit_within, edited, undo_made, words_back, reversal_fault, undo_by, undone, name_of_text, text_ok, call_on, step}
 use Rattle.edits.specs.Demand.{PieceBytes}
 use Rattle.edits.proofs.Accepted.{Accepted, Carried}
 use Rattle.edits.proofs.Bounds.{below_take, below_drop}
@@ -33,8 +30,13 @@ use Rattle.cell_edits.proofs.After.{reversal_fine}
 use Rattle.opening.proofs.Accepted.{standing}
 use Rattle.opening.proofs.Beside.{bare_ready}
 use Rattle.opening.proofs.Opening.{lengths_true, open_accepted}
+use Rattle.std.specs.Prelude.{Err, Ok, Result}
+use Rattle.edits.specs.UsedLengths.{made_with}
+use Rattle.refusals.proofs.Laws.{given_is}
+use Rattle.names.specs.declared.Name.{Name}
+use Rattle.refusals.specs.declared.Refusal.{Refusal}
 
-pub record MadeStep (dim : ℕ) (x : Session) (q : Result) (u : ℕ) : Type 0 where
+pub record MadeStep (dim : ℕ) (x : Session) (q : Outcome) (u : ℕ) : Type 0 where
   pub ws : List ℕ
   pub kept : Accepted dim ws
   pub used_is : u ≡ 2 * length ws
@@ -44,7 +46,7 @@ pub record MadeStep (dim : ℕ) (x : Session) (q : Result) (u : ℕ) : Type 0 wh
   pub room : 2 * length ws ≤ length x.file
 
 -- what is made had no fault
-made_by : (f : Fault?) (x : Session) (q : Result) (u j : ℕ) → (result_by f x q).answer ≡ Made u j → f ≡ fine
+made_by : (f : Fault?) (x : Session) (q : Outcome) (u j : ℕ) → (result_by f x q).answer ≡ made_with u j → f ≡ fine
 made_by fine x q u j e = refl
 made_by (fault n p) x q u j e = let z : ◌≡◌ {A = ℕ} 0 1 = cc in absurd (omega arith)
 
@@ -99,7 +101,7 @@ module _ (dim : ℕ) (x : Session) (below : Below 256 x.file) (ready : session_f
   kept_by : (e : Edit) → edit_fault dim (words_of x) e ≡ fine → Carried e → Accepted dim (apply dim (words_of x) e)
   kept_by e f c = (sound dim (words_of x) e stands few f c).kept
 
-  edit_made_lem : (e : Edit) (own : Fault?) (u j : ℕ) → (own ≡ fine → (edit_fault dim (words_of x) e ≡ fine) × Carried e) → (edited dim x e own).answer ≡ Made u j →
+  edit_made_lem : (e : Edit) (own : Fault?) (u j : ℕ) → (own ≡ fine → (edit_fault dim (words_of x) e ≡ fine) × Carried e) → (edited dim x e own).answer ≡ made_with u j →
       MadeStep dim x (edited dim x e own) u
   unfolding edited edit_within edit_made
   edit_made_lem e own u j allowed q =
@@ -111,8 +113,8 @@ module _ (dim : ℕ) (x : Session) (below : Below 256 x.file) (ready : session_f
       let t = or_else_fine (unless (room_for dim (length x.file) (size_of x.index) w) 15) (unless (leb (x.jused + 2 * length r) (length x.journal)) 16) p.1 in
       let both = (and-eq-true_iff (index_fits dim w (size_of x.index)) (leb (2 * length w) (length x.file))).0
       (unless_fine (room_for dim (length x.file) (size_of x.index) w) 15 t.0) in
-      let answer : (edit_made dim x w r).answer ≡ Made u j = ap (λ g. (result_by g x (edit_made dim x w r)).answer) (sym f) ∙ q in
-      let used : 2 * length w ≡ u = cc in
+      let answer : (edit_made dim x w r).answer ≡ made_with u j = ap (λ g. (result_by g x (edit_made dim x w r)).answer) (sym f) ∙ q in
+      let used : 2 * length w ≡ u = ap (λ l. l.used) (given_is answer) in
       subst (λ g. MadeStep dim x (result_by g x (edit_made dim x w r)) u) (sym f)
       (record {
         ws = w;
@@ -124,7 +126,7 @@ module _ (dim : ℕ) (x : Session) (below : Below 256 x.file) (ready : session_f
         room = leb-true (2 * length w) (length x.file) both.1;
       })
 
-  undo_made_lem : Below 256 x.journal → (u j : ℕ) → (undone dim x).answer ≡ Made u j → MadeStep dim x (undone dim x) u
+  undo_made_lem : Below 256 x.journal → (u j : ℕ) → (undone dim x).answer ≡ made_with u j → MadeStep dim x (undone dim x) u
   unfolding undone undo_made
   undo_made_lem journal u j q =
       let s = unless (not (eqb x.jused 0)) 17 in
@@ -132,7 +134,7 @@ module _ (dim : ℕ) (x : Session) (below : Below 256 x.file) (ready : session_f
       let f = made_by s x by u j q in
       subst (λ g. MadeStep dim x (result_by g x by) u) (sym f) (go (last_record (journal_of x)) refl (ap (λ g. (result_by g x by).answer) (sym f) ∙ q))
     where
-      go : (l : Newest) → last_record (journal_of x) ≡ l → (undo_by dim x (words_of x) l).answer ≡ Made u j → MadeStep dim x (undo_by dim x (words_of x) l) u
+      go : (l : Newest) → last_record (journal_of x) ≡ l → (undo_by dim x (words_of x) l).answer ≡ made_with u j → MadeStep dim x (undo_by dim x (words_of x) l) u
       go none e q = let z : ◌≡◌ {A = ℕ} 0 1 = cc in absurd (omega arith)
       go (some l) e q =
           let w = words_back dim (words_of x) l.0 in
@@ -142,8 +144,8 @@ module _ (dim : ℕ) (x : Session) (below : Below 256 x.file) (ready : session_f
           let p = or_else_fine (unless (reversible dim (words_of x) l.0) 19) (unless (room_for dim (length x.file) (size_of x.index) w) 15) f in
           let both = (and-eq-true_iff (index_fits dim w (size_of x.index)) (leb (2 * length w) (length x.file))).0
           (unless_fine (room_for dim (length x.file) (size_of x.index) w) 15 p.1) in
-          let answer : back.answer ≡ Made u j = ap (λ g. (result_by g x back).answer) (sym f) ∙ q in
-          let used : 2 * length w ≡ u = cc in
+          let answer : back.answer ≡ made_with u j = ap (λ g. (result_by g x back).answer) (sym f) ∙ q in
+          let used : 2 * length w ≡ u = ap (λ l. l.used) (given_is answer) in
           let carried = last_carried (words_of x) (journal_of x) l.0 l.1 (words_below (take x.jused x.journal) (below_take 256 x.jused x.journal (omega arith) journal)) e in
           subst (λ g. MadeStep dim x (result_by g x back) u) (sym f)
           (record {
@@ -157,15 +159,15 @@ module _ (dim : ℕ) (x : Session) (below : Below 256 x.file) (ready : session_f
           })
 
   -- a text that packs to two words is a name
-  pub text_allowed : (p : ℕ) (text : List ℕ) (q : Packed) → packed text ≡ q → rename_fault (spots_of dim (words_of x)) (words_of x) p (text_ok q) ≡ fine →
+  pub text_allowed : (p : ℕ) (text : List ℕ) (q : Result Name Refusal) → packed text ≡ q → rename_fault (spots_of dim (words_of x)) (words_of x) p (text_ok q) ≡ fine →
       (edit_fault dim (words_of x) (name_of_text q p) ≡ fine) × Carried (name_of_text q p)
   unfolding edit_fault
-  text_allowed p text (name.Words a b) e f =
-      let o = pack_stored text a b e in
+  text_allowed p text (Ok name2) e f =
+      let o = pack_stored text name2.first name2.second e in
       (ap (rename_fault (spots_of dim (words_of x)) (words_of x) p) o.ok ∙ f, (o.first, o.second))
-  text_allowed p text (name.Refused n q) e f = absurd (not_named (spots_of dim (words_of x)) (words_of x) p f)
+  text_allowed p text (Err refusal) e f = absurd (not_named (spots_of dim (words_of x)) (words_of x) p f)
 
-  call_made : (c : Call) → Below 256 x.journal → PieceBytes c → (u j : ℕ) → (call_on dim x (words_of x) c).answer ≡ Made u j → MadeStep dim x (call_on dim x (words_of x) c) u
+  call_made : (c : Call) → Below 256 x.journal → PieceBytes c → (u j : ℕ) → (call_on dim x (words_of x) c).answer ≡ made_with u j → MadeStep dim x (call_on dim x (words_of x) c) u
   call_made (mark_call p d) jb b u j q = edit_made_lem (mark p d) (edit_fault dim (words_of x) (mark p d)) u j (λ f. (f, tt)) q
   call_made (rename_call p text) jb b u j q =
       edit_made_lem (name_of_text (packed text) p) (rename_fault (spots_of dim (words_of x)) (words_of x) p (text_ok (packed text))) u j (text_allowed p text (packed text) refl) q
@@ -174,7 +176,7 @@ module _ (dim : ℕ) (x : Session) (below : Below 256 x.file) (ready : session_f
   call_made (remove_call p) jb b u j q = edit_made_lem (remove p) (edit_fault dim (words_of x) (remove p)) u j (λ f. (f, tt)) q
   call_made undo_call jb b u j q = undo_made_lem jb u j q
 
-pub step_made : (dim : ℕ) (x : Session) (c : Call) → Below 256 x.file → Below 256 x.journal → PieceBytes c → (u j : ℕ) → (step dim x c).answer ≡ Made u j →
+pub step_made : (dim : ℕ) (x : Session) (c : Call) → Below 256 x.file → Below 256 x.journal → PieceBytes c → (u j : ℕ) → (step dim x c).answer ≡ made_with u j →
     MadeStep dim x (step dim x c) u
 unfolding step open_fault
 step_made dim x c below jb b u j q =

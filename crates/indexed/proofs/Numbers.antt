@@ -16,8 +16,6 @@ use Rattle.headers.specs.Header.{type_at, size_at, extent_words}
 use Rattle.files.specs.Spots.{spots_of}
 use Rattle.places.specs.declared.Above.{Above}
 use Rattle.places.specs.declared.Above.TheVariants.{Top, Under}
-use Rattle.places.specs.declared.Spotted.{Spotted}
-use Rattle.places.specs.declared.Spotted.TheVariants as spotted
 use Rattle.places.specs.Descent.{locate_from, descent_to, locate_of}
 use Rattle.places.proofs.Descent.{locate_over, locate_into, locate_own, locate_here, locate_past}
 use Rattle.places.proofs.Places.{locate_before, locate_after, locate_outside}
@@ -39,21 +37,27 @@ use Rattle.faults.specs.Faults.{is_at}
 use Rattle.faults.proofs.Depths.{locate_depth}
 use Rattle.faults.proofs.ExactMarks.{at_is}
 use Rattle.changes.proofs.Found.{found_at, found_extent}
-use Rattle.journals.specs.declared.Last.{Last}
 use Rattle.journals.specs.declared.Last.TheVariants as last
 use Rattle.journals.specs.Journals.{record_in}
 use Rattle.undoing.proofs.Ways.{Fullness}
 use Rattle.indexed.specs.Indexed.{index_lent}
 use Rattle.indexed.specs.Parts.{cells_used, cells_under, cells_by, CellsBack}
 use Rattle.indexed.proofs.Made.{stands, newest}
+use Rattle.std.specs.Prelude.{Err, None, Ok, Result, Some, Option as Maybe}
+use Rattle.journals.specs.declared.Last.{Last}
+use Rattle.places.specs.Spotted.{spotted_with}
+use Rattle.places.specs.declared.Spotted.{Spotted}
+use Rattle.refusals.specs.Refusals.{refused_with}
+use Rattle.refusals.proofs.Laws.{given_is}
+use Rattle.refusals.specs.declared.Refusal.{Refusal}
 
 ---- the extent of an element that the descent finds
 
-refused_at : {n q end d : ℕ} {a : Above} → ◌≡◌ {A = Spotted} (spotted.Refused n q) (spotted.At end d a) → ⊥
+refused_at : {n q end d : ℕ} {a : Above} → ◌≡◌ {A = (Result Spotted Refusal)} (refused_with n q) (spotted_with end d a) → ⊥
 refused_at e = let z : ◌≡◌ {A = ℕ} 0 1 = cc in omega arith
 
 end_from : (n : ℕ) (ws : List ℕ) (here depth : ℕ) (above : Above) (p end d : ℕ) (a : Above) →
-    locate_from n ws here depth above p ≡ spotted.At end d a → end ≡ p + extent_words ws p
+    locate_from n ws here depth above p ≡ spotted_with end d a → end ≡ p + extent_words ws p
 unfolding locate_from
 end_from zero ws here depth above p end d a e = absurd (refused_at e)
 end_from (suc n) ws here depth above p end d a e =
@@ -61,22 +65,22 @@ end_from (suc n) ws here depth above p end d a e =
     (end_from n ws (here + extent_words ws here) depth above p end d a) (end_from n ws (here + size_at ws here) (depth + 1) (Under here) p end d a)
   where
     go : (b : Bool) → leb (here + extent_words ws here) p ≡ b → (c : Bool) → ltb here p ≡ c → (t : Bool) → is_header (type_at ws here) ≡ t → (q : Bool) → eqb here p ≡ q →
-        (locate_from n ws (here + extent_words ws here) depth above p ≡ spotted.At end d a → end ≡ p + extent_words ws p) →
-        (locate_from n ws (here + size_at ws here) (depth + 1) (Under here) p ≡ spotted.At end d a → end ≡ p + extent_words ws p) → end ≡ p + extent_words ws p
+        (locate_from n ws (here + extent_words ws here) depth above p ≡ spotted_with end d a → end ≡ p + extent_words ws p) →
+        (locate_from n ws (here + size_at ws here) (depth + 1) (Under here) p ≡ spotted_with end d a → end ≡ p + extent_words ws p) → end ≡ p + extent_words ws p
     go true b c c' t t' q q' over into = over (sym (locate_over n ws here depth above p (leb-true _ _ b)) ∙ e)
     go false b true c true t q q' over into = into (sym (locate_into n ws here depth above p (ltb-true _ _ c) (leb-false _ _ b) t) ∙ e)
     go false b true c false t q q' over into = absurd (refused_at (sym (locate_own n ws here depth above p (ltb-true _ _ c) (leb-false _ _ b) t) ∙ e))
     go false b false c t t' true q over into =
         let x = eqb-true here p q in
         let s = sym (locate_here n ws here depth above p x) ∙ e in
-        let y : here + extent_words ws here ≡ end = cc in
+        let y : here + extent_words ws here ≡ end = ap (λ x. x.end) (given_is s) in
         sym y ∙ ap (λ k. k + extent_words ws k) x
     go false b false c t t' false q over into =
         let x = ltb-false here p c in
         let y = eqb-false here p q in
         absurd (refused_at (sym (locate_past n ws here depth above p (omega arith)) ∙ e))
 
-locate_end : (ws : List ℕ) (p marker end d : ℕ) (a : Above) → locate_of ws p marker ≡ spotted.At end d a → end ≡ p + extent_words ws p
+locate_end : (ws : List ℕ) (p marker end d : ℕ) (a : Above) → locate_of ws p marker ≡ spotted_with end d a → end ≡ p + extent_words ws p
 unfolding descent_to
 locate_end ws p marker end d a e = go (ltb p marker) refl (ltb p (length ws)) refl
   where
@@ -101,15 +105,15 @@ module _ (dim : ℕ) (file : List ℕ) (used : ℕ) (journal : List ℕ) (jused 
   extent_is : (p : ℕ) → starts_at (spots_of dim ws) p ≡ true → (p < used / 2) × (extent_in (spots_of dim ws) p ≡ extent_words ws p)
   extent_is p st = go (locate_of ws p m) refl
     where
-      go : (f : Spotted) → locate_of ws p m ≡ f → (p < used / 2) × (extent_in (spots_of dim ws) p ≡ extent_words ws p)
-      go (spotted.At end d a) e =
-          let x = found_extent dim (take used file) p end a accepted (found_at (spots_of dim ws) p end d a (sym (found_is dim (take used file) m open_used p) ∙ e)) in
-          let y = locate_end ws p m end d a e in
-          let z = locate_depth ws p m end d a e in
+      go : (f : Result Spotted Refusal) → locate_of ws p m ≡ f → (p < used / 2) × (extent_in (spots_of dim ws) p ≡ extent_words ws p)
+      go (Ok spot) e =
+          let x = found_extent dim (take used file) p spot.end spot.above accepted (found_at (spots_of dim ws) p spot.end spot.depth spot.above (sym (found_is dim (take used file) m open_used p) ∙ e)) in
+          let y = locate_end ws p m spot.end spot.depth spot.above e in
+          let z = locate_depth ws p m spot.end spot.depth spot.above e in
           let l = length_words (take used file) in
           let t = length-take used file in
           (omega arith, omega arith)
-      go (spotted.Refused n q) e = let z : ◌≡◌ {A = Bool} false true = ap is_at (sym e) ∙ at_is dim (take used file) m open_used p ∙ st in absurd (false≢true z)
+      go (Err refusal) e = let z : ◌≡◌ {A = Bool} false true = ap is_at (sym e) ∙ at_is dim (take used file) m open_used p ∙ st in absurd (false≢true z)
 
   ---- the edits
 
@@ -143,15 +147,15 @@ module _ (dim : ℕ) (file : List ℕ) (used : ℕ) (journal : List ℕ) (jused 
     fault_none : edit_fault dim ws (reversal ws rec) ≡ fine
     fault_none = reversal_fine dim ws rec allowed
 
-    back_number : (l : Last) → record_in js l ≡ some (rec, rest) → cells_by file used js l ≡ number_after dim ws (reversal ws rec)
+    back_number : (l : Maybe Last) → record_in js l ≡ some (rec, rest) → cells_by file used js l ≡ number_after dim ws (reversal ws rec)
     unfolding number_after reversal
-    back_number last.Bad e = let z : ◌≡◌ {A = ℕ} 0 1 = cc in absurd (omega arith)
-    back_number (last.Flag p n before) e = rw (sym (newest (flag p (take n (drop (before / 2) js))) rec (take (before / 2) js) rest e)) used_number
-    back_number (last.Renamed p a b before) e = rw (sym (newest (renamed p a b) rec (take (before / 2) js) rest e)) used_number
-    back_number (last.Inserted h p before) e =
+    back_number None e = let z : ◌≡◌ {A = ℕ} 0 1 = cc in absurd (omega arith)
+    back_number (Some (last.Flag p n before)) e = rw (sym (newest (flag p (take n (drop (before / 2) js))) rec (take (before / 2) js) rest e)) used_number
+    back_number (Some (last.Renamed p a b before)) e = rw (sym (newest (renamed p a b) rec (take (before / 2) js) rest e)) used_number
+    back_number (Some (last.Inserted h p before)) e =
         let z = newest (inserted (place_of h) p) rec (take (before / 2) js) rest e in
         rw (sym z) (remove_number p (ap (λ r. edit_fault dim ws (reversal ws r)) z ∙ fault_none))
-    back_number (last.Removed h p n before) e =
+    back_number (Some (last.Removed h p n before)) e =
         rw (sym (newest (removed (place_of h) p (take n (drop (before / 2) js))) rec (take (before / 2) js) rest e))
         (ap (λ k. k + length (cells_within (take n (drop (before / 2) js)))) used_number)
 

@@ -14,8 +14,6 @@ use Rattle.headers.specs.Header.{type_at, extent_at}
 use Rattle.limits.specs.Limits.{call_ok}
 use Rattle.files.specs.Judge.{top_of, judge_of}
 use Rattle.files.specs.Spots.{Spot, spots_of}
-use Rattle.files.specs.declared.Verdict.{Verdict}
-use Rattle.files.specs.declared.Verdict.TheVariants.{Good, Fault}
 use Rattle.grammar.specs.FirstFault.{ElementNumber, Refusal}
 use Rattle.grammar.proofs.FirstFault.{refusal_place}
 use Rattle.edits.specs.Edits.{mark, insert, remove, down_to}
@@ -24,6 +22,9 @@ use Rattle.edits.specs.Calls.{Session, Call, piece_ok, words_of, session_ok, fil
 use Rattle.edits.specs.Demand.{used_bytes}
 use Rattle.edits.proofs.Numbers.{piece_place}
 use Rattle.edits.proofs.Tested.{tested, used_call}
+use Rattle.std.specs.Prelude.{Err, Ok, Result}
+use Rattle.files.specs.declared.Judgement.{Judgement}
+use Rattle.refusals.specs.declared.Refusal.{Refusal as Refused}
 
 abbrev pub Other : Fault? → Type 0
 Other fine = Unit {0}
@@ -50,10 +51,10 @@ refusal_other (inr (inl x)) = λ e. omega arith
 refusal_other (inr (inr x)) = element_other x.0
 
 module _ (dim : ℕ) (s : Session) where
-  file_other : call_ok dim (used_bytes s) ≡ true → (v : Verdict) → top_of dim (words_of s) ≡ v → (last : ℕ) → Other (file_fault v last)
+  file_other : call_ok dim (used_bytes s) ≡ true → (v : Result Judgement Refused) → top_of dim (words_of s) ≡ v → (last : ℕ) → Other (file_fault v last)
   unfolding judge_of
-  file_other ok (Good next e d k) t last = unless_other (eqb next last) 1 (λ e. omega arith)
-  file_other ok (Fault n p) t last = refusal_other (refusal_place dim (used_bytes s) n p (rw (ok, t) refl))
+  file_other ok (Ok judged) t last = unless_other (eqb judged.next last) 1 (λ e. omega arith)
+  file_other ok (Err refusal) t last = refusal_other (refusal_place dim (used_bytes s) refusal.number refusal.place (rw (ok, t) refl))
 
   session_other : Other (session_fault dim s)
   unfolding session_fault

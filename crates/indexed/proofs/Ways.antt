@@ -20,11 +20,9 @@ use Rattle.cells.specs.Index.{index_of, index_bytes}
 use Rattle.cell_edits.specs.After.{number_after}
 use Rattle.cell_edits.proofs.After.{cells_between_lem, fits_after}
 use Rattle.indexing.specs.Indexing.{cells_to, room_to}
-use Rattle.edits.specs.declared.Edited.{Edited}
-use Rattle.edits.specs.declared.Edited.TheVariants.{Made, Refused}
 use Rattle.edits.specs.Edits.{Edit, apply}
 use Rattle.edits.specs.Allowed.{Fault?, fine, fault, or_else, unless, edit_fault}
-use Rattle.edits.specs.Calls.{Index, Session, index_fits, Call, used_words, piece_ok, session_ok, file_fault, session_fault, open_fault, stored, Result, refused, result_by, words_by, record_by, edit_made, edit_within, edited, call_on, step}
+use Rattle.edits.specs.Calls.{Index, Session, index_fits, Call, used_words, piece_ok, session_ok, file_fault, session_fault, open_fault, stored, Outcome, refused, result_by, words_by, record_by, edit_made, edit_within, edited, call_on, step}
 use Rattle.edits.specs.Book.{was_refused}
 use Rattle.edits.specs.Demand.{PieceBytes}
 use Rattle.edits.proofs.Allowed as edits
@@ -40,32 +38,36 @@ use Rattle.opening.specs.Steps.{Leaves, LeavesAll, Stepped}
 use Rattle.opening.proofs.Beside.{Beside, edit_beside}
 use Rattle.opening.proofs.Steps.{left}
 use Rattle.opening.proofs.Opening.{lengths_true}
-use Rattle.indexed.specs.declared.Indexed.{Indexed}
-use Rattle.indexed.specs.declared.Indexed.TheVariants as indexed
 use Rattle.indexed.specs.Indexed.{index_lent, session_indexed, SteppedWith}
 use Rattle.indexed.specs.Parts.{lent_ok, told_number, Finishable, Finished}
 use Rattle.indexed.proofs.Others.{Other, open_other}
 use Rattle.indexed.proofs.Made.{MadeStep, stands, step_made}
+use Rattle.std.specs.Prelude.{Err, Ok, Result}
+use Rattle.edits.specs.UsedLengths.{made_with}
+use Rattle.edits.specs.declared.UsedLengths.{UsedLengths}
+use Rattle.indexed.specs.declared.AllLengths.{AllLengths}
+use Rattle.refusals.specs.Refusals.{refused_with}
+use Rattle.refusals.specs.declared.Refusal.{Refusal}
 
 -- an edit's answer where the index is full
-abbrev pub told_by : Bool → Edited → Edited
-told_by full (Made used jused) = Made used jused
-told_by full (Refused n p) = Refused (told_number full n) p
+abbrev pub told_by : Bool → Result UsedLengths Refusal → Result UsedLengths Refusal
+told_by full (Ok lengths) = Ok lengths
+told_by full (Err refusal) = refused_with (told_number full refusal.number) refusal.place
 
-pub told_none : (r : Edited) → told_by false r ≡ r
-told_none (Made used jused) = refl
-told_none (Refused n p) = refl
+pub told_none : (r : Result UsedLengths Refusal) → told_by false r ≡ r
+told_none (Ok lengths) = refl
+told_none (Err refusal) = refl
 
 other_told : (n : ℕ) → (n ≡ 16 → ⊥) → told_number true n ≡ n
 other_told n e = rw (ne_eqb n 16 e) refl
 
 -- what is left by a result that answers and leaves the same
-by_same : {p q : Result} {r : Edited} {file journal : List ℕ} → q.answer ≡ p.answer → q.after.file ≡ p.after.file → q.after.journal ≡ p.after.journal →
+by_same : {p q : Outcome} {r : Result UsedLengths Refusal} {file journal : List ℕ} → q.answer ≡ p.answer → q.after.file ≡ p.after.file → q.after.journal ≡ p.after.journal →
     Leaves p r file journal → Leaves q r file journal
 by_same a f j t = record { answer = t.answer ∙ sym a; file_is = t.file_is ∙ sym f; journal_is = t.journal_is ∙ sym j }
 
 -- what a refusal answers and leaves
-refused_leaves : {s : Session} {r : Edited} {file journal : List ℕ} (n p : ℕ) → Leaves (refused s n p) r file journal → (r ≡ Refused n p) × (file ≡ s.file) × (journal ≡ s.journal)
+refused_leaves : {s : Session} {r : Result UsedLengths Refusal} {file journal : List ℕ} (n p : ℕ) → Leaves (refused s n p) r file journal → (r ≡ refused_with n p) × (file ≡ s.file) × (journal ≡ s.journal)
 refused_leaves n p t = (t.answer, t.file_is, t.journal_is)
 
 module _ (dim : ℕ) (file : List ℕ) (used : ℕ) (journal : List ℕ) (jused : ℕ) (buffer : List ℕ) (iused : ℕ) where
@@ -80,12 +82,12 @@ module _ (dim : ℕ) (file : List ℕ) (used : ℕ) (journal : List ℕ) (jused 
 
   ---- wrong lengths
 
-  pub lengths_wrong : lent_ok (length file) used (length journal) jused (length buffer) iused ≡ false → (c : Call) → SteppedWith dim file used journal jused buffer iused c (indexed.Refused 1 0) file journal buffer
+  pub lengths_wrong : lent_ok (length file) used (length journal) jused (length buffer) iused ≡ false → (c : Call) → SteppedWith dim file used journal jused buffer iused c (refused_with 1 0) file journal buffer
   unfolding step open_fault session_fault
   lengths_wrong e c = go (session_ok dim s) refl (piece_ok c)
     where
       go : (b : Bool) → session_ok dim s ≡ b → (a : Bool) →
-          LeavesAll (result_by (or_else (unless a 1) (or_else (unless (session_ok dim s) 1) (file_fault (top_of dim ws) (length ws - 1)))) s (call_on dim s ws c)) (Refused 1 0) file journal (index_lent buffer iused)
+          LeavesAll (result_by (or_else (unless a 1) (or_else (unless (session_ok dim s) 1) (file_fault (top_of dim ws) (length ws - 1)))) s (call_on dim s ws c)) (refused_with 1 0) file journal (index_lent buffer iused)
       go true q a =
           let t = tested dim s q in
           absurd (false≢true (sym e ∙ (and-eq-true_iff _ _).1 (t.file, (and-eq-true_iff _ _).1 (t.journal, t.index))))
@@ -130,7 +132,7 @@ module _ (dim : ℕ) (file : List ℕ) (used : ℕ) (journal : List ℕ) (jused 
       open_parts f = (or_else_fine (unless (piece_ok c) 1) (session_fault dim s) f).1
 
       -- the index will fit: the whole journal was lent
-      module _ (room : full ≡ false) (r : Edited) (file' journal' : List ℕ) where
+      module _ (room : full ≡ false) (r : Result UsedLengths Refusal) (file' journal' : List ℕ) where
         fitting : (f : Fault?) → open_fault dim s c ≡ f → (o : Fault?) → own ≡ o →
             Leaves (result_by f (session_of file used journal jused) (call_on dim (session_of file used journal jused) ws c)) r file' journal' →
             Leaves (result_by f s (call_on dim s ws c)) r file' journal'
@@ -150,7 +152,7 @@ module _ (dim : ℕ) (file : List ℕ) (used : ℕ) (journal : List ℕ) (jused 
             fitting (open_fault dim s c) refl own refl (rw (sym (same ∙ whole)) at t)
 
       -- it will not: the used part was lent
-      module _ (room : full ≡ true) (r : Edited) (file' part : List ℕ) where
+      module _ (room : full ≡ true) (r : Result UsedLengths Refusal) (file' part : List ℕ) where
         abbrev cut : Session
         cut = session_of file used (take jused journal) jused
 
@@ -198,7 +200,7 @@ module _ (dim : ℕ) (file : List ℕ) (used : ℕ) (journal : List ℕ) (jused 
                 rw cut_long (both_and (both_and (eq-eqb (jused % 2) 0 u.used_even) (le-leb jused 1048576 (omega arith))) (both_and (eq-eqb (jused % 2) 0 u.used_even) (le-leb jused jused (omega arith))))
 
       -- either
-      pub edit_stepped : (room : ℕ) → room ≡ cond full jused (length journal) → (r : Edited) (file' part : List ℕ) → Stepped dim (session_of file used (take room journal) jused) c r file' part →
+      pub edit_stepped : (room : ℕ) → room ≡ cond full jused (length journal) → (r : Result UsedLengths Refusal) (file' part : List ℕ) → Stepped dim (session_of file used (take room journal) jused) c r file' part →
           Stepped dim s c (told_by full r) file' (part ++ drop room journal)
       edit_stepped room q r file' part t = go full refl
         where
@@ -214,10 +216,10 @@ module _ (dim : ℕ) (file : List ℕ) (used : ℕ) (journal : List ℕ) (jused 
 
     module _ (c : Call) (piece : PieceBytes c) where
       -- what is made is within the file's buffer
-      pub finishable : (j : List ℕ) (x : Option Index) → Below 256 j → (r : Edited) (file' journal' : List ℕ) → Stepped dim (session_with file used j jused x) c r file' journal' → Finishable r (length file')
-      finishable j x jb (Refused n p) file' journal' t = tt
-      finishable j x jb (Made u v) file' journal' t =
-          let m = step_made dim (session_with file used j jused x) c below jb piece u v (sym t.answer) in
+      pub finishable : (j : List ℕ) (x : Option Index) → Below 256 j → (r : Result UsedLengths Refusal) (file' journal' : List ℕ) → Stepped dim (session_with file used j jused x) c r file' journal' → Finishable r (length file')
+      finishable j x jb (Err refusal) file' journal' t = tt
+      finishable j x jb (Ok lengths) file' journal' t =
+          let m = step_made dim (session_with file used j jused x) c below jb piece lengths.used lengths.jused (sym t.answer) in
           let h = holds_stored (used_holds file used below tests.0) m.ws m.kept.below m.room in
           let l : length file' ≡ length file = ap length (t.file_is ∙ m.file_is) ∙ h.whole in
           let u' = m.used_is in
@@ -226,7 +228,7 @@ module _ (dim : ℕ) (file : List ℕ) (used : ℕ) (journal : List ℕ) (jused 
 
       module _ (jb : Below 256 journal) where
         -- the index of the file as it is now
-        built : (u v : ℕ) (file' journal' : List ℕ) (r' : Indexed) (index' : List ℕ) (full : Bool) → (t : Stepped dim s c (Made u v) file' journal') → Finished (Made u v) full file' buffer r' index' →
+        built : (u v : ℕ) (file' journal' : List ℕ) (r' : Result AllLengths Refusal) (index' : List ℕ) (full : Bool) → (t : Stepped dim s c (made_with u v) file' journal') → Finished (made_with u v) full file' buffer r' index' →
             MadeStep dim s (step dim s c) u → SteppedWith dim file used journal jused buffer iused c r' file' journal' index'
         unfolding index_of index_bytes
         built u v file' journal' r' index' full t f m =
@@ -244,10 +246,10 @@ module _ (dim : ℕ) (file : List ℕ) (used : ℕ) (journal : List ℕ) (jused 
             rw cells (both_and (le-leb (length (take u file')) 1048576 (omega arith)) m.fits) in
             rw (f.is, f.bytes, room, cells) (record { buffers = t; index_is = sym m.index_is })
 
-        pub complete : (full : Bool) (r : Edited) (file' journal' : List ℕ) (r' : Indexed) (index' : List ℕ) → Stepped dim s c (told_by full r) file' journal' → Finished r full file' buffer r' index' →
+        pub complete : (full : Bool) (r : Result UsedLengths Refusal) (file' journal' : List ℕ) (r' : Result AllLengths Refusal) (index' : List ℕ) → Stepped dim s c (told_by full r) file' journal' → Finished r full file' buffer r' index' →
             SteppedWith dim file used journal jused buffer iused c r' file' journal' index'
-        complete full (Refused n p) file' journal' r' index' t f =
+        complete full (Err refusal) file' journal' r' index' t f =
             rw (f.is, f.bytes)
             (record { buffers = t; index_is = sym (ap (λ (x : Session). x.index) (refusal_keeps dim s c (ap was_refused (sym t.answer)))) })
-        complete full (Made u v) file' journal' r' index' t f =
-            built u v file' journal' r' index' full t f (step_made dim s c below jb piece u v (sym t.answer))
+        complete full (Ok lengths) file' journal' r' index' t f =
+            built lengths.used lengths.jused file' journal' r' index' full t f (step_made dim s c below jb piece lengths.used lengths.jused (sym t.answer))

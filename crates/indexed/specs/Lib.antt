@@ -1,2 +1,3 @@
 pub mod Indexed
 pub mod Parts
+pub mod AllLengths

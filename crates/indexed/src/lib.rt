@@ -17,23 +17,17 @@ ghost use Rattle.opening.specs.Steps.{last_place};
 ghost use Rattle.indexed.specs.Indexed.{SteppedWith};
 ghost use Rattle.indexed.specs.Parts.{lent_ok, cells_used, cells_under, MayCount, CellsBack, told_number, Finishable, Finished};
 
-use edits::Edited;
-use indexing::Put;
+use edits::UsedLengths;
 use journals::Last;
 use places::Above;
+use refusals::Refusal;
 
 // The used lengths of file, journal and index after a call that is made, or the refusal's number and place.
 #[derive(Clone, Copy)]
-pub enum Indexed {
-    Made {
-        used: usize,
-        jused: usize,
-        iused: usize,
-    },
-    Refused {
-        number: usize,
-        place: usize,
-    },
+pub struct AllLengths {
+    pub used: usize,
+    pub jused: usize,
+    pub iused: usize,
 }
 
 // Whether the used lengths of the three buffers are right.
@@ -86,16 +80,6 @@ fn cells_under(file: &[u8], used: usize, place: usize) -> usize
     0
 }
 
-// The difference, 0 where there is none.
-fn less(a: usize, b: usize) -> usize
-    ensures { result ≡ a - b }
-{
-    if a < b {
-        return 0;
-    }
-    a - b
-}
-
 // The cells after an undo, by the last record of the journal.
 fn cells_back(file: &[u8], used: usize, journal: &[u8], jused: usize) -> usize
     requires { MayCount file.now used journal.now jused }
@@ -103,29 +87,11 @@ fn cells_back(file: &[u8], used: usize, journal: &[u8], jused: usize) -> usize
 {
     let n = cells_used(file, used);
     match undoing::record_by(journal, jused) {
-        Last::Bad => n,
-        Last::Flag {
-            place: _,
-            count: _,
-            before: _,
-        } => n,
-        Last::Renamed {
-            place: _,
-            first: _,
-            second: _,
-            before: _,
-        } => n,
-        Last::Inserted {
-            header: _,
-            place,
-            before: _,
-        } => less(n, cells_under(file, used, place)),
-        Last::Removed {
-            header: _,
-            place: _,
-            count,
-            before,
-        } => n + cells::count_cells(&journal[before..before + 2 * count], 0, count),
+        None | Some(Last::Flag { .. } | Last::Renamed { .. }) => n,
+        Some(Last::Inserted { place, .. }) => { n.saturating_sub(cells_under(file, used, place)) }
+        Some(Last::Removed { count, before, .. }) => {
+            n + cells::count_cells(&journal[before..before + 2 * count], 0, count)
+        }
     }
 }
 
@@ -147,26 +113,34 @@ fn told(number: usize, full: bool) -> usize
 }
 
 // The answer of the call, and the index of the file as it is now where it was made.
-fn finish(answer: Edited, full: bool, file: &[u8], index: &mut [u8]) -> Indexed
+fn finish(
+    answer: Result<UsedLengths, Refusal>,
+    full: bool,
+    file: &[u8],
+    index: &mut [u8],
+) -> Result<AllLengths, Refusal>
     requires { Finishable answer (length file.now) }
     ensures { Finished answer full file.now index.old result index.new }
 {
     match answer {
-        Edited::Refused { number, place } => Indexed::Refused {
-            number: told(number, full),
-            place,
-        },
-        Edited::Made { used, jused } => match indexing::put_index(
-            &file[..used],
-            last_place(used),
-            index,
-        ) {
-            Put::Index { used: iused } => Indexed::Made { used, jused, iused },
-            Put::Short => Indexed::Refused {
-                number: 15,
-                place: 0,
-            },
-        },
+        Err(refusal) => Err(Refusal {
+            number: told(refusal.number, full),
+            place: refusal.place,
+        }),
+        Ok(lengths) => {
+            let used = lengths.used;
+            let iused = indexing::put_index(&file[..used], last_place(used), index).ok_or(
+                Refusal {
+                    number: 15,
+                    place: 0,
+                },
+            )?;
+            Ok(AllLengths {
+                used,
+                jused: lengths.jused,
+                iused,
+            })
+        }
     }
 }
 
@@ -181,14 +155,14 @@ pub fn mark(
     dim: usize,
     place: usize,
     deleted: bool,
-) -> Indexed
+) -> Result<AllLengths, Refusal>
     ensures { SteppedWith dim file.old used journal.old jused index.old iused (mark_call place deleted) result file.new journal.new index.new }
 {
     if !lent_ok(file.len(), used, journal.len(), jused, index.len(), iused) {
-        return Indexed::Refused {
+        return Err(Refusal {
             number: 1,
             place: 0,
-        };
+        });
     }
     let full = is_full(index.len(), cells_used(file, used));
     let room = kinds::pick(full, jused, journal.len());
@@ -207,14 +181,14 @@ pub fn rename(
     dim: usize,
     place: usize,
     text: &[u8],
-) -> Indexed
+) -> Result<AllLengths, Refusal>
     ensures { SteppedWith dim file.old used journal.old jused index.old iused (rename_call place text.now) result file.new journal.new index.new }
 {
     if !lent_ok(file.len(), used, journal.len(), jused, index.len(), iused) {
-        return Indexed::Refused {
+        return Err(Refusal {
             number: 1,
             place: 0,
-        };
+        });
     }
     let full = is_full(index.len(), cells_used(file, used));
     let room = kinds::pick(full, jused, journal.len());
@@ -234,14 +208,14 @@ pub fn insert(
     header: Above,
     place: usize,
     piece: &[u8],
-) -> Indexed
+) -> Result<AllLengths, Refusal>
     ensures { SteppedWith dim file.old used journal.old jused index.old iused (insert_call (header_of header) place piece.now) result file.new journal.new index.new }
 {
     if !lent_ok(file.len(), used, journal.len(), jused, index.len(), iused) {
-        return Indexed::Refused {
+        return Err(Refusal {
             number: 1,
             place: 0,
-        };
+        });
     }
     let more = cells::count_cells(piece, 0, piece.len() / 2);
     let full = is_full(index.len(), cells_used(file, used) + more);
@@ -269,16 +243,16 @@ pub fn remove(
     iused: usize,
     dim: usize,
     place: usize,
-) -> Indexed
+) -> Result<AllLengths, Refusal>
     ensures { SteppedWith dim file.old used journal.old jused index.old iused (remove_call place) result file.new journal.new index.new }
 {
     if !lent_ok(file.len(), used, journal.len(), jused, index.len(), iused) {
-        return Indexed::Refused {
+        return Err(Refusal {
             number: 1,
             place: 0,
-        };
+        });
     }
-    let fewer = less(cells_used(file, used), cells_under(file, used, place));
+    let fewer = cells_used(file, used).saturating_sub(cells_under(file, used, place));
     let full = is_full(index.len(), fewer);
     let room = kinds::pick(full, jused, journal.len());
     let answer = moving::remove(file, used, &mut journal[..room], jused, dim, place);
@@ -294,14 +268,14 @@ pub fn undo(
     index: &mut [u8],
     iused: usize,
     dim: usize,
-) -> Indexed
+) -> Result<AllLengths, Refusal>
     ensures { SteppedWith dim file.old used journal.now jused index.old iused undo_call result file.new journal.now index.new }
 {
     if !lent_ok(file.len(), used, journal.len(), jused, index.len(), iused) {
-        return Indexed::Refused {
+        return Err(Refusal {
             number: 1,
             place: 0,
-        };
+        });
     }
     let full = is_full(index.len(), cells_back(file, used, journal, jused));
     let answer = undoing::undo_within(file, used, journal, jused, dim, full);

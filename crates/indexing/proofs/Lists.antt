@@ -14,12 +14,12 @@ use Rattle.entries.specs.Entries.{entries}
 use Rattle.entries.proofs.Laws.{length_entries, entries_take}
 use Rattle.sorting.proofs.Whole.{bytes_of}
 use Rattle.files.specs.Judge.{judge_of}
-use Rattle.files.specs.declared.Judged.TheVariants as judged
 use Rattle.grammar.proofs.Exact.{accepted_is}
 use Rattle.cells.specs.Cells.{cells_of}
 use Rattle.cells.specs.Index.{entries_of}
 use Rattle.cells.proofs.Whole.{judged_cells}
 use Rattle.indexing.specs.Indexing.{cells_to, over, listed, Gathered, Lists}
+use Rattle.files.specs.Accepted.{accepted_with}
 
 module _ (file : List ℕ) (to : ℕ) (s : List ℕ) where
   pub lists_none : 1048576 < length file → Lists file to s 0 s
@@ -41,7 +41,7 @@ module _ (file : List ℕ) (to : ℕ) (s : List ℕ) where
       record { count = rw (le-leb (length file) 1048576 h) g.count; bytes = rw (le-leb (length file) 1048576 h) w }
 
 -- a file that is accepted is not above the limit
-pub within_limit : (dim : ℕ) (file : List ℕ) (e d m : ℕ) → judge_of dim file ≡ judged.Accepted e d m → leb (length file) 1048576 ≡ true
+pub within_limit : (dim : ℕ) (file : List ℕ) (e d m : ℕ) → judge_of dim file ≡ accepted_with e d m → leb (length file) 1048576 ≡ true
 unfolding call_ok
 within_limit dim file e d m q =
     let c = ((and-eq-true_iff (dim_ok dim) (size_ok (length file))).0 (accepted_is dim file e d m q).call).1 in
@@ -52,7 +52,7 @@ pub record ListsFile (dim : ℕ) (file s : List ℕ) (r : ℕ) (t : List ℕ) : 
   pub count : r ≡ length (cells_of dim (words file))
   pub bytes : t ≡ listed (cells_of dim (words file)) s
 
-pub judged_lists : (dim : ℕ) (file s : List ℕ) (e d m r : ℕ) (t : List ℕ) → judge_of dim file ≡ judged.Accepted e d m → Lists file m s r t → ListsFile dim file s r t
+pub judged_lists : (dim : ℕ) (file s : List ℕ) (e d m r : ℕ) (t : List ℕ) → judge_of dim file ≡ accepted_with e d m → Lists file m s r t → ListsFile dim file s r t
 judged_lists dim file s e d m r t q l =
     let h = within_limit dim file e d m q in
     let c = judged_cells dim file e d m q in

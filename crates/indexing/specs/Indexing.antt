@@ -1,5 +1,5 @@
 -- What building an index answers and leaves of the lent buffer (RULES.md, "Index").
-use Rattle.std.specs.Prelude.{ℕ, ◌+◌, ◌*◌, ◌/◌, ◌≤◌, ◌<◌, ◌≡◌, List, [], ◌∷◌, ◌++◌, Bool, cond, ◌&&◌, length, drop, set, leb}
+use Rattle.std.specs.Prelude.{ℕ, ◌+◌, ◌*◌, ◌/◌, ◌≤◌, ◌<◌, ◌≡◌, List, [], ◌∷◌, ◌++◌, Bool, cond, ◌&&◌, length, drop, set, leb, Err, None, Ok, Option, Result, Some}
 use Rattle.kinds.specs.Kinds.{is_cell}
 use Rattle.headers.specs.Header.{type_at, name_first, name_second}
 use Rattle.words.specs.Words.{words}
@@ -7,13 +7,10 @@ use Rattle.entries.specs.Entries.{entries, image, shown}
 use Rattle.sorting.specs.Order.{ordered}
 use Rattle.cells.specs.Cells.{Cell, cells_between}
 use Rattle.files.specs.Judge.{judge_of}
-use Rattle.files.specs.declared.Judged.{Judged}
-use Rattle.files.specs.declared.Judged.TheVariants as judged
 use Rattle.cells.specs.Index.{cell_entry, entries_of, index_of, index_bytes}
-use Rattle.indexing.specs.declared.Put.{Put}
-use Rattle.indexing.specs.declared.Put.TheVariants as put
-use Rattle.indexing.specs.declared.Built.{Built}
-use Rattle.indexing.specs.declared.Built.TheVariants.{Index, Refused}
+use Rattle.files.specs.declared.Accepted.{Accepted}
+use Rattle.refusals.specs.Refusals.{refused_with}
+use Rattle.refusals.specs.declared.Refusal.{Refusal}
 
 -- the cells up to a place
 abbrev pub cells_to : List ℕ → ℕ → List Cell
@@ -64,20 +61,20 @@ abbrev pub room_to : List ℕ → ℕ → List ℕ → Bool
 room_to file to index = leb (length file) 1048576 && leb (8 * length (cells_to file to)) (length index)
 
 -- then the index with zeros past it, whatever the buffer held; else the buffer as it was
-pub record Puts (file : List ℕ) (to : ℕ) (index : List ℕ) (r : Put) (t : List ℕ) : Type 0 where
-  pub answer : r ≡ cond (room_to file to index) (put.Index (8 * length (cells_to file to))) put.Short
+pub record Puts (file : List ℕ) (to : ℕ) (index : List ℕ) (r : Option ℕ) (t : List ℕ) : Type 0 where
+  pub answer : r ≡ cond (room_to file to index) (Some (8 * length (cells_to file to))) None
   pub bytes : t ≡ cond (room_to file to index) (shown (length index) (ordered (entries_of (cells_to file to)))) index
 
 -- the answer of building, by what judging answers: the file's refusal, then 15 where so many bytes do not fit, or the used length
-abbrev pub built_by : Judged → ℕ → ℕ → Built
-built_by (judged.Refused n p) used size = Refused n p
-built_by (judged.Accepted e d m) used size = cond (leb used size) (Index used) (Refused 15 0)
+abbrev pub built_by : Result Accepted Refusal → ℕ → ℕ → Result ℕ Refusal
+built_by (Err refusal) used size = Err refusal
+built_by (Ok file) used size = cond (leb used size) (Ok used) (refused_with 15 0)
 
 -- and the buffer then: the index and zeros past it, or as it was
-abbrev pub left_by : Judged → ℕ → List ℕ → List ℕ → List ℕ
-left_by (judged.Refused n p) used es index = index
-left_by (judged.Accepted e d m) used es index = cond (leb used (length index)) (shown (length index) es) index
+abbrev pub left_by : Result Accepted Refusal → ℕ → List ℕ → List ℕ → List ℕ
+left_by (Err refusal) used es index = index
+left_by (Ok file) used es index = cond (leb used (length index)) (shown (length index) es) index
 
-pub record BuildsFile (dim : ℕ) (file index : List ℕ) (r : Built) (t : List ℕ) : Type 0 where
+pub record BuildsFile (dim : ℕ) (file index : List ℕ) (r : Result ℕ Refusal) (t : List ℕ) : Type 0 where
   pub answer : r ≡ built_by (judge_of dim file) (index_bytes dim (words file)) (length index)
   pub bytes : t ≡ left_by (judge_of dim file) (index_bytes dim (words file)) (index_of dim (words file)) index

@@ -9,19 +9,7 @@ ghost use Rattle.entries.specs.Entries.{entries};
 ghost use Rattle.cells.specs.Index.{cell_entry};
 ghost use Rattle.indexing.specs.Indexing.{MayBuild, MayMeet, Met, Gathered, Lists, Builds, Puts, BuildsFile};
 
-// What writing an index answers: its used length, or that the buffer is too short.
-#[derive(Clone, Copy)]
-pub enum Put {
-    Index { used: usize },
-    Short,
-}
-
-// What building the index of a file answers: its used length, or a number and a place.
-#[derive(Clone, Copy)]
-pub enum Built {
-    Index { used: usize },
-    Refused { number: usize, place: usize },
-}
+use refusals::Refusal;
 
 // The entry of the cell at a place.
 fn entry_at(file: &[u8], at: usize) -> usize
@@ -91,36 +79,27 @@ fn fill_in(file: &[u8], to: usize, n: usize, index: &mut [u8]) -> usize
 
 // The index of the cells up to a place: the entries in order, zeros past them, whatever the buffer held. Where the buffer is too
 // short it stays as it was.
-pub fn put_index(file: &[u8], to: usize, index: &mut [u8]) -> Put
+pub fn put_index(file: &[u8], to: usize, index: &mut [u8]) -> Option<usize>
     ensures { Puts file.now to index.old result index.new }
 {
     if 1048576 < file.len() {
-        return Put::Short;
+        return None;
     }
     let n = cells::count_cells(file, 0, to);
     if index.len() / 8 < n {
-        return Put::Short;
+        return None;
     }
     let used = fill_in(file, to, n, index);
-    Put::Index { used }
+    Some(used)
 }
 
 // The index of a file: its used length, with zeros past it; or the refusal, the file's before 15, and the buffer as it was.
-pub fn build(file: &[u8], dim: usize, index: &mut [u8]) -> Built
+pub fn build(file: &[u8], dim: usize, index: &mut [u8]) -> Result<usize, Refusal>
     ensures { BuildsFile dim file.now index.old result index.new }
 {
-    match files::judge(file, dim) {
-        files::Judged::Refused { number, place } => Built::Refused { number, place },
-        files::Judged::Accepted {
-            elements: _,
-            deepest: _,
-            marker,
-        } => match put_index(file, marker, index) {
-            Put::Index { used } => Built::Index { used },
-            Put::Short => Built::Refused {
-                number: 15,
-                place: 0,
-            },
-        },
-    }
+    let accepted = files::judge(file, dim)?;
+    put_index(file, accepted.marker, index).ok_or(Refusal {
+        number: 15,
+        place: 0,
+    })
 }

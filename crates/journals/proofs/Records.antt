@@ -15,8 +15,9 @@ use Rattle.words.specs.Words.{words, word_at, WordRead, LongRead}
 use Rattle.words.proofs.Laws.{length_words}
 use Rattle.edits.specs.Records.{keep, place_of, at_top, removes, no_kind, kind_of, formed, build, read_at, last_record}
 use Rattle.journals.specs.Journals.{well_formed, RecordWithin, RecordRead, LastRead}
+use Rattle.std.specs.Prelude.{None, Option as Maybe}
+use Rattle.journals.specs.LastAnswers.{last_flag, last_inserted, last_removed, last_renamed}
 use Rattle.journals.specs.declared.Last.{Last}
-use Rattle.journals.specs.declared.Last.TheVariants.{Bad, Flag, Renamed, Inserted, Removed}
 
 -- behind the other kinds, a record is well-formed where it is of the last
 pub last_kind : (b : Bool) (h : Option ℕ) (n : ℕ) → formed (cond b removes no_kind) h n ≡ b
@@ -39,7 +40,7 @@ module _ (j : List ℕ) (t n kind header p : ℕ) (R : Six j t n kind header p) 
       ≡ keep (well_formed kind (place_of header) n) (build (kind_of kind) (place_of header) p (take n (drop (t - n) (words j))) (take (t - n) (words j)))
   read_by = rw (le-leb n t R.behind, R.kind_is, R.header_is.is, R.place_is.is) refl
 
-  pub read_bad : well_formed kind (place_of header) n ≡ false → RecordRead j t n Bad
+  pub read_bad : well_formed kind (place_of header) n ≡ false → RecordRead j t n None
   read_bad e =
       record { is = sym (read_by ∙ rw e refl); within = tt }
 
@@ -59,7 +60,7 @@ module _ (j : List ℕ) (t n kind header p : ℕ) (R : Six j t n kind header p) 
         let half : 2 * (t - n) / 2 ≡ t - n = omega arith in
         rw half (read_by ∙ rw ok refl)
 
-    pub read_flag : kind ≡ 1 → RecordRead j t n (Flag p n (2 * (t - n)))
+    pub read_flag : kind ≡ 1 → RecordRead j t n (last_flag p n (2 * (t - n)))
     read_flag k = record { is = sym (read_good ∙ rw (eq-eqb kind 1 k) refl); within = within_of n (omega arith) }
 
     -- a rename's payload has two words
@@ -73,7 +74,7 @@ module _ (j : List ℕ) (t n kind header p : ℕ) (R : Six j t n kind header p) 
         let at : 2 * (t - n) / 2 + i ≡ t - n + i = omega arith in
         get_or-take n (drop (2 * (t - n) / 2) (words j)) i 0 d ∙ get_or-drop (2 * (t - n) / 2) (words j) i 0 ∙ ap (word_at (words j)) at
 
-    pub read_renamed : (x y : ℕ) → kind ≡ 2 → WordRead j (t - n) x → WordRead j (t - n + 1) y → RecordRead j t n (Renamed p x y (2 * (t - n)))
+    pub read_renamed : (x y : ℕ) → kind ≡ 2 → WordRead j (t - n) x → WordRead j (t - n + 1) y → RecordRead j t n (last_renamed p x y (2 * (t - n)))
     read_renamed x y k X Y =
         let d = two k in
         let from : t - n + 0 ≡ t - n = omega arith in
@@ -84,14 +85,14 @@ module _ (j : List ℕ) (t n kind header p : ℕ) (R : Six j t n kind header p) 
           within = (X.small, Y.small, within_of 2 (omega arith));
         }
 
-    pub read_inserted : kind ≡ 3 → RecordRead j t n (Inserted header p (2 * (t - n)))
+    pub read_inserted : kind ≡ 3 → RecordRead j t n (last_inserted header p (2 * (t - n)))
     read_inserted k =
         record {
           is = sym (read_good ∙ rw (ne_eqb kind 1 (λ z. omega arith), ne_eqb kind 2 (λ z. omega arith), eq-eqb kind 3 k) refl);
           within = (R.header_is.small, within_of 0 (omega arith));
         }
 
-    pub read_removed : (kind ≡ 1 → ⊥) → (kind ≡ 2 → ⊥) → (kind ≡ 3 → ⊥) → RecordRead j t n (Removed header p n (2 * (t - n)))
+    pub read_removed : (kind ≡ 1 → ⊥) → (kind ≡ 2 → ⊥) → (kind ≡ 3 → ⊥) → RecordRead j t n (last_removed header p n (2 * (t - n)))
     read_removed k₁ k₂ k₃ =
         let e = rw (ne_eqb kind 1 k₁, ne_eqb kind 2 k₂, ne_eqb kind 3 k₃) at ok in
         record {
@@ -101,7 +102,7 @@ module _ (j : List ℕ) (t n kind header p : ℕ) (R : Six j t n kind header p) 
 
 ---- the last record of a journal's bytes; n is its last word
 
-pub last_short : (j : List ℕ) → length j / 2 < 6 → LastRead j Bad
+pub last_short : (j : List ℕ) → length j / 2 < 6 → LastRead j None
 unfolding last_record
 last_short j h = let e = length_words j in record { is = rw (lt-leb 6 (length (words j)) (omega arith)) refl; within = tt }
 
@@ -110,10 +111,10 @@ module _ (j : List ℕ) (n : ℕ) (l : 6 ≤ length j / 2) (e : n ≡ word_at (w
   unfolding last_record
   last_at = rw (length_words j, le-leb 6 (length j / 2) l, e) refl
 
-  pub last_over : length j / 2 - 6 < n → LastRead j Bad
+  pub last_over : length j / 2 - 6 < n → LastRead j None
   last_over h = record { is = sym (last_at ∙ rw (lt-leb n (length j / 2 - 6) h) refl); within = tt }
 
-  pub last_read : (r : Last) → RecordRead j (length j / 2 - 6) n r → LastRead j r
+  pub last_read : (r : Maybe Last) → RecordRead j (length j / 2 - 6) n r → LastRead j r
   last_read r R = record { is = R.is ∙ sym last_at; within = R.within }
 
 -- the used length before a record that was read, by the words before it

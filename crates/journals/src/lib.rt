@@ -84,7 +84,6 @@ pub fn push(
 // byte `before` on.
 #[derive(Clone, Copy)]
 pub enum Last {
-    Bad,
     Flag {
         place: usize,
         count: usize,
@@ -135,8 +134,8 @@ fn well_formed(kind: usize, header: usize, count: usize) -> bool
     kind == 4
 }
 
-// The record whose six words begin at word t, behind a payload of count words.
-fn record_at(journal: &[u8], t: usize, count: usize) -> Last
+// The record whose six words begin at word t, behind a payload of count words; none where it is ill-formed.
+fn record_at(journal: &[u8], t: usize, count: usize) -> Option<Last>
     requires { (count ≤ t) × (2 * t + 12 ≤ length journal.now) }
     ensures { RecordRead journal.now t count result }
 {
@@ -146,50 +145,50 @@ fn record_at(journal: &[u8], t: usize, count: usize) -> Last
     let start = t - count;
     let before = 2 * start;
     if !well_formed(kind, header, count) {
-        return Last::Bad;
+        return None;
     }
     if kind == 1 {
-        return Last::Flag {
+        return Some(Last::Flag {
             place,
             count,
             before,
-        };
+        });
     }
     if kind == 2 {
-        return Last::Renamed {
+        return Some(Last::Renamed {
             place,
             first: word(journal, start),
             second: word(journal, start + 1),
             before,
-        };
+        });
     }
     if kind == 3 {
-        return Last::Inserted {
+        return Some(Last::Inserted {
             header,
             place,
             before,
-        };
+        });
     }
-    Last::Removed {
+    Some(Last::Removed {
         header,
         place,
         count,
         before,
-    }
+    })
 }
 
-// The last record of a journal, all of whose bytes are used.
-pub fn last_record(journal: &[u8]) -> Last
+// The last record of a journal, all of whose bytes are used; none where it is ill-formed.
+pub fn last_record(journal: &[u8]) -> Option<Last>
     ensures { LastRead journal.now result }
 {
     let n = journal.len() / 2;
     if n < 6 {
-        return Last::Bad;
+        return None;
     }
     let t = n - 6;
     let count = word(journal, t + 5);
     if t < count {
-        return Last::Bad;
+        return None;
     }
     record_at(journal, t, count)
 }

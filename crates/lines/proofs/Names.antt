@@ -4,15 +4,14 @@ use mathlib.Core.Path.{◌≡◌, refl}
 use mathlib.Core.Bool.{Bool, true, false, cond}
 use mathlib.Core.List.{List, [], ◌∷◌}
 use native.Mathlib.Omega.{arith}
-use lib.ListN.{length, length-append, length-map, length-replicate}
-use Rattle.names.specs.Names.{letters_of, text_in, text_of, text_answer, no_text, word_ok, name_ok, unpacked}
+use lib.ListN.{length, length-map}
+use Rattle.std.specs.Prelude.{Result, Ok}
+use Rattle.names.specs.Names.{letters_of, text_in, text_of, text_answer, word_ok, name_ok, unpacked}
 use Rattle.names.specs.declared.Unpacked.{Unpacked}
 use Rattle.names.proofs.Texts.{length_kept}
+use Rattle.refusals.specs.declared.Refusal.{Refusal}
+use Rattle.refusals.specs.Refusals.{refused_with}
 use Rattle.lines.specs.Element.{text_length, unpacked_text, name_text, Named}
-
--- at most six letters, in six bytes
-abbrev pub InSix : Unpacked → Type 0
-InSix u = (text_length u.answer ≤ 6) × (length u.letters ≡ 6)
 
 text_short : (a b : ℕ) → length (text_of a b) ≤ 6
 unfolding text_in
@@ -21,21 +20,18 @@ text_short a b =
     let y = letters_of b in
     simp length-map (length_kept (x.a ∷ x.b ∷ x.c ∷ y.a ∷ y.b ∷ y.c ∷ []))
 
-answer_in_six : (t : List ℕ) → length t ≤ 6 → InSix (text_answer t)
-unfolding text_answer
-answer_in_six t h = (h, simp (length-append, length-replicate) (omega arith))
-
-pub in_six : (a b : ℕ) → InSix (unpacked a b)
-unfolding unpacked
-in_six a b = go (name_ok a b)
+-- at most six letters
+pub at_most_six : (a b : ℕ) → text_length (unpacked a b) ≤ 6
+unfolding unpacked text_answer
+at_most_six a b = go (name_ok a b)
   where
-    go : (t : Bool) → InSix (cond t (text_answer (text_of a b)) no_text)
-    go true = answer_in_six (text_of a b) (text_short a b)
-    go false = (omega arith, refl)
+    go : (t : Bool) → text_length (cond t (Ok (text_answer (text_of a b))) (refused_with 12 0)) ≤ 6
+    go true = text_short a b
+    go false = omega arith
 
 -- what two words unpack to, where it is the element's name
-pub named : (ws : List ℕ) (at a b : ℕ) (u : Unpacked) → u ≡ unpacked a b → unpacked_text (unpacked a b) ≡ name_text ws at → Named ws at u
-named ws at a b u e n = rw e (record { is = n; short = (in_six a b).0; six = (in_six a b).1 })
+pub named : (ws : List ℕ) (at a b : ℕ) (name : Result Unpacked Refusal) → name ≡ unpacked a b → unpacked_text (unpacked a b) ≡ name_text ws at → Named ws at name
+named ws at a b name e n = rw e (record { is = n; short = at_most_six a b })
 
 -- words that are no name
 pub no_name : unpacked_text (unpacked 65535 0) ≡ []

@@ -1,23 +1,23 @@
 -- The line of the element at a place of a file (RULES.md, "Listing"), as bytes.
-use Rattle.std.specs.Prelude.{ℕ, ◌≤◌, ◌≡◌, List, [], cond, length, take, eqb}
+use Rattle.std.specs.Prelude.{ℕ, ◌≤◌, ◌≡◌, List, [], cond, take, eqb, Result, Ok, Err}
 use Rattle.words.specs.Words.{word_at}
 use Rattle.names.specs.Names.{unpacked}
-use Rattle.names.specs.declared.Answer.{Answer}
-use Rattle.names.specs.declared.Answer.TheVariants.{Text, Refused}
 use Rattle.names.specs.declared.Unpacked.{Unpacked}
 use Rattle.kinds.specs.FirstWord.{deleted_of}
 use Rattle.kinds.specs.Kinds.{is_cell}
 use Rattle.headers.specs.Header.{type_at, size_at, name_first, name_second}
 use Rattle.listing.specs.Lines.{element_line}
+use Rattle.refusals.specs.declared.Refusal.{Refusal}
 
--- the number of letters of an unpacked text; none where the words are refused
-abbrev pub text_length : Answer → ℕ
-text_length (Text n) = n
-text_length (Refused n p) = 0
+-- the number of letters of what two words unpack to; none where they are refused
+abbrev pub text_length : Result Unpacked Refusal → ℕ
+text_length (Ok text) = text.length
+text_length (Err refusal) = 0
 
--- the letters of an unpacked text
-abbrev pub unpacked_text : Unpacked → List ℕ
-unpacked_text u = take (text_length u.answer) u.letters
+-- the letters of what two words unpack to; none where they are refused
+abbrev pub unpacked_text : Result Unpacked Refusal → List ℕ
+unpacked_text (Ok text) = take text.length text.letters
+unpacked_text (Err refusal) = []
 
 -- the name of the element at a place; only cells have one
 unfoldable pub name_text : List ℕ → ℕ → List ℕ
@@ -27,8 +27,7 @@ name_text ws at = cond (is_cell (type_at ws at)) (unpacked_text (unpacked (name_
 unfoldable pub line_of : List ℕ → ℕ → ℕ → List ℕ
 line_of ws at depth = element_line at depth (type_at ws at) (size_at ws at) (eqb (deleted_of (word_at ws at)) 1) (name_text ws at)
 
--- an unpacked text is the name of the element at a place, at most six letters in six bytes
-pub record Named (ws : List ℕ) (at : ℕ) (u : Unpacked) : Type 0 where
-  pub is : unpacked_text u ≡ name_text ws at
-  pub short : text_length u.answer ≤ 6
-  pub six : length u.letters ≡ 6
+-- what two words unpack to is the name of the element at a place, at most six letters
+pub record Named (ws : List ℕ) (at : ℕ) (name : Result Unpacked Refusal) : Type 0 where
+  pub is : unpacked_text name ≡ name_text ws at
+  pub short : text_length name ≤ 6

@@ -6,7 +6,10 @@ ghost use Rattle.std.specs.Prelude.{◌≡◌, ◌+◌, ◌≤◌};
 ghost use Rattle.words.specs.Words.{words, WordRead};
 ghost use Rattle.headers.specs.Header.{type_at};
 ghost use Rattle.listing.specs.Lines.{WritesLine};
-ghost use Rattle.lines.specs.Element.{text_length, line_of, Named};
+ghost use Rattle.lines.specs.Element.{line_of, Named};
+
+use names::Unpacked;
+use refusals::Refusal;
 
 // Word k of the element at a place.
 fn word_of(file: &[u8], at: usize, k: usize) -> usize
@@ -22,7 +25,7 @@ fn word_of(file: &[u8], at: usize, k: usize) -> usize
 
 // The name of the element at a place, by its type; a type that has none answers as words that are no name, for which no table
 // is read.
-fn name_of(file: &[u8], at: usize, kind: usize) -> names::Unpacked
+fn name_of(file: &[u8], at: usize, kind: usize) -> Result<Unpacked, Refusal>
     requires { kind ≡ type_at (words file.now) at }
     ensures { Named (words file.now) at result }
 {
@@ -35,19 +38,6 @@ fn name_of(file: &[u8], at: usize, kind: usize) -> names::Unpacked
     names::unpack(65535, 0)
 }
 
-// The number of letters of an unpacked text.
-pub fn text_length(answer: names::Answer) -> usize
-    ensures { result ≡ text_length answer }
-{
-    match answer {
-        names::Answer::Text { length } => length,
-        names::Answer::Refused {
-            number: _,
-            place: _,
-        } => 0,
-    }
-}
-
 // The line of the element that starts at a place of a file, and the number of its bytes. Where nothing stands all words
 // are 0. The buffer needs 100 bytes: with fewer nothing is written.
 pub fn line(file: &[u8], at: usize, depth: usize, buf: &mut [u8]) -> usize
@@ -58,8 +48,9 @@ pub fn line(file: &[u8], at: usize, depth: usize, buf: &mut [u8]) -> usize
     let size = word_of(file, at, 1) + 2;
     let deleted = first / 32768 % 2 == 1;
     let name = name_of(file, at, kind);
-    let answer = name.answer;
-    let letters = name.letters;
-    let length = text_length(answer);
-    listing::element_line(buf, at, depth, kind, size, deleted, &letters[..length])
+    let letters = match &name {
+        Ok(text) => &text.letters[..text.length],
+        Err(_) => &[],
+    };
+    listing::element_line(buf, at, depth, kind, size, deleted, letters)
 }

@@ -9,9 +9,9 @@ use native.Mathlib.Numerals.{sub-one}
 use lib.Dec.{eqb, leb}
 use borrow.Author.Tests.{eq-eqb, ne_eqb, le-leb, leb-true, eqb-true, eqb-false}
 use Rattle.words.specs.Words.{word_at}
-use Rattle.linkages.specs.declared.Linkage.{Linkage}
-use Rattle.linkages.specs.declared.Linkage.TheVariants.{Nothing}
 use Rattle.linkages.specs.Linkages.{is_user, linkage_words, linkage_fits, fitting_words, fill_from, linkage_at, linkage_from}
+use Rattle.std.specs.Prelude.{None, Option}
+use Rattle.linkages.specs.declared.Linkage.{Linkage}
 
 -- two numbers are equal, or not: for a proof by cases
 abbrev pub Equal : ℕ → ℕ → Type 0
@@ -116,7 +116,7 @@ module _ (ws : List ℕ) (at end : ℕ) where
 abbrev pub IsFill : List ℕ → ℕ → ℕ → Bool → Type 0
 IsFill ws at end r = (n : ℕ) → end - at < n → r ≡ fill_from n ws at end
 
-abbrev pub IsWalk : List ℕ → ℕ → ℕ → ℕ → Linkage → Type 0
+abbrev pub IsWalk : List ℕ → ℕ → ℕ → ℕ → Option Linkage → Type 0
 IsWalk ws at end k r = (n : ℕ) → end - at < n → r ≡ linkage_from n ws at end k
 
 module _ (ws : List ℕ) (at end : ℕ) where
@@ -135,7 +135,7 @@ module _ (ws : List ℕ) (at end : ℕ) where
   fill_on m r d f i zero lt = absurd (omega arith)
   fill_on m r d f i (suc n) lt = rw (ne_eqb _ _ d, f.does, ← f.is) (i n (omega (arith, f.some, f.within)))
 
-  pub walk_stops : (k : ℕ) → linkage_fits ws at end ≡ false → IsWalk ws at end k Nothing
+  pub walk_stops : (k : ℕ) → linkage_fits ws at end ≡ false → IsWalk ws at end k None
   unfolding linkage_from
   walk_stops k f zero lt = absurd (omega arith)
   walk_stops k f (suc n) lt = rw f refl
@@ -145,7 +145,7 @@ module _ (ws : List ℕ) (at end : ℕ) where
   walk_here k m e f zero lt = absurd (omega arith)
   walk_here k m e f (suc n) lt = rw (e, f.does) refl
 
-  pub walk_on : (k m : ℕ) (r : Linkage) → (k ≡ 0 → ⊥) → Fits ws at end m → IsWalk ws (at + m) end (k - 1) r → IsWalk ws at end k r
+  pub walk_on : (k m : ℕ) (r : Option Linkage) → (k ≡ 0 → ⊥) → Fits ws at end m → IsWalk ws (at + m) end (k - 1) r → IsWalk ws at end k r
   unfolding linkage_from
   walk_on k m r d f i zero lt = absurd (omega arith)
   walk_on zero m r d f i (suc n) lt = absurd (d refl)

@@ -11,11 +11,11 @@ use lib.ListN.{length, take, drop, get_or, length-append, length-drop, take-appe
 use lib.Seq.{length-take-le, get_or-append-add}
 use borrow.Author.Tests.{lt-ltb, le-ltb, ltb-true, ltb-false}
 use Rattle.words.specs.Words.{word_at}
-use Rattle.linkages.specs.declared.Linkage.TheVariants.{At}
 use Rattle.linkages.specs.Linkages.{is_user, linkage_words, linkages_fill, linkage_at, linkage_in, IsLinkage, Linkages, none, more}
 use Rattle.linkages.specs.Listed.{Each, joined, FilledBy, given, kth}
 use Rattle.linkages.proofs.Laws.{words_two, Fits, fits_by, fits_not, IsWalk, walk_stops, walk_here, walk_on}
 use Rattle.linkages.proofs.Meaning.{words_of, some_words, fills_is}
+use Rattle.linkages.specs.Linkage.{linkage_with}
 
 ---- words that linkages fill are those of a list of them
 
@@ -42,7 +42,7 @@ module _ {x : List ℕ} (i : IsLinkage x) (ws pre post : List ℕ) (at : ℕ) (e
   fits_whole end h = fits_by ws at end (length x) (ap linkage_words first_of ∙ words_of i) (some_words i) (omega arith)
 
   given_at : linkage_at ws at ≡ given x at
-  given_at = rw (first_of, words_of i) (ap (At (is_user (word_at x 0)) at (length x)) (id_of (is_user (word_at x 0)) refl))
+  given_at = rw (first_of, words_of i) (ap (linkage_with (is_user (word_at x 0)) at (length x)) (id_of (is_user (word_at x 0)) refl))
     where
       id_of : (b : Bool) → is_user (word_at x 0) ≡ b → cond b (word_at ws (at + 1)) 0 ≡ cond b (word_at x 1) 0
       id_of true u = word_of 1 (omega (arith, words_two (word_at x 0) u (omega (arith, words_of i, some_words i)), words_of i))

@@ -7,10 +7,11 @@ use mathlib.Core.Bool.{Bool, true, false, cond}
 use mathlib.Core.List.{List}
 use native.Mathlib.Omega.{arith}
 use Rattle.words.specs.Words.{word_at}
-use Rattle.linkages.specs.declared.Linkage.{Linkage}
-use Rattle.linkages.specs.declared.Linkage.TheVariants.{At, Nothing}
 use Rattle.linkages.specs.Linkages.{is_user, linkage_words, linkage_fits, linkages_fill, linkage_at, linkage_in}
 use Rattle.linkages.proofs.Laws.{words_two, Equal, equal, Fits, fits, fits_by, fits_not, IsFill, IsWalk, fill_end, fill_stops, fill_on, walk_stops, walk_here, walk_on}
+use Rattle.std.specs.Prelude.{None, Option, Some}
+use Rattle.linkages.specs.Linkage.{linkage_with}
+use Rattle.linkages.specs.declared.Linkage.{Linkage}
 
 ---- the same word first and as many words left: a linkage fits in both or in neither
 
@@ -18,9 +19,9 @@ fits_same : (ws vs : List ℕ) (at end b fin : ℕ) → word_at ws at ≡ word_a
 fits_same ws vs at end b fin w e = rw (w, e) refl
 
 -- a linkage that is found from the place p on, as it is found from the place q on
-abbrev pub moved : ℕ → ℕ → Linkage → Linkage
-moved p q (At u place size id) = At u (q + (place - p)) size id
-moved p q Nothing = Nothing
+abbrev pub moved : ℕ → ℕ → Option Linkage → Option Linkage
+moved p q (Some linkage) = linkage_with linkage.user (q + (linkage.place - p)) linkage.size linkage.id
+moved p q None = None
 
 module _ (ws vs : List ℕ) (p q len : ℕ) (same : (i : ℕ) → i < len → word_at ws (p + i) ≡ word_at vs (q + i)) where
   word_same : (i at b : ℕ) → i < len → at ≡ p + i → b ≡ q + i → word_at ws at ≡ word_at vs b
@@ -75,7 +76,7 @@ module _ (ws vs : List ℕ) (p q len : ℕ) (same : (i : ℕ) → i < len → wo
       id_same w false h = rw (h, ap is_user (sym w) ∙ h) refl
 
   abbrev Walked : ℕ → ℕ → ℕ → Type 0
-  Walked k at b = (r : Linkage) × IsWalk ws at (p + len) k r × IsWalk vs b (q + len) k (moved p q r)
+  Walked k at b = (r : Option Linkage) × IsWalk ws at (p + len) k r × IsWalk vs b (q + len) k (moved p q r)
 
   walk_both : (n j k at b : ℕ) → len - j < n → j ≤ len → at ≡ p + j → b ≡ q + j → Walked k at b
   walk_both zero j k at b lt le x y = absurd (omega arith)
@@ -83,7 +84,7 @@ module _ (ws vs : List ℕ) (p q len : ℕ) (same : (i : ℕ) → i < len → wo
       go (linkage_fits ws at (p + len)) refl (equal k 0) (λ m h s. walk_both n (j + m) (k - 1) (at + m) (b + m) (omega arith) h (omega arith) (omega arith))
     where
       go : (t : Bool) → linkage_fits ws at (p + len) ≡ t → Equal k 0 → ((m : ℕ) → j + m ≤ len → 1 ≤ m → Walked (k - 1) (at + m) (b + m)) → Walked k at b
-      go false h z s = (Nothing, walk_stops ws at (p + len) k h, walk_stops vs b (q + len) k (stops_both j at b le x y h))
+      go false h z s = (None, walk_stops ws at (p + len) k h, walk_stops vs b (q + len) k (stops_both j at b le x y h))
       go true h z s =
           let f = fits ws at (p + len) h in
           let m = linkage_words (word_at ws at) in

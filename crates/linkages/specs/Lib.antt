@@ -1,2 +1,3 @@
 pub mod Linkages
 pub mod Listed
+pub mod Linkage

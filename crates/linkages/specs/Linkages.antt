@@ -1,8 +1,8 @@
 -- Attribute linkages (RULES.md, "Attribute linkages"), in the words from one place to another.
-use Rattle.std.specs.Prelude.{ℕ, zero, suc, ◌+◌, ◌-◌, ◌/◌, ◌%◌, ◌≤◌, ◌≡◌, ◌⊎◌, List, [], ◌∷◌, ◌++◌, Bool, true, false, cond, ◌&&◌, ◌||◌, eqb, leb, length}
+use Rattle.std.specs.Prelude.{ℕ, zero, suc, ◌+◌, ◌-◌, ◌/◌, ◌%◌, ◌≤◌, ◌≡◌, ◌⊎◌, List, [], ◌∷◌, ◌++◌, Bool, true, false, cond, ◌&&◌, ◌||◌, eqb, leb, length, None, Option}
 use Rattle.words.specs.Words.{word_at}
+use Rattle.linkages.specs.Linkage.{linkage_with}
 use Rattle.linkages.specs.declared.Linkage.{Linkage}
-use Rattle.linkages.specs.declared.Linkage.TheVariants.{At, Nothing}
 
 -- a user linkage has bit 12 of its first word set
 abbrev pub is_user : ℕ → Bool
@@ -40,26 +40,26 @@ linkages_fill ws at end = fill_from (suc (end - at)) ws at end
 
 -- the linkage that starts at the place `at`: its kind, place, size and id, which is a user linkage's second word and 0 of
 -- any other
-abbrev pub linkage_at : List ℕ → ℕ → Linkage
+abbrev pub linkage_at : List ℕ → ℕ → Option Linkage
 linkage_at ws at =
-    At (is_user (word_at ws at)) at (linkage_words (word_at ws at)) (cond (is_user (word_at ws at)) (word_at ws (at + 1)) 0)
+    linkage_with (is_user (word_at ws at)) at (linkage_words (word_at ws at)) (cond (is_user (word_at ws at)) (word_at ws (at + 1)) 0)
 
 -- the linkage of number k, counted from 0, by the first one and by the others
-abbrev pub numbered : ℕ → Linkage → (ℕ → Linkage) → Linkage
+abbrev pub numbered : ℕ → Option Linkage → (ℕ → Option Linkage) → Option Linkage
 numbered zero first others = first
 numbered (suc k) first others = others k
 
 -- linkage k of those from the place `at` to the place `end`; nothing where they end, or words that are no linkage stand,
 -- before it; the first number bounds how many are passed
-unfoldable pub linkage_from : ℕ → List ℕ → ℕ → ℕ → ℕ → Linkage
-linkage_from zero ws at end k = Nothing
+unfoldable pub linkage_from : ℕ → List ℕ → ℕ → ℕ → ℕ → Option Linkage
+linkage_from zero ws at end k = None
 linkage_from (suc n) ws at end k =
     cond (linkage_fits ws at end)
     (numbered k (linkage_at ws at) (λ j. linkage_from n ws (at + linkage_words (word_at ws at)) end j))
-    Nothing
+    None
 
 -- the same with a bound that is enough
-unfoldable pub linkage_in : List ℕ → ℕ → ℕ → ℕ → Linkage
+unfoldable pub linkage_in : List ℕ → ℕ → ℕ → ℕ → Option Linkage
 linkage_in ws at end k = linkage_from (suc (end - at)) ws at end k
 
 -- the words of one linkage. A user linkage: bit 12 of the first word is set, and its low byte counts the words that

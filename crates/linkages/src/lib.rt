@@ -3,20 +3,17 @@
 
 #![tactic(auto)]
 
-ghost use Rattle.std.specs.Prelude.{◌≡◌, ◌+◌, ◌<◌, ◌^◌};
+ghost use Rattle.std.specs.Prelude.{◌≡◌, ◌+◌, ◌<◌, ◌^◌, Some};
 ghost use Rattle.words.specs.Words.{words};
 ghost use Rattle.linkages.specs.Linkages.{linkage_words, fitting_words, linkages_fill, linkage_at, linkage_in};
 
 // What the walk gives: a linkage's kind, its place (a word's index in the slice), its size in words and its id.
 #[derive(Clone, Copy)]
-pub enum Linkage {
-    At {
-        user: bool,
-        place: usize,
-        size: usize,
-        id: usize,
-    },
-    Nothing,
+pub struct Linkage {
+    pub user: bool,
+    pub place: usize,
+    pub size: usize,
+    pub id: usize,
 }
 
 // The words of a linkage by its first word, 0 where that is no linkage's. Both kinds are worked out and one is picked: which
@@ -62,20 +59,20 @@ pub fn linkages_fill(s: &[u8], at: usize, end: usize) -> bool
 // The linkage that starts at the place `at`.
 fn linkage_at(s: &[u8], at: usize) -> Linkage
     requires { at + 1 < 2 ^ 64 }
-    ensures { result ≡ linkage_at (words s.now) at }
+    ensures { Some result ≡ linkage_at (words s.now) at }
 {
     let w = words::word(s, at);
     let size = linkage_words(w);
     if w / 4096 % 2 == 1 {
         let id = words::word(s, at + 1);
-        return Linkage::At {
+        return Linkage {
             user: true,
             place: at,
             size,
             id,
         };
     }
-    Linkage::At {
+    Linkage {
         user: false,
         place: at,
         size,
@@ -85,20 +82,19 @@ fn linkage_at(s: &[u8], at: usize) -> Linkage
 
 // Linkage k, counted from 0, of those that stand from the place `at` to the place `end`; nothing where they end, or words
 // that are no linkage stand, before it.
-pub fn linkage_in(s: &[u8], at: usize, end: usize, k: usize) -> Linkage
+pub fn linkage_in(s: &[u8], at: usize, end: usize, k: usize) -> Option<Linkage>
     ensures { result ≡ linkage_in (words s.now) at end k }
 {
     let mut here = at;
-    let mut left = k;
-    loop {
+    for _ in 0..k {
         let n = fitting_words(s, here, end);
         if n == 0 {
-            return Linkage::Nothing;
+            return None;
         }
-        if left == 0 {
-            return linkage_at(s, here);
-        }
-        left -= 1;
         here += n;
     }
+    if fitting_words(s, here, end) == 0 {
+        return None;
+    }
+    Some(linkage_at(s, here))
 }

@@ -1,13 +1,15 @@
 -- Bytes put into a buffer one after another, from its front on, are the line written over it.
 use Prim.Native.Nat.{ℕ, ◌+◌, ◌/◌, ◌%◌, ◌^◌, ◌≤◌, ◌<◌, min}
-use mathlib.Core.Path.{◌≡◌, refl, ap, ◌∙◌}
+use mathlib.Core.Path.{◌≡◌, refl, sym, ap, ◌∙◌}
 use mathlib.Core.Bool.{Bool, true, false}
 use mathlib.Core.List.{List, [], ◌∷◌, ◌++◌}
 use native.Mathlib.Omega.{arith}
 use lib.ListN.{length, take, length-append, length-take}
-use lib.Seq.{sets, sets-eq}
+use lib.Seq.{sets, sets-eq, take_all}
 use lib.Dec.{leb}
+use borrow.Rule.Slice.PartMut.{put_mid}
 use borrow.Author.Tests.{le-leb, lt-leb, leb-true, leb-false}
+use Rattle.std.proofs.lemmas.Slice.{put_mid-paste}
 use Rattle.words.specs.Words.{over}
 use Rattle.words.proofs.Puts.{sets_then}
 use Rattle.listing.specs.Lines.{decimal, last_field, written, written_length, WritesLine}
@@ -19,6 +21,10 @@ puts_then {s} {t} {u} {at} {m} {r} {x} {y} p q = record {
   bytes = q.bytes ∙ ap (λ l. sets l m y) p.bytes ∙ sets_then s at x y m p.next;
   next = simp length-append (omega arith);
 }
+
+-- a part of a buffer that holds the bytes
+pub part_put : (s x y : List ℕ) (at k : ℕ) → y ≡ x → k ≡ length x → at + k ≤ length s → put_mid at k s y ≡ sets s at x
+part_put s x y at k e l h = put_mid-paste at k s y x k e refl l ∙ rw (l, take_all (length x) x (omega arith)) (sym (sets-eq x s at (omega arith)))
 
 -- a line put from a buffer's front on, where the buffer has the room asked for
 pub line_written : (room : ℕ) (s line t : List ℕ) (r : ℕ) → Puts s 0 line t r → r ≤ length s → room ≤ length s → WritesLine room s line t r

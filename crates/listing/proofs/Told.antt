@@ -1,8 +1,8 @@
 -- A text's line is one line, since every part of it prints; and it tells the text, since a number ends at the first space, a state has
 -- four letters, and the characters can be read back.
-use Prim.Native.Nat.{ℕ, zero, suc, ◌+◌, ◌/◌, ◌%◌, ◌≤◌, ◌<◌, ◌^◌}
+use Prim.Native.Nat.{ℕ, suc, ◌+◌, ◌/◌, ◌%◌, ◌≤◌, ◌<◌, ◌^◌}
 use mathlib.Core.Path.{◌≡◌, refl, sym, ap, ◌∙◌}
-use mathlib.Core.Bool.{Bool, true, false, cond, ◌&&◌}
+use mathlib.Core.Bool.{Bool, true, false, cond}
 use mathlib.Core.List.{List, [], ◌∷◌, ◌++◌, append_assoc, append_cancel_right}
 use native.Mathlib.Omega.{arith}
 use lib.Dec.{eqb, ltb}
@@ -11,7 +11,7 @@ use borrow.Author.Tests.{eqb-true, eqb-false, ltb-true, ltb-false, le-leb}
 use Rattle.words.specs.Words.{Below}
 use Rattle.listing.specs.Lines.{decimal, field, state, last_field}
 use Rattle.listing.specs.Texts.{hexadecimal, prints, escape, escaped, text_line}
-use Rattle.listing.specs.Told.{AllPrint, OneLine, TextOneLine, SameText, TextTold}
+use Rattle.listing.specs.Told.{AllPrint, TextOneLine, TextTold}
 use Rattle.listing.proofs.Decimal.{Digits, decimal_digits, same_decimal}
 use Rattle.listing.proofs.Escapes.{escape_backslash, escape_printed, escape_other}
 use Rattle.listing.proofs.OneToOne.{one_to_one}

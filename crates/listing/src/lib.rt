@@ -31,12 +31,9 @@ fn put_bytes(buf: &mut [u8], at: usize, src: &[u8]) -> usize
     requires { at + length src.now ≤ length buf.old }
     ensures { Puts buf.old at src.now buf.new result }
 {
-    let mut k = 0;
-    while k < src.len() {
-        buf[at + k] = src[k];
-        k += 1;
-    }
-    at + k
+    let end = at + src.len();
+    buf[at..end].copy_from_slice(src);
+    end
 }
 
 // A number in decimal digits, those of its tenth part first: at most 20 calls deep.
@@ -132,10 +129,8 @@ fn put_characters(buf: &mut [u8], at: usize, characters: &[u8]) -> usize
     ensures upper_bound { result ≤ at + 4 * length characters.now }
 {
     let mut next = at;
-    let mut k = 0;
-    while k < characters.len() {
-        next = put_character(buf, next, characters[k]);
-        k += 1;
+    for &c in characters {
+        next = put_character(buf, next, c);
     }
     next
 }

@@ -14,16 +14,12 @@ use borrow.Author.Tests.{lt-ltb, le-ltb, le-leb, leb-true, eq-eqb, ne_eqb, eqb-t
 use Rattle.words.specs.Words.{words, Below}
 use Rattle.words.proofs.Laws.{words_below, length_words}
 use Rattle.names.specs.Names.{packed}
-use Rattle.names.specs.declared.Packed.{Packed}
-use Rattle.names.specs.declared.Packed.TheVariants as text
 use Rattle.names.proofs.OneToOne.{pack_stored}
 use Rattle.limits.specs.Limits.{dim_ok, size_ok, call_ok}
 use Rattle.kinds.specs.Kinds.{is_cell}
 use Rattle.headers.specs.Header.{type_at, size_at, name_first, name_second}
 use Rattle.files.specs.Judge.{judge_of}
 use Rattle.files.specs.Spots.{Spot, spots_of, spot_in, first_if}
-use Rattle.files.specs.declared.Judged.{Judged}
-use Rattle.files.specs.declared.Judged.TheVariants as judged
 use Rattle.grammar.proofs.Exact.{accepted_is}
 use Rattle.entries.specs.Entries.{name_of, place_of, entries, image, shown, entries_ok}
 use Rattle.entries.proofs.Laws.{length_entries, length_image, entries_image, length_shown}
@@ -34,17 +30,22 @@ use Rattle.cells.specs.Cells.{Cell, cell_if, cell_here, cells_in, cells_of, cell
 use Rattle.cells.specs.Index.{cell_entry, entries_of, index_of}
 use Rattle.cells.proofs.Index.{index_bytes_lem}
 use Rattle.cells.proofs.Whole.{judged_cells}
-use Rattle.finder.specs.declared.Found.{Found as Finding}
-use Rattle.finder.specs.declared.Found.TheVariants as finding
 use Rattle.finder.specs.declared.Wanted.{Wanted}
 use Rattle.finder.specs.declared.Wanted.TheVariants.{Live, WithDeleted}
 use Rattle.finder.specs.Finder as finder
 use Rattle.finder.specs.Finder.{has_name, is_wanted, is_hit, hit_if, find_by, find_of}
-use Rattle.lookup.specs.declared.Found.TheVariants as found
 use Rattle.lookup.specs.LookUp.{halved, missing, name_number, look_up_by, look_up_of, looks_of}
 use Rattle.lookup.specs.Live.{live_here, live_by, live_in, live_cell, step_to, go_on, look_on, live_look_by, live_look_up_of}
-use Rattle.lookup.specs.Finding.{IndexHolds, IndexOnly, look_outcome, find_outcome, LookUpFinds, LiveLookUpFinds, LooksBound}
+use Rattle.lookup.specs.Finding.{IndexHolds, IndexOnly, outcome, LookUpFinds, LiveLookUpFinds, LooksBound}
 use Rattle.lookup.proofs.Named.{place_found, all_live, looks_bound, is_found, first_found, FileOrder, look_up_finds}
+use Rattle.std.specs.Prelude.{Err, Ok, Result}
+use Rattle.files.specs.Accepted.{accepted_with}
+use Rattle.files.specs.declared.Accepted.{Accepted}
+use Rattle.finder.specs.Found.{found_with, missed_with}
+use Rattle.finder.specs.declared.Found.{Found}
+use Rattle.finder.specs.declared.Missed.{Missed}
+use Rattle.names.specs.declared.Name.{Name}
+use Rattle.refusals.specs.declared.Refusal.{Refusal}
 
 ---- the index
 
@@ -149,10 +150,6 @@ below_all n l h a i = ⊎_elim (λ g. let d = get_or-eq_default l 0 g in omega a
 
 ---- the finder's answer over the cells
 
-abbrev place_by : Finding → Option ℕ
-place_by (finding.At place looked) = some place
-place_by (finding.Refused number place count) = none
-
 module _ (ws : List ℕ) (w : Wanted) (live : ℕ → Bool) where
   -- the test by a place answers of each cell as the finder
   abbrev Agrees : List Spot → Type 0
@@ -181,10 +178,10 @@ module _ (ws : List ℕ) (w : Wanted) (live : ℕ → Bool) where
 
     -- after n others, the first entry that is found is that of the first cell
     abbrev First : ℕ → List Spot → Type 0
-    First n xs = (p : ℕ) → Rising p 4294967296 (cells_in ws xs) → first_found live (name_number a b) (entries_of (cells_in ws xs)) ≡ place_by (finder.first_named w ws a b n xs)
+    First n xs = (p : ℕ) → Rising p 4294967296 (cells_in ws xs) → first_found live (name_number a b) (entries_of (cells_in ws xs)) ≡ place_found (finder.first_named w ws a b n xs)
 
     pub named_first : (p n : ℕ) (xs : List Spot) → Agrees xs → Rising p 4294967296 (cells_in ws xs) →
-        first_found live (name_number a b) (entries_of (cells_in ws xs)) ≡ place_by (finder.first_named w ws a b n xs)
+        first_found live (name_number a b) (entries_of (cells_in ws xs)) ≡ place_found (finder.first_named w ws a b n xs)
     unfolding cell_here has_name is_hit
     named_first p n [] g r = refl
     named_first p n (x ∷ xs) g r = go (λ q. named_first q (n + 1) xs g.1) (is_cell (type_at ws x.place)) refl r
@@ -195,7 +192,7 @@ module _ (ws : List ℕ) (w : Wanted) (live : ℕ → Bool) where
         one : Bool → Bool
         one t = (t && (eqb (name_first ws x.place) a && eqb (name_second ws x.place) b)) && is_wanted w ws x.place
 
-        picked : (t : Bool) (o : Option ℕ) (f : Finding) → o ≡ place_by f → cond t (some x.place) o ≡ place_by (hit_if t x.place n f)
+        picked : (t : Bool) (o : Option ℕ) (f : Result Found Missed) → o ≡ place_found f → cond t (some x.place) o ≡ place_found (hit_if t x.place n f)
         picked true o f e = refl
         picked false o f e = e
 
@@ -203,7 +200,7 @@ module _ (ws : List ℕ) (w : Wanted) (live : ℕ → Bool) where
         same_test e k = rw (entry_place p c k, g.0 e, name_test p c k) refl
 
         go : First (n + 1) xs → (t : Bool) → is_cell (type_at ws x.place) ≡ t → Rising p 4294967296 (cell_if t c ++ cells_in ws xs) →
-            first_found live (name_number a b) (entries_of (cell_if t c ++ cells_in ws xs)) ≡ place_by (hit_if (one t) x.place n (finder.first_named w ws a b (n + 1) xs))
+            first_found live (name_number a b) (entries_of (cell_if t c ++ cells_in ws xs)) ≡ place_found (hit_if (one t) x.place n (finder.first_named w ws a b (n + 1) xs))
         go rest true e r =
             rw (same_test e r.0, entry_place p c r.0)
             (picked (one true) (first_found live (name_number a b) (entries_of (cells_in ws xs))) (finder.first_named w ws a b (n + 1) xs) (rest x.place r.1))
@@ -215,33 +212,33 @@ abbrev outcome_by : Option ℕ → List ℕ
 outcome_by (some place) = 0 ∷ place ∷ []
 outcome_by none = 13 ∷ 0 ∷ []
 
-steps_outcome : (live : ℕ → Bool) (name : ℕ) (es : List ℕ) (n : ℕ) → look_outcome (go_on live name es n) ≡ outcome_by (place_found (go_on live name es n))
+steps_outcome : (live : ℕ → Bool) (name : ℕ) (es : List ℕ) (n : ℕ) → outcome (go_on live name es n) ≡ outcome_by (place_found (go_on live name es n))
 steps_outcome live name [] n = refl
 steps_outcome live name (e ∷ es) n = go (eqb (name_of e) name) (live (place_of e)) (steps_outcome live name es (step_to name es n))
   where
-    go : (b c : Bool) → look_outcome (go_on live name es (step_to name es n)) ≡ outcome_by (place_found (go_on live name es (step_to name es n))) →
-        look_outcome (cond b (cond c (found.At (place_of e) n) (go_on live name es (step_to name es n))) (missing n)) ≡
-        outcome_by (place_found (cond b (cond c (found.At (place_of e) n) (go_on live name es (step_to name es n))) (missing n)))
+    go : (b c : Bool) → outcome (go_on live name es (step_to name es n)) ≡ outcome_by (place_found (go_on live name es (step_to name es n))) →
+        outcome (cond b (cond c (found_with (place_of e) n) (go_on live name es (step_to name es n))) (missing n)) ≡
+        outcome_by (place_found (cond b (cond c (found_with (place_of e) n) (go_on live name es (step_to name es n))) (missing n)))
     go true true r = refl
     go true false r = r
     go false c r = refl
 
-look_outcome_lem : (live : ℕ → Bool) (es : List ℕ) (name : ℕ) → look_outcome (look_on live es name) ≡ outcome_by (place_found (look_on live es name))
+looked_outcome : (live : ℕ → Bool) (es : List ℕ) (name : ℕ) → outcome (look_on live es name) ≡ outcome_by (place_found (look_on live es name))
 unfolding look_on
-look_outcome_lem live es name = go (ltb (halved es name).low (length es))
+looked_outcome live es name = go (ltb (halved es name).low (length es))
   where
     go : (b : Bool) →
-        look_outcome (cond b (go_on live name (drop (halved es name).low es) ((halved es name).looks + 1)) (missing (halved es name).looks)) ≡
+        outcome (cond b (go_on live name (drop (halved es name).low es) ((halved es name).looks + 1)) (missing (halved es name).looks)) ≡
         outcome_by (place_found (cond b (go_on live name (drop (halved es name).low es) ((halved es name).looks + 1)) (missing (halved es name).looks)))
     go true = steps_outcome live name (drop (halved es name).low es) ((halved es name).looks + 1)
     go false = refl
 
-find_outcome_lem : (w : Wanted) (ws : List ℕ) (a b n : ℕ) (xs : List Spot) → find_outcome (finder.first_named w ws a b n xs) ≡ outcome_by (place_by (finder.first_named w ws a b n xs))
-find_outcome_lem w ws a b n [] = refl
-find_outcome_lem w ws a b n (x ∷ xs) = go (find_outcome_lem w ws a b (n + 1) xs) (is_hit w ws x.place a b)
+first_outcome : (w : Wanted) (ws : List ℕ) (a b n : ℕ) (xs : List Spot) → outcome (finder.first_named w ws a b n xs) ≡ outcome_by (place_found (finder.first_named w ws a b n xs))
+first_outcome w ws a b n [] = refl
+first_outcome w ws a b n (x ∷ xs) = go (first_outcome w ws a b (n + 1) xs) (is_hit w ws x.place a b)
   where
-    go : find_outcome (finder.first_named w ws a b (n + 1) xs) ≡ outcome_by (place_by (finder.first_named w ws a b (n + 1) xs)) → (t : Bool) →
-        find_outcome (hit_if t x.place n (finder.first_named w ws a b (n + 1) xs)) ≡ outcome_by (place_by (hit_if t x.place n (finder.first_named w ws a b (n + 1) xs)))
+    go : outcome (finder.first_named w ws a b (n + 1) xs) ≡ outcome_by (place_found (finder.first_named w ws a b (n + 1) xs)) → (t : Bool) →
+        outcome (hit_if t x.place n (finder.first_named w ws a b (n + 1) xs)) ≡ outcome_by (place_found (hit_if t x.place n (finder.first_named w ws a b (n + 1) xs)))
     go rest true = refl
     go rest false = rest
 
@@ -259,7 +256,7 @@ used_ok n es h =
 
 ---- over the index of an accepted file
 
-module _ (dim : ℕ) (s : List ℕ) (e d m : ℕ) (below : Below 256 s) (q : judge_of dim s ≡ judged.Accepted e d m) where
+module _ (dim : ℕ) (s : List ℕ) (e d m : ℕ) (below : Below 256 s) (q : judge_of dim s ≡ accepted_with e d m) where
   most : length (words s) ≤ 4294967296
   unfolding call_ok
   most =
@@ -279,13 +276,13 @@ module _ (dim : ℕ) (s : List ℕ) (e d m : ℕ) (below : Below 256 s) (q : jud
 
   -- by any test that agrees with the finder's
   found_by : (w : Wanted) (live : ℕ → Bool) (a b : ℕ) → a < 65536 → b < 65536 → Agrees (words s) w live (spots_of dim (words s)) →
-      look_outcome (look_on live (index_of dim (words s)) (name_number a b)) ≡ find_outcome (finder.first_named w (words s) a b 0 (spots_of dim (words s)))
+      outcome (look_on live (index_of dim (words s)) (name_number a b)) ≡ outcome (finder.first_named w (words s) a b 0 (spots_of dim (words s)))
   unfolding index_of cells_of
   found_by w live a b u v g =
       let cs = cells_of dim (words s) in
-      look_outcome_lem live (ordered (entries_of cs)) (name_number a b)
+      looked_outcome live (ordered (entries_of cs)) (name_number a b)
       ∙ ap outcome_by (look_up_finds live (name_number a b) (entries_of cs) (rising_order 0 cs rises) ∙ named_first (words s) w live a b u v 0 0 (spots_of dim (words s)) g rises)
-      ∙ sym (find_outcome_lem w (words s) a b 0 (spots_of dim (words s)))
+      ∙ sym (first_outcome w (words s) a b 0 (spots_of dim (words s)))
 
 ---- with deleted cells: every entry is wanted
 
@@ -293,13 +290,13 @@ all_agree : (ws : List ℕ) (xs : List Spot) → Agrees ws WithDeleted (λ p. tr
 all_agree ws [] = tt
 all_agree ws (x ∷ xs) = (λ e. refl, all_agree ws xs)
 
-found_as : (dim : ℕ) (s : List ℕ) (e d m : ℕ) → Below 256 s → judge_of dim s ≡ judged.Accepted e d m → (t : List ℕ) (p : Packed) → packed t ≡ p →
-    look_outcome (look_up_by p (index_of dim (words s))) ≡ find_outcome (find_by WithDeleted (judged.Accepted e d m) p (words s) (spots_of dim (words s)))
-found_as dim s e d m below q t (text.Refused k p) i = refl
-found_as dim s e d m below q t (text.Words a b) i =
-    let st = pack_stored t a b i in
-    ap look_outcome (all_live (index_of dim (words s)) (name_number a b))
-    ∙ found_by dim s e d m below q WithDeleted (λ p. true) a b st.first st.second (all_agree (words s) (spots_of dim (words s)))
+found_as : (dim : ℕ) (s : List ℕ) (e d m : ℕ) → Below 256 s → judge_of dim s ≡ accepted_with e d m → (t : List ℕ) (p : Result Name Refusal) → packed t ≡ p →
+    outcome (look_up_by p (index_of dim (words s))) ≡ outcome (find_by WithDeleted (accepted_with e d m) p (words s) (spots_of dim (words s)))
+found_as dim s e d m below q t (Err refusal) i = refl
+found_as dim s e d m below q t (Ok name) i =
+    let st = pack_stored t name.first name.second i in
+    ap outcome (all_live (index_of dim (words s)) (name_number name.first name.second))
+    ∙ found_by dim s e d m below q WithDeleted (λ p. true) name.first name.second st.first st.second (all_agree (words s) (spots_of dim (words s)))
 
 pub look_up_file : LookUpFinds
 unfolding look_up_of find_of
@@ -331,15 +328,15 @@ live_look_up_file dim s n t below fits =
     let size = index_bytes_lem dim (words s) in
     rw (size, used_ok n (index_of dim (words s)) (omega arith)) (go (judge_of dim s) refl (packed t) refl)
   where
-    go : (j : Judged) → judge_of dim s ≡ j → (p : Packed) → packed t ≡ p →
-        look_outcome (live_look_by j p (live_cell dim (words s)) (entries (take (8 * length (index_of dim (words s))) (shown n (index_of dim (words s)))))) ≡
-        find_outcome (find_by Live j p (words s) (spots_of dim (words s)))
-    go (judged.Refused k p) q r i = refl
-    go (judged.Accepted e d m) q (text.Refused k p) i = refl
-    go (judged.Accepted e d m) q (text.Words a b) i =
-        let st = pack_stored t a b i in
-        rw (held n (index_of dim (words s)) (small dim s e d m below q))
-        (found_by dim s e d m below q Live (live_cell dim (words s)) a b st.first st.second (live_agree dim (words s) [] (spots_of dim (words s)) refl))
+    go : (j : Result Accepted Refusal) → judge_of dim s ≡ j → (p : Result Name Refusal) → packed t ≡ p →
+        outcome (live_look_by j p (live_cell dim (words s)) (entries (take (8 * length (index_of dim (words s))) (shown n (index_of dim (words s)))))) ≡
+        outcome (find_by Live j p (words s) (spots_of dim (words s)))
+    go (Err refusal) q r i = refl
+    go (Ok file) q (Err refusal) i = refl
+    go (Ok file) q (Ok name) i =
+        let st = pack_stored t name.first name.second i in
+        rw (held n (index_of dim (words s)) (small dim s file.elements file.deepest file.marker below q))
+        (found_by dim s file.elements file.deepest file.marker below q Live (live_cell dim (words s)) name.first name.second st.first st.second (live_agree dim (words s) [] (spots_of dim (words s)) refl))
 
 ---- the bound, over any bytes
 
@@ -353,7 +350,7 @@ pub looks_any : LooksBound
 unfolding look_up_of
 looks_any s used t d h = go (entries_ok (length s) used) (packed t)
   where
-    go : (b : Bool) (p : Packed) → looks_of (cond b (look_up_by p (entries (take used s))) (found.Refused 1 0 0)) ≤ d + 1
+    go : (b : Bool) (p : Result Name Refusal) → looks_of (cond b (look_up_by p (entries (take used s))) (missed_with 1 0 0)) ≤ d + 1
     go false p = omega arith
-    go true (text.Refused k p) = omega arith
-    go true (text.Words a b) = looks_bound (entries (take used s)) (name_number a b) d (entries_few used s d h)
+    go true (Err refusal) = omega arith
+    go true (Ok name) = looks_bound (entries (take used s)) (name_number name.first name.second) d (entries_few used s d h)

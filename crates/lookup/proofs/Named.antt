@@ -15,17 +15,19 @@ use Rattle.entries.specs.Entries.{name_of, place_of}
 use Rattle.sorting.specs.Order.{insert, ordered, All, Sorted}
 use Rattle.sorting.proofs.Laws.{le_or_lt, insert_here, insert_later, all_tail, all_ordered, sorted_head, sorted_tail, ordered_sorted}
 use Rattle.lookup.specs.declared.Halved.{Halved}
-use Rattle.lookup.specs.declared.Found.{Found}
-use Rattle.lookup.specs.declared.Found.TheVariants.{At, Refused}
 use Rattle.lookup.specs.LookUp.{halved, missing, last_look, look_up, looks_of}
 use Rattle.lookup.specs.Live.{step_to, go_on, last_looks, look_on}
 use Rattle.lookup.proofs.Halving.{Parted, halved_bound, halved_parted}
 use Rattle.lookup.proofs.Steps.{next_entry}
+use Rattle.std.specs.Prelude.{Err, Ok, Result}
+use Rattle.finder.specs.Found.{found_with}
+use Rattle.finder.specs.declared.Found.{Found}
+use Rattle.finder.specs.declared.Missed.{Missed}
 
 -- the place of an answer
-abbrev pub place_found : Found → Option ℕ
-place_found (At place looks) = some place
-place_found (Refused number place looks) = none
+abbrev pub place_found : Result Found Missed → Option ℕ
+place_found (Ok found) = some found.place
+place_found (Err missed) = none
 
 ---- the rule with every entry live
 
@@ -44,7 +46,7 @@ last_bound : (es : List ℕ) (name : ℕ) (h : Halved) (d : ℕ) → h.looks ≤
 last_bound es name h d l = go (ltb h.low (length es)) (eqb (name_of (get_or es h.low 0)) name)
   where
     go : (b c : Bool)
-        → looks_of (cond b (cond c (At (place_of (get_or es h.low 0)) (h.looks + 1)) (missing (h.looks + 1))) (missing h.looks)) ≤ d + 1
+        → looks_of (cond b (cond c (found_with (place_of (get_or es h.low 0)) (h.looks + 1)) (missing (h.looks + 1))) (missing h.looks)) ≤ d + 1
     go true true = omega arith
     go true false = omega arith
     go false c = omega arith
@@ -108,7 +110,7 @@ module _ (live : ℕ → Bool) (name : ℕ) where
       rest h = first_none es (λ i g. let o = sorted_head x es s i g in let p = a 0 (omega arith) in λ e. h (omega arith))
 
       go : (b : Bool) → eqb (name_of x) name ≡ b → (c : Bool) → place_found (go_on live name es (step_to name es n)) ≡ first_found es →
-          place_found (cond b (cond c (At (place_of x) n) (go_on live name es (step_to name es n))) (missing n)) ≡ cond (b && c) (some (place_of x)) (first_found es)
+          place_found (cond b (cond c (found_with (place_of x) n) (go_on live name es (step_to name es n))) (missing n)) ≡ cond (b && c) (some (place_of x)) (first_found es)
       go true q true r = refl
       go true q false r = r
       go false q c r = sym (rest (eqb-false (name_of x) name q))

@@ -11,32 +11,33 @@ use lib.Dec.{eqb}
 use borrow.Author.Tests.{lt-ltb, le-ltb}
 use Rattle.words.specs.Words.{words}
 use Rattle.names.specs.Names.{packed}
-use Rattle.names.specs.declared.Packed.{Packed}
-use Rattle.names.specs.declared.Packed.TheVariants as text
 use Rattle.files.specs.Judge.{judge_of}
-use Rattle.files.specs.declared.Judged.{Judged}
-use Rattle.files.specs.declared.Judged.TheVariants as judged
 use Rattle.entries.specs.Entries.{entries, entries_ok, name_of, place_of}
 use Rattle.sorting.proofs.Laws.{le_or_lt}
-use Rattle.lookup.specs.declared.Found.{Found}
-use Rattle.lookup.specs.declared.Found.TheVariants.{At, Refused}
 use Rattle.lookup.specs.LookUp.{halved, missing, name_number, look_up, look_up_of, looks_of}
 use Rattle.lookup.specs.Live.{live_cell, step_to, go_on, look_on, live_look_by, live_look_up_of}
 use Rattle.lookup.specs.Finding.{run, run_of, PassesOver, PassedCounted, how_many, of_text, LiveLooksBound}
 use Rattle.lookup.proofs.Named.{looks_bound}
 use Rattle.lookup.proofs.Finding.{entries_few}
+use Rattle.std.specs.Prelude.{Err, Ok, Result}
+use Rattle.files.specs.declared.Accepted.{Accepted}
+use Rattle.finder.specs.Found.{found_with, missed_with}
+use Rattle.finder.specs.declared.Found.{Found}
+use Rattle.finder.specs.declared.Missed.{Missed}
+use Rattle.names.specs.declared.Name.{Name}
+use Rattle.refusals.specs.declared.Refusal.{Refusal}
 
 ---- one step
 
 module _ (live : ℕ → Bool) where
   -- a deleted entry in front of others: the next one is counted if there is one of the name
-  one_more : (r : Found) (es : List ℕ) (n k e : ℕ) → live (place_of e) ≡ false → ((es ≡ []) × (k ≡ n)) ⊎ ((1 ≤ length es) × (k ≡ n + 1)) →
+  one_more : (r : Result Found Missed) (es : List ℕ) (n k e : ℕ) → live (place_of e) ≡ false → ((es ≡ []) × (k ≡ n)) ⊎ ((1 ≤ length es) × (k ≡ n + 1)) →
       PassesOver live es k r → PassesOver live (e ∷ es) n r
-  one_more (At place looks) es n k e h (inl c) p =
+  one_more (Ok found) es n k e h (inl c) p =
       let f = p.1.0 in
       let l = ap length (sym c.0 ∙ f.whole) ∙ length-append f.before (f.one ∷ f.after) in
       absurd (omega arith)
-  one_more (At place looks) es n k e h (inr c) p =
+  one_more (Ok found) es n k e h (inr c) p =
       let f = p.1.0 in
       let z = p.1.1 in
       let y = c.1 in
@@ -56,12 +57,12 @@ module _ (live : ℕ → Bool) where
           omega arith,
         ),
       )
-  one_more (Refused number place looks) es n k e h (inl c) p =
+  one_more (Err missed) es n k e h (inl c) p =
       let l = ap length c.0 in
       let y = c.1 in
       let z = p.3 in
       (p.0, p.1, (h, p.2), omega arith)
-  one_more (Refused number place looks) es n k e h (inr c) p =
+  one_more (Err missed) es n k e h (inr c) p =
       let l = c.0 in
       let y = c.1 in
       let z = p.3 in
@@ -81,7 +82,7 @@ module _ (live : ℕ → Bool) where
   steps_pass name (e ∷ es) n = go (eqb (name_of e) name) (live (place_of e)) refl (steps_pass name es (step_to name es n))
     where
       go : (b c : Bool) → live (place_of e) ≡ c → PassesOver live (run name es) (step_to name es n) (go_on live name es (step_to name es n)) →
-          PassesOver live (cond b (e ∷ run name es) []) n (cond b (cond c (At (place_of e) n) (go_on live name es (step_to name es n))) (missing n))
+          PassesOver live (cond b (e ∷ run name es) []) n (cond b (cond c (found_with (place_of e) n) (go_on live name es (step_to name es n))) (missing n))
       go true true q r =
           (0, (record { before = []; one = e; after = run name es; whole = refl; at = refl; is_live = q; others = tt; counted = refl }, omega arith))
       go true false q r = one_more (go_on live name es (step_to name es n)) (run name es) n (step_to name es n) e q (front name es n) r
@@ -93,7 +94,7 @@ module _ (live : ℕ → Bool) where
   unfolding look_up
   rule_looks es name l = rw (lt-ltb (halved es name).low (length es) l) (go (eqb (name_of (get_or es (halved es name).low 0)) name))
     where
-      go : (b : Bool) → looks_of (cond b (At (place_of (get_or es (halved es name).low 0)) ((halved es name).looks + 1)) (missing ((halved es name).looks + 1))) ≡ (halved es name).looks + 1
+      go : (b : Bool) → looks_of (cond b (found_with (place_of (get_or es (halved es name).low 0)) ((halved es name).looks + 1)) (missing ((halved es name).looks + 1))) ≡ (halved es name).looks + 1
       go true = refl
       go false = refl
 
@@ -110,14 +111,14 @@ module _ (live : ℕ → Bool) where
       (le_or_lt (length es) (halved es name).low)
 
   -- at most one more look for each of them
-  passes_few : (r : Found) (es : List ℕ) (n : ℕ) → PassesOver live es n r → looks_of r ≤ n + length es
-  passes_few (At place looks) es n p =
+  passes_few : (r : Result Found Missed) (es : List ℕ) (n : ℕ) → PassesOver live es n r → looks_of r ≤ n + length es
+  passes_few (Ok found) es n p =
       let f = p.1.0 in
       let z = p.1.1 in
       let c = f.counted in
       let l = ap length f.whole ∙ length-append f.before (f.one ∷ f.after) in
       omega arith
-  passes_few (Refused number place looks) es n p = let z = p.3 in omega arith
+  passes_few (Err missed) es n p = let z = p.3 in omega arith
 
 ---- over any bytes
 
@@ -146,14 +147,14 @@ pub live_looks_any : LiveLooksBound
 unfolding live_look_up_of
 live_looks_any dim s index used t d h = go (entries_ok (length index) used) (judge_of dim s) (packed t)
   where
-    go : (b : Bool) (j : Judged) (p : Packed) →
-        looks_of (cond b (live_look_by j p (live_cell dim (words s)) (entries (take used index))) (Refused 1 0 0)) ≤ d + 1 + of_text p (entries (take used index))
+    go : (b : Bool) (j : Result Accepted Refusal) (p : Result Name Refusal) →
+        looks_of (cond b (live_look_by j p (live_cell dim (words s)) (entries (take used index))) (missed_with 1 0 0)) ≤ d + 1 + of_text p (entries (take used index))
     go false j p = omega arith
-    go true (judged.Refused n q) p = omega arith
-    go true (judged.Accepted e k m) (text.Refused n q) = omega arith
-    go true (judged.Accepted e k m) (text.Words a b) =
+    go true (Err refusal) p = omega arith
+    go true (Ok file) (Err refusal) = omega arith
+    go true (Ok file) (Ok name2) =
         let es = entries (take used index) in
-        let name = name_number a b in
+        let name = name_number name2.first name2.second in
         let live = live_cell dim (words s) in
         let l = looks_bound es name d (entries_few used index d h) in
         let f = passes_few live (look_on live es name) (run_of es name) (looks_of (look_up es name)) (look_passes live es name) in

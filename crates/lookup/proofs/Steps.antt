@@ -1,8 +1,8 @@
 -- The steps on from entry low: what is left to do from an entry is what is left of all, and the first live one of the name ends them.
-use Prim.Native.Nat.{ℕ, ◌+◌, ◌/◌, ◌≤◌, ◌<◌}
+use Prim.Native.Nat.{ℕ, ◌+◌, ◌-◌, ◌/◌, ◌≤◌, ◌<◌}
 use mathlib.Core.Path.{◌≡◌, refl, sym, ap, ◌∙◌}
 use mathlib.Core.Logic.{⊎_elim}
-use mathlib.Core.Bool.{Bool, true, false, and-eq-true_iff}
+use mathlib.Core.Bool.{Bool, true, false, false≢true, and-eq-true_iff}
 use mathlib.Core.List.{List, [], ◌∷◌}
 use native.Mathlib.Omega.{arith}
 use native.Mathlib.Numerals.{add-one}
@@ -13,11 +13,13 @@ use borrow.Author.Tests.{lt-ltb, le-ltb, ltb-true, eq-eqb, eqb-true}
 use Rattle.entries.specs.Entries.{name_of, place_of}
 use Rattle.sorting.proofs.Laws.{le_or_lt}
 use Rattle.lookup.specs.declared.Halved.{Halved}
-use Rattle.lookup.specs.declared.Found.{Found}
-use Rattle.lookup.specs.declared.Found.TheVariants.{At}
 use Rattle.lookup.specs.LookUp.{Ended, missing}
 use Rattle.lookup.specs.Live.{step_to, go_on, look_on}
 use Rattle.lookup.specs.Table.{named_at}
+use Rattle.std.specs.Prelude.{Result}
+use Rattle.finder.specs.Found.{found_with}
+use Rattle.finder.specs.declared.Found.{Found}
+use Rattle.finder.specs.declared.Missed.{Missed}
 
 -- whether entry i is there and has the name
 module _ (es : List ℕ) (i name : ℕ) where
@@ -43,7 +45,7 @@ module _ (live : ℕ → Bool) (es : List ℕ) (name : ℕ) where
 
   -- an entry of the name, live or not
   here_live : (i n : ℕ) → i < length es → name_of (get_or es i 0) ≡ name → live (place_of (get_or es i 0)) ≡ true →
-      At (place_of (get_or es i 0)) n ≡ go_on live name (drop i es) n
+      found_with (place_of (get_or es i 0)) n ≡ go_on live name (drop i es) n
   here_live i n h q l = rw (next_entry i h, eq-eqb (name_of (get_or es i 0)) name q, l) refl
 
   here_deleted : (i n : ℕ) → i < length es → name_of (get_or es i 0) ≡ name → live (place_of (get_or es i 0)) ≡ false →
@@ -63,38 +65,33 @@ module _ (live : ℕ → Bool) (es : List ℕ) (name : ℕ) where
       (λ h. let q : eqb (name_of (get_or es i 0)) name ≡ false = (rw (lt-ltb i (length es) h) at e) in rw (next_entry i h, q) refl)
       (le_or_lt (length es) i)
 
-  -- what is left to do from entry i on, after n looks, is what is left from entry low on
+  -- up to entry i, after n looks: where it has the name what is left to do from it on is what is left from entry low on, else nothing is
   pub record Stepping (low looks i n : ℕ) : Type 0 where
-    pub inside : i < length es
-    pub named : name_of (get_or es i 0) ≡ name
-    pub counted : n + low ≡ looks + i
-    pub same : go_on live name (drop i es) n ≡ go_on live name (drop low es) looks
+    pub on : named_at es i name ≡ true → go_on live name (drop i es) (looks + (i - low)) ≡ go_on live name (drop low es) looks
+    pub off : named_at es i name ≡ false → missing n ≡ go_on live name (drop low es) looks
 
   pub step_first : (low looks : ℕ) → low < length es → name_of (get_or es low 0) ≡ name → Stepping low looks low looks
-  step_first low looks h q = record { inside = h; named = q; counted = refl; same = refl }
+  step_first low looks h q =
+      let z : looks + (low - low) ≡ looks = omega arith in
+      let named : named_at es low name ≡ true = rw (lt-ltb low (length es) h, eq-eqb (name_of (get_or es low 0)) name q) refl in
+      record { on = λ _. ap (go_on live name (drop low es)) z; off = λ f. absurd (false≢true (sym f ∙ named)) }
 
-  module _ {low looks i n e : ℕ} (g : Stepping low looks i n) (is : e ≡ get_or es i 0) where
-    pub step_hit : {b : Bool} → b ≡ live (place_of e) → b ≡ true → At (place_of e) n ≡ go_on live name (drop low es) looks
-    step_hit l t = rw is (here_live i n g.inside g.named (rw is at (sym l ∙ t))) ∙ g.same
+  module _ {low looks i n e : ℕ} (g : Stepping low looks i n) {c : Bool} (k : c ≡ named_at es i name) (t : c ≡ true) (is : e ≡ get_or es i 0) where
+    here : (i < length es) × (name_of (get_or es i 0) ≡ name)
+    here = named_is es i name (sym k ∙ t)
 
-    module _ {b : Bool} (l : b ≡ live (place_of e)) (t : b ≡ false) where
-      on : go_on live name (drop (i + 1) es) (step_to name (drop (i + 1) es) n) ≡ go_on live name (drop low es) looks
-      on = sym (here_deleted i n g.inside g.named (rw is at (sym l ∙ t))) ∙ g.same
+    pub step_hit : {b : Bool} → b ≡ live (place_of e) → b ≡ true → found_with (place_of e) (looks + (i - low)) ≡ go_on live name (drop low es) looks
+    step_hit l h = rw is (here_live i (looks + (i - low)) here.0 here.1 (rw is at (sym l ∙ h))) ∙ g.on (sym k ∙ t)
 
-      pub step_last : {c : Bool} → c ≡ named_at es (i + 1) name → c ≡ false → missing n ≡ go_on live name (drop low es) looks
-      step_last k f = step_none (i + 1) n (sym k ∙ f) ∙ on
-
-      pub step_again : {c : Bool} → c ≡ named_at es (i + 1) name → c ≡ true → Stepping low looks (i + 1) (n + 1)
-      step_again k f =
-          let q = sym k ∙ f in
-          let b = named_is es (i + 1) name q in
-          let z = g.counted in
-          record {
-            inside = b.0;
-            named = b.1;
-            counted = omega arith;
-            same = ap (λ k. go_on live name (drop (i + 1) es) k) (sym (step_named (i + 1) n q)) ∙ on;
-          }
+    pub step_again : {b : Bool} → b ≡ live (place_of e) → b ≡ false → low ≤ i → Stepping low looks (i + 1) (looks + (i - low))
+    step_again l h le =
+        let n = looks + (i - low) in
+        let more : looks + (i + 1 - low) ≡ n + 1 = omega arith in
+        let on = sym (here_deleted i n here.0 here.1 (rw is at (sym l ∙ h))) ∙ g.on (sym k ∙ t) in
+        record {
+          on = λ q. ap (go_on live name (drop (i + 1) es)) (more ∙ sym (step_named (i + 1) n q)) ∙ on;
+          off = λ f. step_none (i + 1) n f ∙ on;
+        }
 
   ---- the end of the halving rule
 
@@ -112,7 +109,7 @@ module _ (live : ℕ → Bool) (es : List ℕ) (name : ℕ) where
       rw (next_entry h.low l, k) at (end_looks q l)
 
 -- the steps by a table that answers alike
-pub end_steps : {f live : ℕ → Bool} {es : List ℕ} {name : ℕ} {h : Halved} {r : Found} → Ended es name h → h.low < length es → ((p : ℕ) → f p ≡ live p) →
+pub end_steps : {f live : ℕ → Bool} {es : List ℕ} {name : ℕ} {h : Halved} {r : Result Found Missed} → Ended es name h → h.low < length es → ((p : ℕ) → f p ≡ live p) →
     r ≡ go_on f name (drop h.low es) (h.looks + 1) → r ≡ look_on live es name
 end_steps {f} {live} {es} {name} {h} q l e g =
     g ∙ go_on_same f live e name (drop h.low es) (h.looks + 1) ∙ end_looks live es name q l

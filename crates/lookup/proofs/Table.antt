@@ -17,7 +17,6 @@ use Rattle.kinds.proofs.Types.{each_named, both}
 use Rattle.headers.specs.Header.{type_at, size_at, sizing_at}
 use Rattle.files.specs.Judge.{judge_of}
 use Rattle.files.specs.Spots.{Spot, spots_of, spot_in, first_if}
-use Rattle.files.specs.declared.Judged.TheVariants as judged
 use Rattle.grammar.proofs.Forest.{Forest, nil, node, flat, Wf, spots, weight, own_stands, components_stand, rest_stand}
 use Rattle.grammar.proofs.Stands.{Stands}
 use Rattle.grammar.proofs.Rules.{own_type, own_size}
@@ -30,6 +29,7 @@ use Rattle.finder.specs.Look.{InOrder}
 use Rattle.finder.proofs.Order.{order_room}
 use Rattle.lookup.specs.Live.{live_here, live_by, live_in}
 use Rattle.lookup.specs.Table.{marked, Apart, TableTo}
+use Rattle.files.specs.Accepted.{accepted_with}
 
 ---- one store
 
@@ -206,7 +206,7 @@ tree_apart dim ws depth under header at (node own k r) w s = (
       (tree_apart dim ws depth under header (at + weight own k) r w.2 (rest_stand own k r s)),
 )
 
-pub file_apart : (dim : ℕ) (s : List ℕ) (e d m : ℕ) → judge_of dim s ≡ judged.Accepted e d m → Apart (words s) (spots_of dim (words s))
+pub file_apart : (dim : ℕ) (s : List ℕ) (e d m : ℕ) → judge_of dim s ≡ accepted_with e d m → Apart (words s) (spots_of dim (words s))
 file_apart dim s e d m q =
     let t = file_tree (accepted_is dim s e d m q).file in
     subst (Apart (words s)) t.read (tree_apart dim (words s) 0 0 none 0 t.tree t.wf t.stands)

@@ -8,11 +8,14 @@ use native.Mathlib.Omega.{arith}
 use lib.ListN.{length, get_or, take}
 use borrow.Author.Tests.{lt-ltb, le-ltb, eq-eqb, ne_eqb}
 use Rattle.names.specs.Names.{packed}
-use Rattle.names.specs.declared.Packed.TheVariants as text
 use Rattle.entries.specs.Entries.{entries, entries_ok, name_of}
 use Rattle.lookup.specs.declared.Halved.{Halved}
 use Rattle.lookup.specs.LookUp.{halving, halved, Ended, missing, name_number, look_up, look_up_of}
-use Rattle.lookup.specs.declared.Found.TheVariants.{At, Refused}
+use Rattle.finder.specs.Found.{found_with, unlooked}
+use Rattle.names.specs.Name.{packed_to}
+use Rattle.refusals.specs.Refusals.{refusal_of}
+use Rattle.refusals.specs.declared.Refusal.{Refusal}
+use Rattle.std.specs.Prelude.{Err}
 
 module _ (es : List ℕ) (name : ℕ) where
   pub IsHalved : ℕ → ℕ → ℕ → Halved → Type 0
@@ -81,7 +84,7 @@ module _ (es : List ℕ) (name : ℕ) where
 ---- the last look
 
 pub last_found : {es : List ℕ} {name e : ℕ} {h : Halved} → Ended es name h → h.low < length es → e ≡ get_or es h.low 0
-    → e / 4294967296 ≡ name → At (e % 4294967296) (h.looks + 1) ≡ look_up es name
+    → e / 4294967296 ≡ name → found_with (e % 4294967296) (h.looks + 1) ≡ look_up es name
 unfolding look_up
 last_found {es} {name} {e} {h} q l r n =
     rw (← q.is, lt-ltb h.low (length es) l, ← r, eq-eqb (e / 4294967296) name n) refl
@@ -98,15 +101,15 @@ last_none {es} {name} {h} q l = rw (← q.is, le-ltb h.low (length es) l) refl
 
 ---- the call
 
-pub call_bad : (s : List ℕ) (used : ℕ) (t : List ℕ) → entries_ok (length s) used ≡ false → Refused 1 0 0 ≡ look_up_of s used t
+pub call_bad : (s : List ℕ) (used : ℕ) (t : List ℕ) → entries_ok (length s) used ≡ false → Err (unlooked (refusal_of 1 0)) ≡ look_up_of s used t
 unfolding look_up_of
 call_bad s used t h = rw h refl
 
-pub call_text : (s : List ℕ) (used : ℕ) (t : List ℕ) (n p : ℕ) → entries_ok (length s) used ≡ true → packed t ≡ text.Refused n p → Refused n p 0 ≡ look_up_of s used t
+pub call_text : (s : List ℕ) (used : ℕ) (t : List ℕ) (refusal : Refusal) → entries_ok (length s) used ≡ true → packed t ≡ Err refusal → Err (unlooked refusal) ≡ look_up_of s used t
 unfolding look_up_of
-call_text s used t n p h e = rw (h, e) refl
+call_text s used t refusal h e = rw (h, e) refl
 
-pub call_in : (s : List ℕ) (used : ℕ) (t : List ℕ) (a b : ℕ) → entries_ok (length s) used ≡ true → packed t ≡ text.Words a b →
+pub call_in : (s : List ℕ) (used : ℕ) (t : List ℕ) (a b : ℕ) → entries_ok (length s) used ≡ true → packed t ≡ packed_to a b →
     look_up (entries (take used s)) (name_number a b) ≡ look_up_of s used t
 unfolding look_up_of
 call_in s used t a b h e = rw (h, e) refl

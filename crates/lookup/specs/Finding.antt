@@ -1,23 +1,22 @@
 -- What a built index is, that the look-ups over it answer as the finder does over the file, but for the count, and how often they look.
-use Rattle.std.specs.Prelude.{ℕ, suc, ◌+◌, ◌-◌, ◌/◌, ◌^◌, ◌≤◌, ◌<◌, ◌≡◌, Bool, true, false, cond, List, [], ◌∷◌, ◌++◌, length, take, drop, eqb}
+use Rattle.std.specs.Prelude.{ℕ, suc, ◌+◌, ◌-◌, ◌/◌, ◌^◌, ◌≤◌, ◌<◌, ◌≡◌, Bool, true, false, cond, List, [], ◌∷◌, ◌++◌, length, take, drop, eqb, Err, Ok, Result}
 use Rattle.words.specs.Words.{words, Below}
 use Rattle.names.specs.Names.{packed}
-use Rattle.names.specs.declared.Packed.{Packed}
-use Rattle.names.specs.declared.Packed.TheVariants as text
 use Rattle.files.specs.Judge.{judge_of}
-use Rattle.files.specs.declared.Judged.TheVariants.{Accepted}
 use Rattle.entries.specs.Entries.{entries, entries_ok, name_of, place_of, shown}
 use Rattle.sorting.specs.Order.{Sorted, times}
 use Rattle.cells.specs.Cells.{cells_of}
 use Rattle.cells.specs.Index.{entries_of, index_of, index_bytes}
-use Rattle.finder.specs.declared.Found.{Found as Finding}
-use Rattle.finder.specs.declared.Found.TheVariants as finding
 use Rattle.finder.specs.declared.Wanted.TheVariants.{Live, WithDeleted}
 use Rattle.finder.specs.Finder.{find_of}
-use Rattle.lookup.specs.declared.Found.{Found}
-use Rattle.lookup.specs.declared.Found.TheVariants as found
 use Rattle.lookup.specs.LookUp.{halved, name_number, look_up_of, looks_of}
 use Rattle.lookup.specs.Live.{live_cell, live_look_up_of}
+use Rattle.files.specs.Accepted.{accepted_with}
+use Rattle.finder.specs.declared.Found.{Found}
+use Rattle.finder.specs.declared.Missed.{Missed}
+use Rattle.names.specs.Name.{packed_to}
+use Rattle.names.specs.declared.Name.{Name}
+use Rattle.refusals.specs.declared.Refusal.{Refusal}
 
 -- the index has the entry of each cell of the file, as often as there is such a cell, and no other, in order
 pub record Holds (dim : ℕ) (ws index : List ℕ) : Type 0 where
@@ -32,25 +31,21 @@ abbrev pub IndexOnly : Type 0
 IndexOnly = (dim : ℕ) (ws index : List ℕ) → Holds dim ws index → index ≡ index_of dim ws
 
 -- the place that is found, or the refusal's number and place, without the count
-abbrev pub look_outcome : Found → List ℕ
-look_outcome (found.At place looks) = 0 ∷ place ∷ []
-look_outcome (found.Refused number place looks) = number ∷ place ∷ []
-
-abbrev pub find_outcome : Finding → List ℕ
-find_outcome (finding.At place looked) = 0 ∷ place ∷ []
-find_outcome (finding.Refused number place count) = number ∷ place ∷ []
+abbrev pub outcome : Result Found Missed → List ℕ
+outcome (Ok found) = 0 ∷ found.place ∷ []
+outcome (Err missed) = missed.refusal.number ∷ missed.refusal.place ∷ []
 
 -- over the index of an accepted file, in a buffer that it fits, the look-up with deleted cells answers as the finder with them
 abbrev pub LookUpFinds : Type 0
 LookUpFinds =
-    (dim : ℕ) (s : List ℕ) (n : ℕ) (t : List ℕ) (e d m : ℕ) → Below 256 s → judge_of dim s ≡ Accepted e d m → index_bytes dim (words s) ≤ n →
-    look_outcome (look_up_of (shown n (index_of dim (words s))) (index_bytes dim (words s)) t) ≡ find_outcome (find_of WithDeleted dim s t)
+    (dim : ℕ) (s : List ℕ) (n : ℕ) (t : List ℕ) (e d m : ℕ) → Below 256 s → judge_of dim s ≡ accepted_with e d m → index_bytes dim (words s) ≤ n →
+    outcome (look_up_of (shown n (index_of dim (words s))) (index_bytes dim (words s)) t) ≡ outcome (find_of WithDeleted dim s t)
 
 -- and over the index of any file, with the file, the look-up of live cells as the finder of live cells
 abbrev pub LiveLookUpFinds : Type 0
 LiveLookUpFinds =
     (dim : ℕ) (s : List ℕ) (n : ℕ) (t : List ℕ) → Below 256 s → index_bytes dim (words s) ≤ n →
-    look_outcome (live_look_up_of dim s (shown n (index_of dim (words s))) (index_bytes dim (words s)) t) ≡ find_outcome (find_of Live dim s t)
+    outcome (live_look_up_of dim s (shown n (index_of dim (words s))) (index_bytes dim (words s)) t) ≡ outcome (find_of Live dim s t)
 
 -- over any bytes: where the number of entries has d binary digits at most, there are at most d + 1 looks
 abbrev pub LooksBound : Type 0
@@ -85,14 +80,14 @@ pub record FirstLive (live : ℕ → Bool) (es : List ℕ) (place passed : ℕ) 
 
 -- what an answer says of the entries of the name from entry low on, where the rule itself made so many looks: the first live one, with a
 -- look for each that was passed; or 13, where none is live, with a look for each but the first
-abbrev pub PassesOver : (ℕ → Bool) → List ℕ → ℕ → Found → Type 0
-PassesOver live es looks (found.At place n) = (passed : ℕ) × (FirstLive live es place passed × (n ≡ looks + passed))
-PassesOver live es looks (found.Refused number place n) = (number ≡ 13) × (place ≡ 0) × NoneLive live es × (n ≡ looks + (length es - 1))
+abbrev pub PassesOver : (ℕ → Bool) → List ℕ → ℕ → Result Found Missed → Type 0
+PassesOver live es looks (Ok found) = (passed : ℕ) × (FirstLive live es found.place passed × (found.looks ≡ looks + passed))
+PassesOver live es looks (Err missed) = (missed.refusal.number ≡ 13) × (missed.refusal.place ≡ 0) × NoneLive live es × (missed.looks ≡ looks + (length es - 1))
 
 -- of an accepted file and a good text, over any bytes
 abbrev pub PassedCounted : Type 0
 PassedCounted =
-    (dim : ℕ) (s index : List ℕ) (used : ℕ) (t : List ℕ) (e d m a b : ℕ) → judge_of dim s ≡ Accepted e d m → packed t ≡ text.Words a b → entries_ok (length index) used ≡ true →
+    (dim : ℕ) (s index : List ℕ) (used : ℕ) (t : List ℕ) (e d m a b : ℕ) → judge_of dim s ≡ accepted_with e d m → packed t ≡ packed_to a b → entries_ok (length index) used ≡ true →
     PassesOver (live_cell dim (words s)) (run_of (entries (take used index)) (name_number a b)) (looks_of (look_up_of index used t)) (live_look_up_of dim s index used t)
 
 -- how many entries have a name, and that of a text
@@ -100,9 +95,9 @@ abbrev pub how_many : ℕ → List ℕ → ℕ
 how_many name [] = 0
 how_many name (e ∷ es) = cond (eqb (name_of e) name) (suc (how_many name es)) (how_many name es)
 
-abbrev pub of_text : Packed → List ℕ → ℕ
-of_text (text.Words a b) es = how_many (name_number a b) es
-of_text (text.Refused n p) es = 0
+abbrev pub of_text : Result Name Refusal → List ℕ → ℕ
+of_text (Ok name) es = how_many (name_number name.first name.second) es
+of_text (Err refusal) es = 0
 
 -- the bound grows by the entries of the name
 abbrev pub LiveLooksBound : Type 0

@@ -1,13 +1,14 @@
 -- The live cells of a part of a file as a table: a cell has 35 words at least, so of 32 words one at most starts a cell. Byte b is 1 + k
 -- where a live cell starts at word 32 * b + k, 0 where none does. Only private functions promise it.
-use Rattle.std.specs.Prelude.{ℕ, ◌+◌, ◌*◌, ◌/◌, ◌%◌, ◌≤◌, ◌≡◌, List, [], ◌∷◌, Bool, true, false, ◌&&◌, length, get_or, ltb, eqb}
+use Rattle.std.specs.Prelude.{ℕ, ◌+◌, ◌*◌, ◌/◌, ◌%◌, ◌≤◌, ◌≡◌, List, [], ◌∷◌, Bool, true, false, ◌&&◌, length, get_or, ltb, eqb, Result}
 use Rattle.kinds.specs.Kinds.{is_cell}
 use Rattle.headers.specs.Header.{type_at, size_at}
 use Rattle.files.specs.Spots.{Spot}
 use Rattle.finder.specs.Look.{InOrder}
 use Rattle.entries.specs.Entries.{name_of}
-use Rattle.lookup.specs.declared.Found.{Found}
 use Rattle.lookup.specs.Live.{live_in, look_on}
+use Rattle.finder.specs.declared.Found.{Found}
+use Rattle.finder.specs.declared.Missed.{Missed}
 
 -- a table says that a live cell starts at a place
 abbrev pub marked : List ℕ → ℕ → Bool
@@ -33,5 +34,5 @@ abbrev pub named_at : List ℕ → ℕ → ℕ → Bool
 named_at es i name = ltb i (length es) && eqb (name_of (get_or es i 0)) name
 
 -- r is what is looked up with the live cells of the elements up to a place
-abbrev pub LookedTo : List ℕ → ℕ → List ℕ → ℕ → Found → Type 0
+abbrev pub LookedTo : List ℕ → ℕ → List ℕ → ℕ → Result Found Missed → Type 0
 LookedTo ws to es name r = (xs : List Spot) → InOrder ws 0 xs to → Apart ws xs → r ≡ look_on (live_in xs ws) es name

@@ -6,29 +6,18 @@
 ghost use Rattle.std.specs.Prelude.{◌≡◌, false, cond, ◌+◌, ◌/◌, ◌%◌, ◌<◌, ◌≤◌, ◌^◌, length, get_or, set, drop};
 ghost use Rattle.words.specs.Words.{words};
 ghost use Rattle.entries.specs.Entries.{entries, name_of};
-ghost use Rattle.lookup.specs.LookUp.{Ended, missing, look_up, look_up_of};
+ghost use Rattle.lookup.specs.LookUp.{Ended, look_up, look_up_of};
 ghost use Rattle.lookup.specs.Live.{live_here, go_on, live_look_up_of};
 ghost use Rattle.lookup.specs.Table.{marked, named_at, MayFill, TableTo, LookedTo};
+
+use finder::{Found, Missed};
+use refusals::Refusal;
 
 // Where the rule ends, and how many entries it looked at.
 #[derive(Clone, Copy)]
 pub struct Halved {
     pub low: usize,
     pub looks: usize,
-}
-
-// The place that the entry found holds, or a refusal, and the number of looks.
-#[derive(Clone, Copy)]
-pub enum Found {
-    At {
-        place: usize,
-        looks: usize,
-    },
-    Refused {
-        number: usize,
-        place: usize,
-        looks: usize,
-    },
 }
 
 // The halving rule over all entries. A name is its two words as one number.
@@ -50,60 +39,37 @@ fn halve(s: &[u8], name: usize) -> Halved
     Halved { low, looks }
 }
 
-// A refusal before any look.
-fn refused(number: usize, place: usize) -> Found
-    ensures { result ≡ Found.Refused number place 0 }
-{
-    Found::Refused {
-        number,
-        place,
-        looks: 0,
-    }
-}
-
-// No entry of the name, after so many looks.
-fn missing(looks: usize) -> Found
-    ensures { result ≡ missing looks }
-{
-    Found::Refused {
-        number: 13,
-        place: 0,
-        looks,
-    }
-}
-
 // The last look.
-fn find(s: &[u8], name: usize) -> Found
+fn find(s: &[u8], name: usize) -> Result<Found, Missed>
     ensures { result ≡ look_up (entries s.now) name }
 {
-    let h = halve(s, name);
-    let low = h.low;
-    let looks = h.looks;
+    let Halved { low, looks } = halve(s, name);
     if low < s.len() / 8 {
         let e = entries::entry(s, low);
         if e / 4294967296 == name {
-            return Found::At {
+            return Ok(Found {
                 place: e % 4294967296,
                 looks: looks + 1,
-            };
+            });
         }
-        return missing(looks + 1);
+        return Err(Missed::none_named(looks + 1));
     }
-    missing(looks)
+    Err(Missed::none_named(looks))
 }
 
 // The lowest place of a cell with the name of a text, live or deleted, by an index whose used bytes are the first of the lent ones: 1,
 // 12, or 13 with the number of looks. No file is lent.
-pub fn look_up_with_deleted(index: &[u8], used: usize, text: &[u8]) -> Found
+pub fn look_up_with_deleted(index: &[u8], used: usize, text: &[u8]) -> Result<Found, Missed>
     ensures { result ≡ look_up_of index.now used text.now }
 {
     if !entries::entries_ok(index.len(), used) {
-        return refused(1, 0);
+        return Err(Missed::from(Refusal {
+            number: 1,
+            place: 0,
+        }));
     }
-    match names::pack(text) {
-        names::Packed::Words { first, second } => find(&index[..used], 65536 * first + second),
-        names::Packed::Refused { number, place } => refused(number, place),
-    }
+    let name = names::pack(text)?;
+    find(&index[..used], 65536 * name.first + name.second)
 }
 
 // Whether a live cell starts at a place where an element starts.
@@ -161,39 +127,36 @@ fn has_name(s: &[u8], i: usize, name: usize) -> bool
 }
 
 // From an entry with the name on, while the entry has the name and is deleted by the table.
-fn go_on(t: &[u8], s: &[u8], low: usize, name: usize, looks: usize) -> Found
+fn go_on(t: &[u8], s: &[u8], low: usize, name: usize, looks: usize) -> Result<Found, Missed>
     requires { (low < length (entries s.now)) × ((name_of (get_or (entries s.now) low 0) ≡ name) × (looks + length (entries s.now) < 2 ^ 64)) }
     ensures { result ≡ go_on (marked t.now) name (drop low (entries s.now)) looks }
 {
-    let mut i = low;
     let mut n = looks;
-    loop {
+    for i in low..s.len() / 8 {
+        if !has_name(s, i, name) {
+            break;
+        }
+        n = looks + (i - low);
         let place = entries::entry(s, i) % 4294967296;
         if is_marked(t, place) {
-            return Found::At { place, looks: n };
+            return Ok(Found { place, looks: n });
         }
-        i += 1;
-        if !has_name(s, i, name) {
-            return missing(n);
-        }
-        n += 1;
     }
+    Err(Missed::none_named(n))
 }
 
 // The last looks, with the live cells of the elements up to a place in a table. So every entry of the name costs one look at the
 // table, whatever the order of the places.
-fn find_live(file: &[u8], to: usize, s: &[u8], name: usize) -> Found
+fn find_live(file: &[u8], to: usize, s: &[u8], name: usize) -> Result<Found, Missed>
     requires { to ≤ 524288 }
     ensures { LookedTo (words file.now) to (entries s.now) name result }
 {
-    let h = halve(s, name);
-    let low = h.low;
-    let looks = h.looks;
+    let Halved { low, looks } = halve(s, name);
     if s.len() / 8 <= low {
-        return missing(looks);
+        return Err(Missed::none_named(looks));
     }
     if !has_name(s, low, name) {
-        return missing(looks + 1);
+        return Err(Missed::none_named(looks + 1));
     }
     let mut t = [0u8; 16384];
     fill_live(&mut t, file, to);
@@ -202,23 +165,27 @@ fn find_live(file: &[u8], to: usize, s: &[u8], name: usize) -> Found
 
 // The place of a live cell with the name of a text, by a file and its index: of the entries of the name the first whose place starts a
 // live cell. 1, the file's own, 12, or 13 with the number of looks.
-pub fn look_up(file: &[u8], dim: usize, index: &[u8], used: usize, text: &[u8]) -> Found
+pub fn look_up(
+    file: &[u8],
+    dim: usize,
+    index: &[u8],
+    used: usize,
+    text: &[u8],
+) -> Result<Found, Missed>
     ensures { result ≡ live_look_up_of dim file.now index.now used text.now }
 {
     if !entries::entries_ok(index.len(), used) {
-        return refused(1, 0);
+        return Err(Missed::from(Refusal {
+            number: 1,
+            place: 0,
+        }));
     }
-    match files::judge(file, dim) {
-        files::Judged::Refused { number, place } => refused(number, place),
-        files::Judged::Accepted {
-            elements: _,
-            deepest: _,
-            marker,
-        } => match names::pack(text) {
-            names::Packed::Words { first, second } => {
-                find_live(file, marker, &index[..used], 65536 * first + second)
-            }
-            names::Packed::Refused { number, place } => refused(number, place),
-        },
-    }
+    let accepted = files::judge(file, dim)?;
+    let name = names::pack(text)?;
+    find_live(
+        file,
+        accepted.marker,
+        &index[..used],
+        65536 * name.first + name.second,
+    )
 }

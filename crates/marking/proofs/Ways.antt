@@ -11,14 +11,9 @@ use borrow.Author.Tests.{ne_eqb}
 use Rattle.words.specs.Words.{words, bytes, over, Below, word_at}
 use Rattle.words.proofs.Laws.{words_below}
 use Rattle.names.specs.Names.{packed}
-use Rattle.names.specs.declared.Packed.TheVariants as name
 use Rattle.files.specs.Spots.{spots_of}
-use Rattle.places.specs.declared.Spotted.{Spotted}
-use Rattle.places.specs.declared.Spotted.TheVariants.{At}
 use Rattle.places.specs.Descent.{locate_of}
 use Rattle.edits.specs.Bits.{flag_size}
-use Rattle.edits.specs.declared.Edited.{Edited}
-use Rattle.edits.specs.declared.Edited.TheVariants.{Made, Refused}
 use Rattle.edits.specs.Edits.{mark, rename, flags_at}
 use Rattle.headers.specs.Header.{name_place}
 use Rattle.edits.specs.Allowed.{fine, fault, rename_fault, edit_fault}
@@ -40,6 +35,14 @@ use Rattle.opening.proofs.Steps.{edit_step, edit_refused, edit_journal, edit_don
 use Rattle.opening.proofs.OpenSession.{used_within, jused_within, open_used, used_below, used_even, jused_even}
 use Rattle.opening.proofs.Pushed.{Laid, renamed_laid, record_long, record_pushed_lem, flag_long, flag_pushed}
 use Rattle.marking.specs.Marking.{cell_renamed}
+use Rattle.std.specs.Prelude.{Err, Ok, Result}
+use Rattle.edits.specs.UsedLengths.{made_with}
+use Rattle.edits.specs.declared.UsedLengths.{UsedLengths}
+use Rattle.names.specs.declared.Name.{Name}
+use Rattle.places.specs.Spotted.{spotted_with}
+use Rattle.places.specs.declared.Spotted.{Spotted}
+use Rattle.refusals.specs.Refusals.{refused_with}
+use Rattle.refusals.specs.declared.Refusal.{Refusal}
 
 -- a number as a refusal
 numbered_fault : (n : ℕ) → (n ≡ 0 → ⊥) → numbered n ≡ fault n 0
@@ -68,14 +71,14 @@ over_behind s n x =
     (ap (λ l. take n s ++ (x ++ l)) (drop-drop (0 + length x) n s ∙ ap (λ k. drop k s) e))
 
 -- what a text asks by what it packs to
-module _ (dim : ℕ) (s : Session) (p : ℕ) (text : List ℕ) {r : Edited} {file journal : List ℕ} (ready : session_fault dim s ≡ fine) where
-  pub text_named : (a b : ℕ) → packed text ≡ name.Words a b → Leaves (cell_renamed dim s p true a b) r file journal → Stepped dim s (rename_call p text) r file journal
-  text_named a b e = edit_step dim s _ _ _ refl ready (rw e refl)
+module _ (dim : ℕ) (s : Session) (p : ℕ) (text : List ℕ) {r : Result UsedLengths Refusal} {file journal : List ℕ} (ready : session_fault dim s ≡ fine) where
+  pub text_named : (name : Name) → packed text ≡ Ok name → Leaves (cell_renamed dim s p true name.first name.second) r file journal → Stepped dim s (rename_call p text) r file journal
+  text_named name e = edit_step dim s _ _ _ refl ready (rw e refl)
 
-  pub text_unnamed : (n q : ℕ) → packed text ≡ name.Refused n q → Leaves (cell_renamed dim s p false 0 0) r file journal → Stepped dim s (rename_call p text) r file journal
-  text_unnamed n q e = edit_step dim s _ _ _ refl ready (rw e refl)
+  pub text_unnamed : (refusal : Refusal) → packed text ≡ Err refusal → Leaves (cell_renamed dim s p false 0 0) r file journal → Stepped dim s (rename_call p text) r file journal
+  text_unnamed refusal e = edit_step dim s _ _ _ refl ready (rw e refl)
 
-module _ (dim : ℕ) (file : List ℕ) (used : ℕ) (journal : List ℕ) (jused p : ℕ) (found : Spotted) (o : Open dim file used journal jused p found) (below : Below 256 file) where
+module _ (dim : ℕ) (file : List ℕ) (used : ℕ) (journal : List ℕ) (jused p : ℕ) (found : Result Spotted Refusal) (o : Open dim file used journal jused p found) (below : Below 256 file) where
   abbrev s : Session
   s = session_of file used journal jused
 
@@ -92,7 +95,7 @@ module _ (dim : ℕ) (file : List ℕ) (used : ℕ) (journal : List ℕ) (jused 
     unfolding edit_fault
     mark_own = ap numbered (is ∙ ap (λ f. mark_number ws f p deleted) o.found_is) ∙ mark_is dim (take used file) m (open_used o) p deleted
 
-    pub mark_refused : (n ≡ 0 → ⊥) → Stepped dim s (mark_call p deleted) (Refused n 0) file journal
+    pub mark_refused : (n ≡ 0 → ⊥) → Stepped dim s (mark_call p deleted) (refused_with n 0) file journal
     mark_refused h =
         edit_step dim s _ _ _ refl o.ready refl (edit_refused dim s (mark p deleted) (edit_fault dim ws (mark p deleted)) n 0 (sym mark_own ∙ numbered_fault n h))
 
@@ -107,7 +110,7 @@ module _ (dim : ℕ) (file : List ℕ) (used : ℕ) (journal : List ℕ) (jused 
       there : Located found end
       there = mark_there ws p deleted found (sym none ∙ is) end ends
 
-      located : locate_of ws p m ≡ At end there.depth there.above
+      located : locate_of ws p m ≡ spotted_with end there.depth there.above
       located = sym o.found_is ∙ there.found_is
 
       abbrev old : List ℕ
@@ -122,7 +125,7 @@ module _ (dim : ℕ) (file : List ℕ) (used : ℕ) (journal : List ℕ) (jused 
       mark_long : 2 * length (record_by dim s (mark p deleted)) ≡ 2 * size + 12
       mark_long = ap (λ r. 2 * length (record_words r)) mark_record ∙ flag_long p old ∙ ap (λ k. 2 * k + 12) old_size
 
-      pub mark_full : length journal - jused < 2 * size + 12 → Stepped dim s (mark_call p deleted) (Refused 16 0) file journal
+      pub mark_full : length journal - jused < 2 * size + 12 → Stepped dim s (mark_call p deleted) (refused_with 16 0) file journal
       mark_full h =
           let l = mark_long in
           let j = (jused_within o) in
@@ -144,7 +147,7 @@ module _ (dim : ℕ) (file : List ℕ) (used : ℕ) (journal : List ℕ) (jused 
 
         pub mark_done : (part out journal' : List ℕ) → part ≡ all_put deleted p end (take used file) → out ≡ old_put p end (take used file) (rest journal jused) →
             journal' ≡ six_put (with_rest journal jused out) (jused + 2 * size) 1 4294967295 p size →
-            Stepped dim s (mark_call p deleted) (Made used (jused + 2 * size + 12)) (part ++ drop used file) journal'
+            Stepped dim s (mark_call p deleted) (made_with used (jused + 2 * size + 12)) (part ++ drop used file) journal'
         mark_done part out journal' f g j =
             let l = mark_long in
             let w = (jused_within o) in
@@ -160,7 +163,7 @@ module _ (dim : ℕ) (file : List ℕ) (used : ℕ) (journal : List ℕ) (jused 
     rename_own : numbered n ≡ rename_fault (spots_of dim ws) ws p named
     rename_own = ap numbered (is ∙ ap (λ f. rename_number ws f p named) o.found_is) ∙ rename_is dim (take used file) m (open_used o) p named
 
-    pub rename_refused : (n ≡ 0 → ⊥) → Leaves (cell_renamed dim s p named a b) (Refused n 0) file journal
+    pub rename_refused : (n ≡ 0 → ⊥) → Leaves (cell_renamed dim s p named a b) (refused_with n 0) file journal
     rename_refused h = edit_refused dim s (rename p a b) (rename_fault (spots_of dim ws) ws p named) n 0 (sym rename_own ∙ numbered_fault n h)
 
     module _ (none : n ≡ 0) where
@@ -193,14 +196,14 @@ module _ (dim : ℕ) (file : List ℕ) (used : ℕ) (journal : List ℕ) (jused 
           let k = old_four in
           omega arith
 
-      pub rename_full : length journal - jused < 16 → Leaves (cell_renamed dim s p named a b) (Refused 16 0) file journal
+      pub rename_full : length journal - jused < 16 → Leaves (cell_renamed dim s p named a b) (refused_with 16 0) file journal
       rename_full h =
           let l = rename_record in
           let j = (jused_within o) in
           edit_journal dim s (rename p a b) (rename_fault (spots_of dim ws) ws p named) rename_fine refl rename_fits (omega arith)
 
       pub rename_done : 16 ≤ length journal - jused → a < 65536 → b < 65536 → (part old journal' : List ℕ) → part ≡ name_put p a b (take used file) → old ≡ cell_name ws p →
-          journal' ≡ record_pushed journal jused 2 4294967295 p old → Leaves (cell_renamed dim s p named a b) (Made used (jused + 16)) (part ++ drop used file) journal'
+          journal' ≡ record_pushed journal jused 2 4294967295 p old → Leaves (cell_renamed dim s p named a b) (made_with used (jused + 16)) (part ++ drop used file) journal'
       rename_done h x y part old journal' f q j =
           let l = rename_record in
           let k = old_four in

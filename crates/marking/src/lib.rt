@@ -9,10 +9,10 @@ ghost use Rattle.opening.specs.Opening.{session_of};
 ghost use Rattle.opening.specs.Steps.{Leaves, Stepped, Open};
 ghost use Rattle.marking.specs.Marking.{cell_renamed};
 
-use edits::Edited;
+use edits::UsedLengths;
 use journals::TOP;
-use opening::Opened;
 use places::Spotted;
+use refusals::Refusal;
 
 // Marks the extent at a place deleted, or live, in an open session: its old flags are packed behind the journal while it
 // is marked, and the record's six words go behind them.
@@ -23,20 +23,20 @@ fn mark_opened(
     jused: usize,
     dim: usize,
     place: usize,
-    found: Spotted,
+    found: Result<Spotted, Refusal>,
     deleted: bool,
-) -> Edited
+) -> Result<UsedLengths, Refusal>
     requires { Open dim file.old used journal.old jused place found }
     ensures { Stepped dim (session_of file.old used journal.old jused) (mark_call place deleted) result file.new journal.new }
 {
     let number = faults::mark_fault(&file[..used], found, place, deleted);
     if number != 0 {
-        return opening::refused(number);
+        return Err(opening::refused(number));
     }
     let end = faults::end_of(found);
     let n = flags::flag_size(flags::count(&file[..used], place, end));
     if journal.len() - jused < 2 * n + 12 {
-        return opening::refused(16);
+        return Err(opening::refused(16));
     }
     flags::mark(
         &mut file[..used],
@@ -46,10 +46,10 @@ fn mark_opened(
         &mut journal[jused..],
     );
     journals::put_six(journal, jused + 2 * n, 1, TOP, place, n);
-    Edited::Made {
+    Ok(UsedLengths {
         used,
         jused: jused + 2 * n + 12,
-    }
+    })
 }
 
 // Marks the elements of the extent at a place deleted, or live.
@@ -61,21 +61,20 @@ pub fn mark(
     dim: usize,
     place: usize,
     deleted: bool,
-) -> Edited
+) -> Result<UsedLengths, Refusal>
     ensures { Stepped dim (session_of file.old used journal.old jused) (mark_call place deleted) result file.new journal.new }
 {
-    match opening::open_at(file, used, journal.len(), jused, dim, place) {
-        Opened::Refused {
-            number,
-            place: fault,
-        } => Edited::Refused {
-            number,
-            place: fault,
-        },
-        Opened::Ready { marker: _, found } => {
-            mark_opened(file, used, journal, jused, dim, place, found, deleted)
-        }
-    }
+    let opened = opening::open_at(file, used, journal.len(), jused, dim, place)?;
+    mark_opened(
+        file,
+        used,
+        journal,
+        jused,
+        dim,
+        place,
+        opened.found,
+        deleted,
+    )
 }
 
 // Renames the cell at a place in an open session, by the two words of a text; `named` is false where it is no name.
@@ -86,28 +85,28 @@ fn rename_opened(
     jused: usize,
     dim: usize,
     place: usize,
-    found: Spotted,
+    found: Result<Spotted, Refusal>,
     named: bool,
     first: u16,
     second: u16,
-) -> Edited
+) -> Result<UsedLengths, Refusal>
     requires { Open dim file.old used journal.old jused place found }
     ensures { Leaves (cell_renamed dim (session_of file.old used journal.old jused) place named first second) result file.new journal.new }
 {
     let number = faults::rename_fault(&file[..used], found, place, named);
     if number != 0 {
-        return opening::refused(number);
+        return Err(opening::refused(number));
     }
     if journal.len() - jused < 16 {
-        return opening::refused(16);
+        return Err(opening::refused(16));
     }
     let old = changes::cell_name(&file[..used], place);
     journals::push(journal, jused, 2, TOP, place, &old);
     changes::rename_cell(&mut file[..used], place, first, second);
-    Edited::Made {
+    Ok(UsedLengths {
         used,
         jused: jused + 16,
-    }
+    })
 }
 
 // Renames the cell at a place in an open session, by a text.
@@ -118,14 +117,14 @@ fn rename_by(
     jused: usize,
     dim: usize,
     place: usize,
-    found: Spotted,
+    found: Result<Spotted, Refusal>,
     text: &[u8],
-) -> Edited
+) -> Result<UsedLengths, Refusal>
     requires { Open dim file.old used journal.old jused place found }
     ensures { Stepped dim (session_of file.old used journal.old jused) (rename_call place text.now) result file.new journal.new }
 {
     match names::pack(text) {
-        names::Packed::Words { first, second } => rename_opened(
+        Ok(name) => rename_opened(
             file,
             used,
             journal,
@@ -134,13 +133,10 @@ fn rename_by(
             place,
             found,
             true,
-            first as u16,
-            second as u16,
+            name.first as u16,
+            name.second as u16,
         ),
-        names::Packed::Refused {
-            number: _,
-            place: _,
-        } => rename_opened(file, used, journal, jused, dim, place, found, false, 0, 0),
+        Err(_) => rename_opened(file, used, journal, jused, dim, place, found, false, 0, 0),
     }
 }
 
@@ -153,19 +149,9 @@ pub fn rename(
     dim: usize,
     place: usize,
     text: &[u8],
-) -> Edited
+) -> Result<UsedLengths, Refusal>
     ensures { Stepped dim (session_of file.old used journal.old jused) (rename_call place text.now) result file.new journal.new }
 {
-    match opening::open_at(file, used, journal.len(), jused, dim, place) {
-        Opened::Refused {
-            number,
-            place: fault,
-        } => Edited::Refused {
-            number,
-            place: fault,
-        },
-        Opened::Ready { marker: _, found } => {
-            rename_by(file, used, journal, jused, dim, place, found, text)
-        }
-    }
+    let opened = opening::open_at(file, used, journal.len(), jused, dim, place)?;
+    rename_by(file, used, journal, jused, dim, place, opened.found, text)
 }

@@ -4,6 +4,7 @@ use Prim.Native.Nat.{ℕ, ◌+◌, ◌-◌, ◌*◌, ◌/◌, ◌%◌, ◌≤◌
 use mathlib.Core.Path.{◌≡◌, refl, sym, ap, ◌∙◌, subst}
 use mathlib.Core.Bool.{true, and-eq-true_iff}
 use mathlib.Core.List.{List, []}
+use mathlib.Core.Option.{Option, none, some}
 use native.Mathlib.Omega.{arith}
 use lib.ListN.{length, take, drop, length-take, length-drop}
 use lib.Dec.{eqb, leb}
@@ -12,10 +13,9 @@ use Rattle.words.specs.Words.{words, Below}
 use Rattle.words.proofs.Laws.{words_below}
 use Rattle.limits.specs.Limits.{size_ok}
 use Rattle.places.specs.declared.Above.{Above}
-use Rattle.places.specs.declared.Spotted.{Spotted}
-use Rattle.places.specs.declared.Spotted.TheVariants.{At, Refused as Nowhere}
+use Rattle.files.specs.Spots.{Spot, spots_of, spot_in}
+use Rattle.places.specs.Places.{found_by}
 use Rattle.places.specs.Descent.{locate_of}
-use Rattle.edits.specs.declared.Edited.TheVariants.{Made, Refused}
 use Rattle.edits.specs.Edits.{Edit, insert, remove}
 use Rattle.edits.specs.Allowed.{Fault?, fine, fault, unless, edit_fault}
 use Rattle.edits.specs.Records.{record_of}
@@ -26,26 +26,38 @@ use Rattle.journals.specs.Journals.{record_pushed}
 use Rattle.opening.specs.Opening.{session_of, header_of}
 use Rattle.faults.specs.Faults.{is_at}
 use Rattle.faults.proofs.ExactMarks.{remove_is}
-use Rattle.faults.specs.declared.Insertion.TheVariants as answer
 use Rattle.faults.specs.Inserting.{insert_refusal, answer_of}
 use Rattle.faults.proofs.ExactInserts.{insert_is}
 use Rattle.changes.specs.Changes.{piece_in, extent_out}
 use Rattle.changes.proofs.Made as made
 use Rattle.opening.specs.Steps.{Stepped, last_place, Open, number_of}
 use Rattle.opening.proofs.Steps.{edit_step, edit_refused, edit_room, edit_journal, edit_done}
+use Rattle.opening.proofs.Accepted.{found_is}
 use Rattle.opening.proofs.OpenSession.{used_within, jused_within, open_used, used_below, used_even, jused_even, sound_here}
 use Rattle.opening.proofs.Pushed.{Laid, inserted_laid, removed_laid, record_long, record_pushed_lem}
+use Rattle.std.specs.Prelude.{Err, Ok, Result}
+use Rattle.edits.specs.UsedLengths.{made_with}
+use Rattle.places.specs.Spotted.{spotted_with}
+use Rattle.places.specs.declared.Spotted.{Spotted}
+use Rattle.refusals.specs.Refusals.{refusal_of, refused_with}
+use Rattle.refusals.specs.declared.Refusal.{Refusal}
+use Rattle.refusals.proofs.Laws.{refused_not_given, given_not_refused, refusal_is}
 
 -- what an insert was answered, as a refusal or none
-pub refusal_of : (f : Fault?) (n q : ℕ) → answer_of f ≡ answer.Refused n q → f ≡ fault n q
-refusal_of fine n q e = let z : ◌≡◌ {A = ℕ} 0 1 = cc in absurd (omega arith)
-refusal_of (fault n' q') n q e = let z : fault n' q' ≡ fault n q = cc in z
+pub refused_as : (f : Fault?) (refusal : Refusal) → answer_of f ≡ Err refusal → f ≡ fault refusal.number refusal.place
+refused_as fine refusal e = absurd (refused_not_given e)
+refused_as (fault n q) refusal e = ap (λ (r : Refusal). fault r.number r.place) (refusal_is e)
 
-pub fine_of : (f : Fault?) → answer_of f ≡ answer.Allowed → f ≡ fine
+pub fine_of : (f : Fault?) → answer_of f ≡ Ok tt → f ≡ fine
 fine_of fine e = refl
-fine_of (fault n q) e = let z : ◌≡◌ {A = ℕ} 0 1 = cc in absurd (omega arith)
+fine_of (fault n q) e = absurd (given_not_refused e)
 
-module _ (dim : ℕ) (file : List ℕ) (used : ℕ) (journal : List ℕ) (jused p : ℕ) (found : Spotted) (o : Open dim file used journal jused p found) (below : Below 256 file) where
+-- what is found of no element is 13
+absent : (x : Option Spot) (refusal : Refusal) → found_by x ≡ Err refusal → refusal ≡ refusal_of 13 0
+absent none refusal e = sym (refusal_is e)
+absent (some x) refusal e = absurd (refused_not_given e)
+
+module _ (dim : ℕ) (file : List ℕ) (used : ℕ) (journal : List ℕ) (jused p : ℕ) (found : Result Spotted Refusal) (o : Open dim file used journal jused p found) (below : Below 256 file) where
   abbrev s : Session
   s = session_of file used journal jused
 
@@ -68,7 +80,7 @@ module _ (dim : ℕ) (file : List ℕ) (used : ℕ) (journal : List ℕ) (jused 
     unfolding edit_fault
     insert_own = rw (last, o.found_is) (insert_is dim (take used file) m (open_used o) (used_below o below) h p (words piece))
 
-    pub insert_refused : (n q : ℕ) → insert_refusal dim (take used file) marker found h p (words piece) ≡ fault n q → Stepped dim s call (Refused n q) file journal
+    pub insert_refused : (n q : ℕ) → insert_refusal dim (take used file) marker found h p (words piece) ≡ fault n q → Stepped dim s call (refused_with n q) file journal
     insert_refused n q e = edit_step dim s _ _ _ lent o.ready refl (edit_refused dim s put (edit_fault dim ws put) n q (sym insert_own ∙ e))
 
     module _ (none : insert_refusal dim (take used file) marker found h p (words piece) ≡ fine) where
@@ -88,7 +100,7 @@ module _ (dim : ℕ) (file : List ℕ) (used : ℕ) (journal : List ℕ) (jused 
       insert_record : 2 * length (record_by dim s put) ≡ 12
       insert_record = record_long (record_of dim ws put) 3 (number_of h) p [] refl insert_laid
 
-      pub insert_room : length file - used < length piece → Stepped dim s call (Refused 15 0) file journal
+      pub insert_room : length file - used < length piece → Stepped dim s call (refused_with 15 0) file journal
       insert_room l =
           let n = insert_long in
           let w = (used_within o) in
@@ -98,14 +110,14 @@ module _ (dim : ℕ) (file : List ℕ) (used : ℕ) (journal : List ℕ) (jused 
         insert_fits : 2 * length (words_by dim s put) ≤ length file
         insert_fits = let n = insert_long in let w = (used_within o) in omega arith
 
-        pub insert_full : length journal - jused < 12 → Stepped dim s call (Refused 16 0) file journal
+        pub insert_full : length journal - jused < 12 → Stepped dim s call (refused_with 16 0) file journal
         insert_full l =
             let n = insert_record in
             let w = (jused_within o) in
             edit_step dim s _ _ _ lent o.ready refl (edit_journal dim s put (edit_fault dim ws put) insert_fine refl insert_fits (omega arith))
 
         pub insert_done : 12 ≤ length journal - jused → (header : ℕ) (file' journal' : List ℕ) → file' ≡ piece_in file used h p piece →
-            header ≡ number_of h → journal' ≡ record_pushed journal jused 3 header p [] → Stepped dim s call (Made (used + length piece) (jused + 12)) file' journal'
+            header ≡ number_of h → journal' ≡ record_pushed journal jused 3 header p [] → Stepped dim s call (made_with (used + length piece) (jused + 12)) file' journal'
         unfolding edit_fault
         insert_done l header file' journal' f q j =
             let n = insert_record in
@@ -122,12 +134,14 @@ module _ (dim : ℕ) (file : List ℕ) (used : ℕ) (journal : List ℕ) (jused 
   unfolding edit_fault
   remove_own = ap (λ f. unless (is_at f) 13) o.found_is ∙ remove_is dim (take used file) m (open_used o) p
 
-  pub remove_absent : (n q : ℕ) → found ≡ Nowhere n q → Stepped dim s (remove_call p) (Refused 13 0) file journal
-  remove_absent n q e =
-      edit_step dim s _ _ _ refl o.ready refl (edit_refused dim s (remove p) (edit_fault dim ws (remove p)) 13 0 (sym remove_own ∙ rw e refl))
+  -- no element starts there
+  pub remove_absent : (refusal : Refusal) → found ≡ Err refusal → Stepped dim s (remove_call p) (Err refusal) file journal
+  remove_absent refusal e =
+      rw (absent (spot_in (spots_of dim ws) p) refusal (sym (found_is dim (take used file) m (open_used o) p) ∙ sym o.found_is ∙ e))
+      (edit_step dim s _ _ _ refl o.ready refl (edit_refused dim s (remove p) (edit_fault dim ws (remove p)) 13 0 (sym remove_own ∙ rw e refl)))
 
-  module _ (end depth : ℕ) (above : Above) (is : found ≡ At end depth above) where
-    located : locate_of ws p m ≡ At end depth above
+  module _ (end depth : ℕ) (above : Above) (is : found ≡ spotted_with end depth above) where
+    located : locate_of ws p m ≡ spotted_with end depth above
     located = sym o.found_is ∙ is
 
     remove_fine : edit_fault dim ws (remove p) ≡ fine
@@ -173,7 +187,7 @@ module _ (dim : ℕ) (file : List ℕ) (used : ℕ) (journal : List ℕ) (jused 
         let l = payload_long in
         record_long (record_of dim ws (remove p)) 4 (number_of above) p payload payload_even remove_laid ∙ (omega arith)
 
-    pub remove_full : length journal - jused < 2 * (end - p) + 12 → Stepped dim s (remove_call p) (Refused 16 0) file journal
+    pub remove_full : length journal - jused < 2 * (end - p) + 12 → Stepped dim s (remove_call p) (refused_with 16 0) file journal
     remove_full l =
         let n = remove_record in
         let w = (jused_within o) in
@@ -181,7 +195,7 @@ module _ (dim : ℕ) (file : List ℕ) (used : ℕ) (journal : List ℕ) (jused 
 
     pub remove_done : 2 * (end - p) + 12 ≤ length journal - jused → (header : ℕ) (file' journal' : List ℕ) → file' ≡ extent_out file used above p (end - p) →
         header ≡ number_of above → journal' ≡ record_pushed journal jused 4 header p payload →
-        Stepped dim s (remove_call p) (Made (used - 2 * (end - p)) (jused + 2 * (end - p) + 12)) file' journal'
+        Stepped dim s (remove_call p) (made_with (used - 2 * (end - p)) (jused + 2 * (end - p) + 12)) file' journal'
     remove_done l header file' journal' f q j =
         let n = remove_record in
         let k = payload_long in

@@ -11,9 +11,9 @@ ghost use Rattle.opening.specs.Opening.{session_of, header_of};
 ghost use Rattle.opening.specs.Steps.{Stepped, last_place, Open};
 ghost use Rattle.moving.specs.Moving.{Stands};
 
-use edits::Edited;
-use opening::Opened;
+use edits::UsedLengths;
 use places::{Above, Spotted};
+use refusals::Refusal;
 
 // Inserts a piece in an open session.
 fn insert_opened(
@@ -25,38 +25,34 @@ fn insert_opened(
     marker: usize,
     header: Above,
     place: usize,
-    found: Spotted,
+    found: Result<Spotted, Refusal>,
     piece: &[u8],
-) -> Edited
+) -> Result<UsedLengths, Refusal>
     requires fact { Open dim file.old used journal.old jused place found }
     requires marker_value { marker ≡ last_place file.old used }
     requires piece_value { size_ok (length piece.now) ≡ true }
     ensures { Stepped dim (session_of file.old used journal.old jused) (insert_call (header_of header) place piece.now) result file.new journal.new }
 {
-    match faults::insert_fault(&file[..used], dim, marker, found, header, place, piece) {
-        faults::Insertion::Refused { number, place: at } => Edited::Refused { number, place: at },
-        faults::Insertion::Allowed => {
-            if file.len() - used < piece.len() {
-                return opening::refused(15);
-            }
-            if journal.len() - jused < 12 {
-                return opening::refused(16);
-            }
-            journals::push(
-                journal,
-                jused,
-                3,
-                opening::header_number(header),
-                place,
-                &file[..0],
-            );
-            changes::insert_piece(file, used, header, place, piece);
-            Edited::Made {
-                used: used + piece.len(),
-                jused: jused + 12,
-            }
-        }
+    faults::insert_fault(&file[..used], dim, marker, found, header, place, piece)?;
+    if file.len() - used < piece.len() {
+        return Err(opening::refused(15));
     }
+    if journal.len() - jused < 12 {
+        return Err(opening::refused(16));
+    }
+    journals::push(
+        journal,
+        jused,
+        3,
+        opening::header_number(header),
+        place,
+        &[],
+    );
+    changes::insert_piece(file, used, header, place, piece);
+    Ok(UsedLengths {
+        used: used + piece.len(),
+        jused: jused + 12,
+    })
 }
 
 // Inserts a piece, one whole extent, under a header or at the top, at a place where a direct component starts or the list
@@ -70,26 +66,25 @@ pub fn insert(
     header: Above,
     place: usize,
     piece: &[u8],
-) -> Edited
+) -> Result<UsedLengths, Refusal>
     ensures { Stepped dim (session_of file.old used journal.old jused) (insert_call (header_of header) place piece.now) result file.new journal.new }
 {
     if !limits::size_ok(piece.len()) {
-        return opening::refused(1);
+        return Err(opening::refused(1));
     }
-    match opening::open_at(file, used, journal.len(), jused, dim, place) {
-        Opened::Refused {
-            number,
-            place: fault,
-        } => Edited::Refused {
-            number,
-            place: fault,
-        },
-        Opened::Ready { marker, found } => {
-            insert_opened(
-                file, used, journal, jused, dim, marker, header, place, found, piece,
-            )
-        }
-    }
+    let opened = opening::open_at(file, used, journal.len(), jused, dim, place)?;
+    insert_opened(
+        file,
+        used,
+        journal,
+        jused,
+        dim,
+        opened.marker,
+        header,
+        place,
+        opened.found,
+        piece,
+    )
 }
 
 // Removes the element at a place, whose extent ends at `end` and which stands under `above`, in an open session.
@@ -102,13 +97,13 @@ fn remove_found(
     place: usize,
     end: usize,
     above: Above,
-) -> Edited
+) -> Result<UsedLengths, Refusal>
     requires { Stands dim file.old used journal.old jused place end above }
     ensures { Stepped dim (session_of file.old used journal.old jused) (remove_call place) result file.new journal.new }
 {
     let n = 2 * (end - place);
     if journal.len() - jused < n + 12 {
-        return opening::refused(16);
+        return Err(opening::refused(16));
     }
     journals::push(
         journal,
@@ -119,10 +114,10 @@ fn remove_found(
         &file[2 * place..2 * end],
     );
     changes::remove_extent(file, used, above, place, end - place);
-    Edited::Made {
+    Ok(UsedLengths {
         used: used - n,
         jused: jused + n + 12,
-    }
+    })
 }
 
 // Removes the element at a place in an open session.
@@ -133,22 +128,13 @@ fn remove_opened(
     jused: usize,
     dim: usize,
     place: usize,
-    found: Spotted,
-) -> Edited
+    found: Result<Spotted, Refusal>,
+) -> Result<UsedLengths, Refusal>
     requires { Open dim file.old used journal.old jused place found }
     ensures { Stepped dim (session_of file.old used journal.old jused) (remove_call place) result file.new journal.new }
 {
-    match found {
-        Spotted::Refused {
-            number: _,
-            place: _,
-        } => opening::refused(13),
-        Spotted::At {
-            end,
-            depth: _,
-            above,
-        } => remove_found(file, used, journal, jused, dim, place, end, above),
-    }
+    let spot = found?;
+    remove_found(file, used, journal, jused, dim, place, spot.end, spot.above)
 }
 
 // Removes the element at a place with its extent.
@@ -159,19 +145,9 @@ pub fn remove(
     jused: usize,
     dim: usize,
     place: usize,
-) -> Edited
+) -> Result<UsedLengths, Refusal>
     ensures { Stepped dim (session_of file.old used journal.old jused) (remove_call place) result file.new journal.new }
 {
-    match opening::open_at(file, used, journal.len(), jused, dim, place) {
-        Opened::Refused {
-            number,
-            place: fault,
-        } => Edited::Refused {
-            number,
-            place: fault,
-        },
-        Opened::Ready { marker: _, found } => {
-            remove_opened(file, used, journal, jused, dim, place, found)
-        }
-    }
+    let opened = opening::open_at(file, used, journal.len(), jused, dim, place)?;
+    remove_opened(file, used, journal, jused, dim, place, opened.found)
 }

@@ -15,11 +15,14 @@ use lib.ListN.{length, get_or, take, length-map}
 use lib.Seq.{take-append_seam}
 use lib.Dec.{leb}
 use borrow.Author.Tests.{leb-true, le-leb, not-true}
-use Rattle.names.specs.declared.Packed.TheVariants.{Words, Refused}
-use Rattle.names.specs.declared.Answer.TheVariants.{Text, Refused as RefusedWords}
-use Rattle.names.specs.Names.{code_of, letter_of, all_letters, ends_in_space, good_text, code_at, word_from, packed, name_ok, kept, text_in, text_of, text_answer, no_text, unpacked}
+use Rattle.names.specs.Names.{code_of, letter_of, all_letters, ends_in_space, good_text, code_at, word_from, packed, name_ok, kept, text_in, text_of, text_answer, unpacked}
 use Rattle.names.proofs.Texts.{IsCode, AreCodes, codes_at, kept_six, kept_codes, letters_codes, length_kept, are_kept, all_letters_lem, ends_kept, code_text}
 use Rattle.names.proofs.Stored.{letters_word, word_ok_lem, word_small, word_codes, both_ok}
+use Rattle.names.specs.Name.{packed_to}
+use Rattle.refusals.specs.Refusals.{refused_with}
+use Rattle.refusals.proofs.Laws.{given_is}
+use Rattle.std.specs.Prelude.{Ok}
+use Rattle.names.specs.declared.Name.{Name}
 
 -- a good text, by its parts
 record Good (t : List ℕ) : Type 0 where
@@ -54,15 +57,17 @@ record PacksTo (t : List ℕ) (a b : ℕ) : Type 0 where
   first : word_from t 0 ≡ a
   second : word_from t 3 ≡ b
 
-packs_to : (t : List ℕ) (a b : ℕ) → packed t ≡ Words a b → PacksTo t a b
+packs_to : (t : List ℕ) (a b : ℕ) → packed t ≡ packed_to a b → PacksTo t a b
 unfolding packed
 packs_to t a b = go (good_text t) refl
   where
-    go : (k : Bool) → good_text t ≡ k → cond k (Words (word_from t 0) (word_from t 3)) (Refused 12 0) ≡ Words a b → PacksTo t a b
-    go true g e = record { text = good t g; first = cc; second = cc }
-    go false g e = let z : ◌≡◌ {A = ℕ} 0 1 = cc in absurd (omega arith)
+    go : (k : Bool) → good_text t ≡ k → cond k (packed_to (word_from t 0) (word_from t 3)) (refused_with 12 0) ≡ packed_to a b → PacksTo t a b
+    go true g e =
+        let words = given_is e in
+        record { text = good t g; first = ap (λ (n : Name). n.first) words; second = ap (λ (n : Name). n.second) words }
+    go false g e = absurd (cc)
 
-text_back : (t : List ℕ) (a b : ℕ) → packed t ≡ Words a b → text_of a b ≡ t
+text_back : (t : List ℕ) (a b : ℕ) → packed t ≡ packed_to a b → text_of a b ≡ t
 text_back t a b e =
     let p = packs_to t a b e in
     sym (ap₂ text_of p.first p.second) ∙ words_text t p.text
@@ -73,18 +78,18 @@ pub record Stored (a b : ℕ) : Type 0 where
   pub first : a < 65536
   pub second : b < 65536
 
-pub pack_stored : (t : List ℕ) (a b : ℕ) → packed t ≡ Words a b → Stored a b
+pub pack_stored : (t : List ℕ) (a b : ℕ) → packed t ≡ packed_to a b → Stored a b
 pack_stored t a b e =
     let p = packs_to t a b e in
     let ok : name_ok a b ≡ true = sym (ap₂ name_ok p.first p.second) ∙ words_ok t p.text in
     let q = both_ok a b ok in
     record { ok = ok; first = omega (arith, word_small a q.0); second = omega (arith, word_small b q.1) }
 
-pub unpack_pack : (t : List ℕ) (a b : ℕ) → packed t ≡ Words a b → unpacked a b ≡ text_answer t
+pub unpack_pack : (t : List ℕ) (a b : ℕ) → packed t ≡ packed_to a b → unpacked a b ≡ Ok (text_answer t)
 unfolding unpacked
 unpack_pack t a b e = simp ((pack_stored t a b e).ok, text_back t a b e)
 
-pub no_two_share : (t u : List ℕ) (a b : ℕ) → packed t ≡ Words a b → packed u ≡ Words a b → t ≡ u
+pub no_two_share : (t u : List ℕ) (a b : ℕ) → packed t ≡ packed_to a b → packed u ≡ packed_to a b → t ≡ u
 no_two_share t u a b p q = sym (text_back t a b p) ∙ text_back u a b q
 
 -- the codes of two words
@@ -113,7 +118,7 @@ module _ (a b : ℕ) (ok : name_ok a b ≡ true) where
   unfolding word_from
   second_back = omega (arith, code_back 3, code_back 4, code_back 5)
 
-  pub pack_unpack : packed (text_of a b) ≡ Words a b
+  pub pack_unpack : packed (text_of a b) ≡ packed_to a b
   unfolding packed text_in
   pack_unpack = simp (text_good, first_back, second_back)
 
@@ -121,26 +126,21 @@ module _ (a b : ℕ) (ok : name_ok a b ≡ true) where
 answer_text : (t u : List ℕ) → text_answer t ≡ text_answer u → t ≡ u
 unfolding text_answer
 answer_text t u e =
-    let answers : Text (length t) ≡ Text (length u) = ap (λ r. r.answer) e in
-    let lengths : length t ≡ length u = cc in
-    sym (take-append_seam t _) ∙ ap₂ take lengths (ap (λ r. r.letters) e) ∙ take-append_seam u _
+    sym (take-append_seam t _) ∙ ap₂ take (ap (λ r. r.length) e) (ap (λ r. r.letters) e) ∙ take-append_seam u _
 
 -- only a stored name unpacks to a text
-unpacks_ok : (t : List ℕ) (a b : ℕ) → unpacked a b ≡ text_answer t → name_ok a b ≡ true
-unfolding unpacked text_answer
+unpacks_ok : (t : List ℕ) (a b : ℕ) → unpacked a b ≡ Ok (text_answer t) → name_ok a b ≡ true
+unfolding unpacked
 unpacks_ok t a b = go (name_ok a b)
   where
-    go : (k : Bool) → cond k (text_answer (text_of a b)) no_text ≡ text_answer t → k ≡ true
+    go : (k : Bool) → cond k (Ok (text_answer (text_of a b))) (refused_with 12 0) ≡ Ok (text_answer t) → k ≡ true
     go true e = refl
-    go false e =
-        let answers : RefusedWords 12 0 ≡ Text (length t) = ap (λ r. r.answer) e in
-        let z : ◌≡◌ {A = ℕ} 0 1 = cc in
-        absurd (omega arith)
+    go false e = absurd (cc)
 
-pub one_to_one : (t : List ℕ) (a b : ℕ) → packed t ≡ Words a b ↔ unpacked a b ≡ text_answer t
+pub one_to_one : (t : List ℕ) (a b : ℕ) → packed t ≡ packed_to a b ↔ unpacked a b ≡ Ok (text_answer t)
 one_to_one t a b = (unpack_pack t a b, back)
   where
-    back : unpacked a b ≡ text_answer t → packed t ≡ Words a b
+    back : unpacked a b ≡ Ok (text_answer t) → packed t ≡ packed_to a b
     back e =
         let p = pack_unpack a b (unpacks_ok t a b e) in
-        ap packed (answer_text _ _ (sym e ∙ unpack_pack _ a b p)) ∙ p
+        ap packed (answer_text _ _ (given_is (sym e ∙ unpack_pack _ a b p))) ∙ p

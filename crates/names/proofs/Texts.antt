@@ -1,17 +1,14 @@
 -- Lists of letters and of codes: a text, its codes with spaces up to six, and back without the spaces at their end.
 use Prim.Native.Nat.{ℕ, zero, suc, ◌+◌, ◌-◌, ◌<◌, ◌≤◌}
 use mathlib.Core.Path.{◌≡◌, refl, sym, ap, ◌∙◌}
-use mathlib.Core.Bool.{Bool, true, false, cond, not, ◌&&◌, and-eq-true_iff}
+use mathlib.Core.Bool.{Bool, true, false, cond, not, and-eq-true_iff}
 use mathlib.Core.List.{List, [], ◌∷◌, ◌++◌, map}
 use native.Mathlib.Omega.{arith}
 use native.Mathlib.Nat.{not-suc-le-zero, le_of_suc-le-suc}
-use native.Mathlib.Numerals.{add-one}
-use lib.ListN.{length, get_or, drop, replicate, length-map, get_or-eq_default}
-use lib.Seq.{drop-cons}
+use lib.ListN.{length, get_or, replicate, length-map, get_or-eq_default}
 use lib.Dec.{ltb, eqb}
 use borrow.Author.Tests.{ltb-true, ltb-false, eqb-true, eqb-false, ne_eqb, not-true}
 use Rattle.names.specs.declared.Codes.{Codes}
-use Rattle.names.specs.declared.Answer.TheVariants.{Text}
 use Rattle.names.specs.Names.{code_of, letter_of, all_letters, ends_in_space, code_at, before, kept, text_in, text_answer}
 use Rattle.names.proofs.Alphabet.{code_small, letter_code, code_letter, code_space, letter_space}
 
@@ -175,9 +172,9 @@ text_shown l i n e = go (ltb i n) refl
 pub text_answer_lem : (l m : Codes) (n p q r s t u : ℕ) → n ≡ length (text_in l m) →
     p ≡ cond (ltb 0 n) (letter_of l.a) 0 → q ≡ cond (ltb 1 n) (letter_of l.b) 0 → r ≡ cond (ltb 2 n) (letter_of l.c) 0 →
     s ≡ cond (ltb 3 n) (letter_of m.a) 0 → t ≡ cond (ltb 4 n) (letter_of m.b) 0 → u ≡ cond (ltb 5 n) (letter_of m.c) 0 →
-    record { answer = Text n; letters = p ∷ q ∷ r ∷ s ∷ t ∷ u ∷ [] } ≡ text_answer (text_in l m)
+    record { length = n; letters = p ∷ q ∷ r ∷ s ∷ t ∷ u ∷ [] } ≡ text_answer (text_in l m)
 unfolding text_in text_answer
-text_answer_lem l m n p q r s t u e ep eq er es et eu = λ i. record { answer = Text (e i); letters = is i }
+text_answer_lem l m n p q r s t u e ep eq er es et eu = λ i. record { length = e i; letters = is i }
   where
     codes : List ℕ
     codes = l.a ∷ l.b ∷ l.c ∷ m.a ∷ m.b ∷ m.c ∷ []
@@ -187,7 +184,3 @@ text_answer_lem l m n p q r s t u e ep eq er es et eu = λ i. record { answer = 
 
     is : p ∷ q ∷ r ∷ s ∷ t ∷ u ∷ [] ≡ map letter_of (kept codes) ++ replicate (6 - length (map letter_of (kept codes))) 0
     is = cc (at 0, at 1, at 2, at 3, at 4, at 5, six (map letter_of (kept codes)) (simp length-map (length_kept codes)))
-
--- a text's letters from place i on
-pub letters_from : (t : List ℕ) (i : ℕ) → i < length t → all_letters (drop i t) ≡ not (eqb (code_of (get_or t i 0)) 29) && all_letters (drop (i + 1) t)
-letters_from t i h = rw (drop-cons t i 0 h, add-one)

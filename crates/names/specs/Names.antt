@@ -1,12 +1,12 @@
 -- Radix-50 names (RULES.md, "Names"). A text is a list of bytes; a stored name is two words.
 -- That texts and accepted word pairs match one to one is proved in proofs/OneToOne.
-use Rattle.std.specs.Prelude.{ℕ, ◌+◌, ◌*◌, ◌-◌, ◌/◌, ◌%◌, List, [], ◌∷◌, ◌++◌, map, Bool, true, cond, not, ◌&&◌, length, get_or, replicate, leb, eqb}
+use Rattle.std.specs.Prelude.{ℕ, ◌+◌, ◌*◌, ◌-◌, ◌/◌, ◌%◌, List, [], ◌∷◌, ◌++◌, map, Bool, true, cond, not, ◌&&◌, length, get_or, replicate, leb, eqb, Err, Ok, Result}
 use Rattle.names.specs.declared.Codes.{Codes}
-use Rattle.names.specs.declared.Packed.{Packed}
-use Rattle.names.specs.declared.Packed.TheVariants.{Words, Refused}
-use Rattle.names.specs.declared.Answer.{Answer}
-use Rattle.names.specs.declared.Answer.TheVariants.{Text, Refused as RefusedWords}
 use Rattle.names.specs.declared.Unpacked.{Unpacked}
+use Rattle.names.specs.Name.{packed_to}
+use Rattle.names.specs.declared.Name.{Name}
+use Rattle.refusals.specs.Refusals.{refused_with}
+use Rattle.refusals.specs.declared.Refusal.{Refusal}
 
 -- whether n is at least low and at most high
 abbrev pub between : ℕ → ℕ → ℕ → Bool
@@ -72,8 +72,8 @@ unfoldable pub word_from : List ℕ → ℕ → ℕ
 word_from t i = word_of (code_at t i) (code_at t (i + 1)) (code_at t (i + 2))
 
 -- what a text packs to: two words, or 12 at place 0
-unfoldable pub packed : List ℕ → Packed
-packed t = cond (good_text t) (Words (word_from t 0) (word_from t 3)) (Refused 12 0)
+unfoldable pub packed : List ℕ → Result Name Refusal
+packed t = cond (good_text t) (packed_to (word_from t 0) (word_from t 3)) (refused_with 12 0)
 
 -- a code put before others; a space with none after it is at the end, and is dropped
 abbrev pub before : ℕ → List ℕ → List ℕ
@@ -95,22 +95,18 @@ text_of first second = text_in (letters_of first) (letters_of second)
 
 -- a text as an answer: its length, and its letters with zeros up to six bytes
 unfoldable pub text_answer : List ℕ → Unpacked
-text_answer t = record { answer = Text (length t); letters = t ++ replicate (6 - length t) 0 }
-
--- no text: 12 at place 0, and six zeros
-abbrev pub no_text : Unpacked
-no_text = record { answer = RefusedWords 12 0; letters = replicate 6 0 }
+text_answer t = record { length = length t; letters = t ++ replicate (6 - length t) 0 }
 
 -- what two words unpack to: their text, or 12 at place 0
-unfoldable pub unpacked : ℕ → ℕ → Unpacked
-unpacked first second = cond (name_ok first second) (text_answer (text_of first second)) no_text
+unfoldable pub unpacked : ℕ → ℕ → Result Unpacked Refusal
+unpacked first second = cond (name_ok first second) (Ok (text_answer (text_of first second))) (refused_with 12 0)
 
 -- the numbers of each answer of packing: 0 and the two words, or the refusal's number and place
-abbrev pub packed_numbers : Packed → List ℕ
-packed_numbers (Words first second) = 0 ∷ first ∷ second ∷ []
-packed_numbers (Refused number place) = number ∷ place ∷ []
+abbrev pub packed_numbers : Result Name Refusal → List ℕ
+packed_numbers (Ok name) = 0 ∷ name.first ∷ name.second ∷ []
+packed_numbers (Err refusal) = refusal.number ∷ refusal.place ∷ []
 
 -- the numbers of each answer of unpacking: 0 and the text's length, or the refusal's number and place
-abbrev pub answer_numbers : Answer → List ℕ
-answer_numbers (Text n) = 0 ∷ n ∷ []
-answer_numbers (RefusedWords number place) = number ∷ place ∷ []
+abbrev pub unpacked_numbers : Result Unpacked Refusal → List ℕ
+unpacked_numbers (Ok text) = 0 ∷ text.length ∷ []
+unpacked_numbers (Err refusal) = refusal.number ∷ refusal.place ∷ []

@@ -8,24 +8,19 @@ ghost use Rattle.std.specs.Prelude.{◌≡◌, ◌/◌, ◌<◌, ◌≤◌, true
 ghost use Rattle.names.specs.Names.{code_of, letter_of, letters_of, all_letters, ends_in_space, good_text, code_at, word_from, packed, word_ok, name_ok, text_in, text_of, text_answer, unpacked};
 ghost use Rattle.names.specs.Pairs.{is_table};
 
-// What packing a text answers.
+use refusals::Refusal;
+
+// The two words of a packed text.
 #[derive(Clone, Copy)]
-pub enum Packed {
-    Words { first: usize, second: usize },
-    Refused { number: usize, place: usize },
+pub struct Name {
+    pub first: usize,
+    pub second: usize,
 }
 
-// What unpacking two words answers, beside the letters.
-#[derive(Clone, Copy)]
-pub enum Answer {
-    Text { length: usize },
-    Refused { number: usize, place: usize },
-}
-
-// An answer and the letters of its text. The bytes after the text's length are zero, all six where refused.
+// A text of at most six letters. The bytes after its length are zero.
 #[derive(Clone, Copy)]
 pub struct Unpacked {
-    pub answer: Answer,
+    pub length: usize,
     pub letters: [u8; 6],
 }
 
@@ -122,14 +117,7 @@ fn letters_by(table: &[u16; 1600], word: usize) -> Codes
 fn all_letters(text: &[u8]) -> bool
     ensures { result ≡ all_letters text.now }
 {
-    let mut i = 0;
-    while i < text.len() {
-        if code_of(text[i]) == 29 {
-            return false;
-        }
-        i += 1;
-    }
-    true
+    text.iter().all(|&letter| code_of(letter) != 29)
 }
 
 // Whether the last letter of a text is a space.
@@ -175,18 +163,18 @@ fn word_from(text: &[u8], i: usize) -> usize
 }
 
 // The two words of a text; 12 for more than six letters, a byte that is no letter, a trailing space.
-pub fn pack(text: &[u8]) -> Packed
+pub fn pack(text: &[u8]) -> Result<Name, Refusal>
     ensures { result ≡ packed text.now }
 {
     if good_text(text) {
         let first = word_from(text, 0);
         let second = word_from(text, 3);
-        Packed::Words { first, second }
+        Ok(Name { first, second })
     } else {
-        Packed::Refused {
+        Err(Refusal {
             number: 12,
             place: 0,
-        }
+        })
     }
 }
 
@@ -257,17 +245,16 @@ fn shown(n: usize, i: usize, code: usize) -> u8
 fn text_of(l: Codes, m: Codes) -> Unpacked
     ensures { result ≡ text_answer (text_in l m) }
 {
-    let n = text_length(l, m);
-    let answer = Answer::Text { length: n };
+    let length = text_length(l, m);
     let letters = [
-        shown(n, 0, l.a),
-        shown(n, 1, l.b),
-        shown(n, 2, l.c),
-        shown(n, 3, m.a),
-        shown(n, 4, m.b),
-        shown(n, 5, m.c),
+        shown(length, 0, l.a),
+        shown(length, 1, l.b),
+        shown(length, 2, l.c),
+        shown(length, 3, m.a),
+        shown(length, 4, m.b),
+        shown(length, 5, m.c),
     ];
-    Unpacked { answer, letters }
+    Unpacked { length, letters }
 }
 
 // The text of a stored name. No other function reads the table: each call copies it.
@@ -283,19 +270,15 @@ fn name_text(first: usize, second: usize) -> Unpacked
 }
 
 // The text of two words; 12 where they are no stored name.
-pub fn unpack(first: usize, second: usize) -> Unpacked
+pub fn unpack(first: usize, second: usize) -> Result<Unpacked, Refusal>
     ensures { result ≡ unpacked first second }
 {
     if name_ok(first, second) {
-        name_text(first, second)
+        Ok(name_text(first, second))
     } else {
-        let answer = Answer::Refused {
+        Err(Refusal {
             number: 12,
             place: 0,
-        };
-        Unpacked {
-            answer,
-            letters: [0; 6],
-        }
+        })
     }
 }

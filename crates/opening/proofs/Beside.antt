@@ -10,13 +10,13 @@ use lib.Dec.{leb}
 use Rattle.edits.specs.Edits.{Edit, apply}
 use Rattle.edits.specs.Allowed.{Fault?, fine, fault, or_else, unless}
 use Rattle.edits.specs.Records.{record_of, record_words}
-use Rattle.edits.specs.Calls.{Index, Session, index_ok, index_fits, afresh, used_words, session_ok, session_fault, Result, refused, result_by, edit_made, edit_within, edited}
+use Rattle.edits.specs.Calls.{Index, Session, index_ok, index_fits, afresh, used_words, session_ok, session_fault, Outcome, refused, result_by, edit_made, edit_within, edited}
 use Rattle.edits.specs.Book.{was_refused}
 use Rattle.edits.proofs.Tested.{ready_tested}
 use Rattle.opening.specs.Opening.{session_with, session_of}
 
 -- q answers and leaves what p does, and of the index what was lent where it is refused, else `new`
-pub record Beside (q p : Result) (i : Index) (new : Option Index) : Type 0 where
+pub record Beside (q p : Outcome) (i : Index) (new : Option Index) : Type 0 where
   pub answer : q.answer ≡ p.answer
   pub file_is : q.after.file ≡ p.after.file
   pub used_is : q.after.used ≡ p.after.used
@@ -25,11 +25,11 @@ pub record Beside (q p : Result) (i : Index) (new : Option Index) : Type 0 where
   pub index_is : q.after.index ≡ cond (was_refused p.answer) (some i) new
 
 -- a refusal of its own, or 15
-abbrev pub refused_by : Fault? → Session → Result
+abbrev pub refused_by : Fault? → Session → Outcome
 refused_by fine s = refused s 15 0
 refused_by (fault n p) s = refused s n p
 
-crowded : (f : Fault?) (s : Session) (q : Result) → result_by (or_else f (fault 15 0)) s q ≡ refused_by f s
+crowded : (f : Fault?) (s : Session) (q : Outcome) → result_by (or_else f (fault 15 0)) s q ≡ refused_by f s
 crowded fine s q = refl
 crowded (fault n p) s q = refl
 
@@ -40,7 +40,7 @@ unfolding session_fault session_ok
 opens_with file used journal jused x dim ok = rw ok refl
 
 module _ (file : List ℕ) (used : ℕ) (journal : List ℕ) (jused : ℕ) (i : Index) where
-  beside_by : (f : Fault?) (q p : Result) (new : Option Index) → Beside q p i new →
+  beside_by : (f : Fault?) (q p : Outcome) (new : Option Index) → Beside q p i new →
       Beside (result_by f (session_with file used journal jused (some i)) q) (result_by f (session_with file used journal jused none) p) i new
   beside_by fine q p new b = b
   beside_by (fault n m) q p new b = record { answer = refl; file_is = refl; used_is = refl; journal_is = refl; jused_is = refl; index_is = refl }

@@ -10,7 +10,6 @@ use Rattle.words.specs.Words.{Below}
 use Rattle.words.proofs.Laws.{length_words}
 use Rattle.limits.specs.Limits.{dim_ok, used_ok}
 use Rattle.files.specs.Judge.{top_of}
-use Rattle.places.specs.declared.Spotted.{Spotted}
 use Rattle.places.specs.Descent.{locate_of}
 use Rattle.edits.specs.Allowed.{Fault?, fine, fault, unless, edit_fault}
 use Rattle.edits.specs.Calls.{used_words, ends_in_marker, session_ok, file_fault, session_fault}
@@ -19,37 +18,39 @@ use Rattle.edits.proofs.Faults.{or_else_fine, unless_fine}
 use Rattle.edits.proofs.Accepted.{Carried, Sound}
 use Rattle.edits.proofs.Bounds.{below_take}
 use Rattle.edits.proofs.Sound.{sound}
-use Rattle.opening.specs.declared.Opened.{Opened}
-use Rattle.opening.specs.declared.Opened.TheVariants.{Ready, Refused}
 use Rattle.opening.specs.Opening.{opened_by, session_of, OpenedAs}
 use Rattle.opening.proofs.Opening.{AcceptedUsed, Lengths, lengths_true, open_accepted}
 use Rattle.opening.proofs.Accepted.{standing}
 use Rattle.opening.specs.Steps.{last_place, Open}
+use Rattle.std.specs.Prelude.{Err, Ok, Result}
+use Rattle.places.specs.declared.Placed.{Placed}
+use Rattle.places.specs.declared.Spotted.{Spotted}
+use Rattle.refusals.proofs.Laws.{refused_not_given, given_not_refused, given_is, refusal_is}
+use Rattle.refusals.specs.declared.Refusal.{Refusal}
 
 module _ (dim : ℕ) (file : List ℕ) (used : ℕ) (journal : List ℕ) (jused : ℕ) where
   abbrev fault_of : Fault?
   fault_of = session_fault dim (session_of file used journal jused)
 
   -- what opening answered
-  module _ (p : ℕ) (r : Opened) (is : OpenedAs dim file used (length journal) jused p r) where
-    pub opened_ready : (m : ℕ) (found : Spotted) → r ≡ Ready m found → Open dim file used journal jused p found × (m ≡ last_place file used)
-    opened_ready m found h = go fault_of refl (sym h ∙ is journal refl)
+  module _ (p : ℕ) (r : Result Placed Refusal) (is : OpenedAs dim file used (length journal) jused p r) where
+    pub opened_ready : (opened : Placed) → r ≡ Ok opened → Open dim file used journal jused p opened.found × (opened.marker ≡ last_place file used)
+    opened_ready opened h = go fault_of refl (sym h ∙ is journal refl)
       where
-        go : (f : Fault?) → session_fault dim (session_of file used journal jused) ≡ f → Ready m found ≡ opened_by f (used_words file used) p →
-            Open dim file used journal jused p found × (m ≡ last_place file used)
+        go : (f : Fault?) → session_fault dim (session_of file used journal jused) ≡ f → Ok opened ≡ opened_by f (used_words file used) p →
+            Open dim file used journal jused p opened.found × (opened.marker ≡ last_place file used)
         go fine e q =
-            let x : found ≡ locate_of (used_words file used) p (last_place file used) = cc in
-            let y : m ≡ last_place file used = cc in
-            (record { ready = e; found_is = x }, y)
-        go (fault n q') e q = let z : ◌≡◌ {A = ℕ} 0 1 = cc in absurd (omega arith)
+            let same = given_is q in
+            (record { ready = e; found_is = ap (λ (r : Placed). r.found) same }, ap (λ (r : Placed). r.marker) same)
+        go (fault n q') e q = absurd (refused_not_given q)
 
-    pub opened_refused : (n q : ℕ) → r ≡ Refused n q → fault_of ≡ fault n q
-    opened_refused n q h = go fault_of refl (sym h ∙ is journal refl)
+    pub opened_refused : (refusal : Refusal) → r ≡ Err refusal → fault_of ≡ fault refusal.number refusal.place
+    opened_refused refusal h = go fault_of refl (sym h ∙ is journal refl)
       where
-        go : (f : Fault?) → session_fault dim (session_of file used journal jused) ≡ f → Refused n q ≡ opened_by f (used_words file used) p →
-            session_fault dim (session_of file used journal jused) ≡ fault n q
-        go fine e h = let z : ◌≡◌ {A = ℕ} 0 1 = cc in absurd (omega arith)
-        go (fault n' q') e h = e ∙ (let z : fault n' q' ≡ fault n q = cc in z)
+        go : (f : Fault?) → session_fault dim (session_of file used journal jused) ≡ f → Err refusal ≡ opened_by f (used_words file used) p →
+            session_fault dim (session_of file used journal jused) ≡ fault refusal.number refusal.place
+        go fine e h = absurd (given_not_refused h)
+        go (fault n q) e h = e ∙ ap (λ (r : Refusal). fault r.number r.place) (sym (refusal_is h))
 
   module _ (ready : session_fault dim (session_of file used journal jused) ≡ fine) where
     lengths : (used_ok (length file) used ≡ true) × (used_ok (length journal) jused ≡ true)
@@ -68,12 +69,12 @@ module _ (dim : ℕ) (file : List ℕ) (used : ℕ) (journal : List ℕ) (jused 
     journal_lengths = lengths_true (length journal) jused lengths.1
 
   -- the same by another name of the place
-  pub open_by : {p q : ℕ} {found : Spotted} → p ≡ q → Open dim file used journal jused p found → Open dim file used journal jused q found
+  pub open_by : {p q : ℕ} {found : Result Spotted Refusal} → p ≡ q → Open dim file used journal jused p found → Open dim file used journal jused q found
   open_by e o = record { ready = o.ready; found_is = o.found_is ∙ ap (λ k. locate_of (used_words file used) k (last_place file used)) e }
 
 ---- its lengths
 
-module _ {dim : ℕ} {file : List ℕ} {used : ℕ} {journal : List ℕ} {jused p : ℕ} {found : Spotted} (o : Open dim file used journal jused p found) where
+module _ {dim : ℕ} {file : List ℕ} {used : ℕ} {journal : List ℕ} {jused p : ℕ} {found : Result Spotted Refusal} (o : Open dim file used journal jused p found) where
   pub used_within : used ≤ length file
   used_within = (file_lengths dim file used journal jused o.ready).within
 

@@ -13,28 +13,29 @@ use Rattle.words.specs.Words.{words, word_at}
 use Rattle.words.proofs.Laws.{length_words}
 use Rattle.limits.specs.Limits.{dim_ok, size_ok, used_ok, call_ok}
 use Rattle.files.specs.Judge.{top_of, answer, judge_of}
-use Rattle.files.specs.declared.Verdict.{Verdict}
-use Rattle.files.specs.declared.Verdict.TheVariants.{Good, Fault}
-use Rattle.files.specs.declared.Judged.{Judged}
-use Rattle.files.specs.declared.Judged.TheVariants as judged
-use Rattle.places.specs.declared.Spotted.{Spotted}
-use Rattle.places.specs.declared.Placed.TheVariants as placed
 use Rattle.places.specs.Places.{placed_at}
 use Rattle.places.specs.Descent.{locate_of}
-use Rattle.places.proofs.Places.{refused_judged, judged_located}
+use Rattle.places.proofs.Places.{Located, refused_judged, judged_located}
 use Rattle.edits.specs.Allowed.{fine, or_else, unless}
 use Rattle.edits.specs.Calls.{used_words, ends_in_marker, session_ok, file_fault, session_fault}
 use Rattle.edits.proofs.Faults.{or_else_fine, unless_fine}
-use Rattle.opening.specs.declared.Opened.{Opened}
-use Rattle.opening.specs.declared.Opened.TheVariants.{Ready, Refused}
 use Rattle.opening.specs.Opening.{opened_by, session_of}
+use Rattle.std.specs.Prelude.{Err, Ok, Result}
+use Rattle.files.specs.Accepted.{accepted_with}
+use Rattle.files.specs.declared.Accepted.{Accepted}
+use Rattle.files.specs.declared.Judgement.{Judgement}
+use Rattle.places.specs.Placed.{placed_with}
+use Rattle.places.specs.declared.Placed.{Placed}
+use Rattle.places.specs.declared.Spotted.{Spotted}
+use Rattle.refusals.specs.Refusals.{refused_with}
+use Rattle.refusals.specs.declared.Refusal.{Refusal}
 
 ---- the used file alone
 
 -- what is opened, by what the used file is judged to be, the place of its last word and what was found
-unfoldable pub opened_judged : Judged → ℕ → Spotted → Opened
-opened_judged (judged.Accepted e d m) last found = cond (eqb m last) (Ready last found) (Refused 1 0)
-opened_judged (judged.Refused n p) last found = Refused n p
+unfoldable pub opened_judged : Result Accepted Refusal → ℕ → Result Spotted Refusal → Result Placed Refusal
+opened_judged (Ok file) last found = cond (eqb file.marker last) (placed_with last found) (refused_with 1 0)
+opened_judged (Err refusal) last found = Err refusal
 
 module _ (dim : ℕ) (s : List ℕ) (even : length s % 2 ≡ 0) (small : length s ≤ 1048576) (at : ℕ) where
   abbrev last : ℕ
@@ -44,38 +45,43 @@ module _ (dim : ℕ) (s : List ℕ) (even : length s % 2 ≡ 0) (small : length 
   unfolding judge_of call_ok opened_judged
   judged_is = rw (eq-eqb (length s % 2) 0 even, le-leb (length s) 1048576 small) (go (dim_ok dim) (top_of dim (words s)))
     where
-      marker : (b : Bool) → cond b (Ready last (locate_of (words s) at last)) (Refused 1 0) ≡ opened_by (unless b 1) (words s) at
+      marker : (b : Bool) → cond b (placed_with last (locate_of (words s) at last)) (refused_with 1 0) ≡ opened_by (unless b 1) (words s) at
       marker true = refl
       marker false = refl
 
-      go : (b : Bool) (v : Verdict) →
-          opened_judged (cond (b && (true && true)) (answer v) (judged.Refused 1 0)) last (locate_of (words s) at last) ≡ opened_by (or_else (unless b 1) (file_fault v last)) (words s) at
-      go true (Good next e d k) = marker (eqb next last)
-      go true (Fault n p) = refl
+      go : (b : Bool) (v : Result Judgement Refusal) →
+          opened_judged (cond (b && (true && true)) (answer v) (refused_with 1 0)) last (locate_of (words s) at last) ≡ opened_by (or_else (unless b 1) (file_fault v last)) (words s) at
+      go true (Ok judged) = marker (eqb judged.next last)
+      go true (Err refusal) = refl
       go false v = refl
 
   -- by what was answered of the file and the place; the last word's place is by the bytes
-  pub opened_refused : (n p : ℕ) → placed_at dim s at ≡ placed.Refused n p →
-      Refused n p ≡ opened_by (or_else (unless (dim_ok dim) 1) (file_fault (top_of dim (words s)) last)) (words s) at
+  pub opened_refused : (refusal : Refusal) → placed_at dim s at ≡ Err refusal →
+      Err refusal ≡ opened_by (or_else (unless (dim_ok dim) 1) (file_fault (top_of dim (words s)) last)) (words s) at
   unfolding opened_judged
-  opened_refused n p e = rw (refused_judged dim s at n p e) at judged_is
+  opened_refused refusal e = rw (refused_judged dim s at refusal.number refusal.place e) at judged_is
 
-  module _ (m : ℕ) (found : Spotted) (e : placed_at dim s at ≡ placed.Accepted m found) where
-    opened_by_lem : opened_judged (judged.Accepted (judged_located dim s at m found e).elements (judged_located dim s at m found e).deepest m) last (locate_of (words s) at last)
+  located_last : (m : ℕ) (found : Result Spotted Refusal) → m ≡ last → found ≡ locate_of (words s) at m → placed_with m found ≡ placed_with last (locate_of (words s) at last)
+  located_last m found q f = rw (f, q) refl
+
+  module _ (opened : Placed) (e : placed_at dim s at ≡ Ok opened) where
+    there : Located dim s at opened.marker opened.found
+    there = judged_located dim s at opened.marker opened.found e
+
+    opened_by_lem : opened_judged (accepted_with there.elements there.deepest opened.marker) last (locate_of (words s) at last)
         ≡ opened_by (or_else (unless (dim_ok dim) 1) (file_fault (top_of dim (words s)) last)) (words s) at
-    opened_by_lem = rw (judged_located dim s at m found e).judged at judged_is
+    opened_by_lem = rw there.judged at judged_is
 
-    pub opened_ready : m ≡ length s / 2 - 1 → Ready m found ≡ opened_by (or_else (unless (dim_ok dim) 1) (file_fault (top_of dim (words s)) last)) (words s) at
+    pub opened_ready : opened.marker ≡ length s / 2 - 1 → Ok opened ≡ opened_by (or_else (unless (dim_ok dim) 1) (file_fault (top_of dim (words s)) last)) (words s) at
     unfolding opened_judged
     opened_ready h =
         let w = length_words s in
-        let q : m ≡ length (words s) - 1 = omega arith in
-        let f = (judged_located dim s at m found e).is in
-        (let z : Ready m found ≡ Ready last (locate_of (words s) at last) = cc in z) ∙ (rw (eq-eqb m last q) at opened_by_lem)
+        let q : opened.marker ≡ length (words s) - 1 = omega arith in
+        located_last opened.marker opened.found q there.is ∙ (rw (eq-eqb opened.marker last q) at opened_by_lem)
 
-    pub opened_early : (m ≡ length s / 2 - 1 → ⊥) → Refused 1 0 ≡ opened_by (or_else (unless (dim_ok dim) 1) (file_fault (top_of dim (words s)) last)) (words s) at
+    pub opened_early : (opened.marker ≡ length s / 2 - 1 → ⊥) → refused_with 1 0 ≡ opened_by (or_else (unless (dim_ok dim) 1) (file_fault (top_of dim (words s)) last)) (words s) at
     unfolding opened_judged
-    opened_early h = let w = length_words s in rw (ne_eqb m last (λ z. h (omega arith))) at opened_by_lem
+    opened_early h = let w = length_words s in rw (ne_eqb opened.marker last (λ z. h (omega arith))) at opened_by_lem
 
 ---- the two buffers
 
@@ -127,11 +133,11 @@ module _ (dim : ℕ) (file : List ℕ) (used size jused : ℕ) where
       record { within = in'; even = omega arith; two = omega arith; small = omega arith }
 
   module _ (at : ℕ) (journal : List ℕ) (is : length journal ≡ size) where
-    pub open_refused : rest ≡ false → Refused 1 0 ≡ opened_by (session_fault dim (session_of file used journal jused)) (used_words file used) at
+    pub open_refused : rest ≡ false → refused_with 1 0 ≡ opened_by (session_fault dim (session_of file used journal jused)) (used_words file used) at
     unfolding session_fault session_ok
     open_refused e = rw (is, e, and-false (dim_ok dim))
 
-    pub open_judged : rest ≡ true → (r : Opened) →
+    pub open_judged : rest ≡ true → (r : Result Placed Refusal) →
         r ≡ opened_by (or_else (unless (dim_ok dim) 1) (file_fault (top_of dim (used_words file used)) (length (used_words file used) - 1))) (used_words file used) at →
         r ≡ opened_by (session_fault dim (session_of file used journal jused)) (used_words file used) at
     unfolding session_fault session_ok
@@ -143,16 +149,16 @@ module _ (dim : ℕ) (file : List ℕ) (used size jused : ℕ) where
 pub record AcceptedUsed (dim : ℕ) (s : List ℕ) (m : ℕ) : Type 0 where
   pub elements : ℕ
   pub deepest : ℕ
-  pub judged : judge_of dim s ≡ judged.Accepted elements deepest m
+  pub judged : judge_of dim s ≡ accepted_with elements deepest m
   pub last : m + 1 ≡ length (words s)
 
-file_fine : (dim : ℕ) (s : List ℕ) → call_ok dim s ≡ true → 1 ≤ length (words s) → (v : Verdict) → top_of dim (words s) ≡ v →
+file_fine : (dim : ℕ) (s : List ℕ) → call_ok dim s ≡ true → 1 ≤ length (words s) → (v : Result Judgement Refusal) → top_of dim (words s) ≡ v →
     file_fault v (length (words s) - 1) ≡ fine → AcceptedUsed dim s (length (words s) - 1)
 unfolding judge_of
-file_fine dim s call some (Good next e d k) t f =
-    let h = eqb-true next (length (words s) - 1) (unless_fine (eqb next (length (words s) - 1)) 1 f) in
-    record { elements = e; deepest = d; judged = rw (call, t, h); last = omega arith }
-file_fine dim s call some (Fault n p) t f = let z : ◌≡◌ {A = ℕ} 0 1 = cc in absurd (omega arith)
+file_fine dim s call some (Ok judged2) t f =
+    let h = eqb-true judged2.next (length (words s) - 1) (unless_fine (eqb judged2.next (length (words s) - 1)) 1 f) in
+    record { elements = judged2.elements; deepest = judged2.deepest; judged = rw (call, t, h); last = omega arith }
+file_fine dim s call some (Err refusal) t f = let z : ◌≡◌ {A = ℕ} 0 1 = cc in absurd (omega arith)
 
 part_call : (dim : ℕ) (s : List ℕ) → dim_ok dim ≡ true → length s % 2 ≡ 0 → length s ≤ 1048576 → call_ok dim s ≡ true
 unfolding call_ok

@@ -13,20 +13,13 @@ ghost use Rattle.limits.specs.Limits.{dim_ok, used_ok};
 ghost use Rattle.files.specs.Judge.{top_of};
 ghost use Rattle.edits.specs.Allowed.{or_else, unless};
 ghost use Rattle.edits.specs.Calls.{ends_in_marker, used_words, file_fault};
-ghost use Rattle.edits.specs.declared.Edited.TheVariants.{Refused};
 ghost use Rattle.opening.specs.Opening.{opened_by, OpenedAs};
 ghost use Rattle.opening.specs.Steps.{number_of, above_at};
+ghost use Rattle.refusals.specs.Refusals.{refusal_of};
 
-use edits::Edited;
 use journals::TOP;
-use places::{Above, Spotted};
-
-// What opening a session answers: the place of the file's marker and what starts at a place of it, or a refusal.
-#[derive(Clone, Copy)]
-pub enum Opened {
-    Ready { marker: usize, found: Spotted },
-    Refused { number: usize, place: usize },
-}
+use places::{Above, Placed};
+use refusals::Refusal;
 
 // Whether the last word of a used file is 65535.
 fn ends_in_marker(used: &[u8]) -> bool
@@ -53,29 +46,16 @@ fn buffers_ok(file: &[u8], used: usize, journal_len: usize, jused: usize) -> boo
 }
 
 // What judging the used file answers, with what starts at a place; its marker is due at the last used word.
-fn open_file(used: &[u8], dim: usize, place: usize) -> Opened
+fn open_file(used: &[u8], dim: usize, place: usize) -> Result<Placed, Refusal>
     requires { (length used.now % 2 ≡ 0) × ((2 ≤ length used.now) × (length used.now ≤ 1048576)) }
     ensures { result ≡ opened_by (or_else (unless (dim_ok dim) 1) (file_fault (top_of dim (words used.now)) (length (words used.now) - 1))) (words used.now) place }
 {
     let last = used.len() / 2 - 1;
-    match places::placed_at(used, dim, place) {
-        places::Placed::Refused {
-            number,
-            place: fault,
-        } => Opened::Refused {
-            number,
-            place: fault,
-        },
-        places::Placed::Accepted { marker, found } => {
-            if marker == last {
-                return Opened::Ready { marker, found };
-            }
-            Opened::Refused {
-                number: 1,
-                place: 0,
-            }
-        }
+    let opened = places::placed_at(used, dim, place)?;
+    if opened.marker != last {
+        return Err(refused(1));
     }
+    Ok(opened)
 }
 
 // Opens a session on a file's buffer and a journal's, by their used lengths, and finds what starts at a place.
@@ -86,23 +66,20 @@ pub fn open_at(
     jused: usize,
     dim: usize,
     place: usize,
-) -> Opened
+) -> Result<Placed, Refusal>
     ensures { OpenedAs dim file.now used journal_len jused place result }
 {
-    if buffers_ok(file, used, journal_len, jused) {
-        return open_file(&file[..used], dim, place);
+    if !buffers_ok(file, used, journal_len, jused) {
+        return Err(refused(1));
     }
-    Opened::Refused {
-        number: 1,
-        place: 0,
-    }
+    open_file(&file[..used], dim, place)
 }
 
 // A refusal at place 0.
-pub fn refused(number: usize) -> Edited
-    ensures { result ≡ Refused number 0 }
+pub fn refused(number: usize) -> Refusal
+    ensures { result ≡ refusal_of number 0 }
 {
-    Edited::Refused { number, place: 0 }
+    Refusal { number, place: 0 }
 }
 
 // A header place as the number of its long.

@@ -12,13 +12,15 @@ use lib.Dec.{leb, ltb}
 use borrow.Author.Tests.{ne_eqb, leb-true, le-leb, ltb-true, lt-ltb}
 use Rattle.words.specs.Words.{Below}
 use Rattle.files.specs.Judge.{judge_of}
-use Rattle.files.specs.declared.Judged.{Judged}
-use Rattle.files.specs.declared.Judged.TheVariants.{Accepted, Refused}
 use Rattle.answers.specs.Answers.{refuse, done, returned, slice_left, with_room, Replied, SmallReply}
 use Rattle.answers.specs.Besides.{if_done}
 use Rattle.answers.proofs.Refusals.{file_small}
 use Rattle.order.specs.Calls.{none_fits, reply_by}
 use Rattle.order.specs.Parts.{Within}
+use Rattle.std.specs.Prelude.{Err, Ok, Result}
+use Rattle.files.specs.Accepted.{accepted_with}
+use Rattle.files.specs.declared.Accepted.{Accepted}
+use Rattle.refusals.specs.declared.Refusal.{Refusal}
 
 -- an element is left and it is not 15: something was put; and back
 pub some_put : (put onto e : ℕ) → none_fits put onto e ≡ false → onto < e → 1 ≤ put
@@ -40,7 +42,7 @@ pub record Done {S : Type 0} (needed put onto elements : ℕ) (given out o : Lis
   pub answer : o ≡ sets out 0 given
   pub numbers : u ≡ made
 
-module _ (v : Judged) {e d m : ℕ} (j : v ≡ Accepted e d m) (needed put onto : ℕ) (given out : List ℕ) {n : ℕ} {o : List ℕ} (a : Replied needed (reply_by v put onto given) out n o) where
+module _ (v : Result Accepted Refusal) {e d m : ℕ} (j : v ≡ accepted_with e d m) (needed put onto : ℕ) (given out : List ℕ) {n : ℕ} {o : List ℕ} (a : Replied needed (reply_by v put onto given) out n o) where
   by : (b c : Bool) → leb needed (length out) ≡ b → none_fits put onto e ≡ c → with_room needed (reply_by v put onto given) out ≡ cond b (cond c (refuse 15 0) (done given)) (refuse 1 0)
   by b c p q = rw (p, j, q) refl
 
@@ -63,9 +65,9 @@ module _ (v : Judged) {e d m : ℕ} (j : v ≡ Accepted e d m) (needed put onto 
 pub reply_small : (dim : ℕ) (s : List ℕ) (put onto : ℕ) (given : List ℕ) → SmallReply (reply_by (judge_of dim s) put onto given)
 reply_small dim s put onto given = go (judge_of dim s) refl
   where
-    go : (v : Judged) → judge_of dim s ≡ v → SmallReply (reply_by v put onto given)
-    go (Refused n p) j = file_small dim s n p j
-    go (Accepted e d m) j = fit (none_fits put onto e)
+    go : (v : Result Accepted Refusal) → judge_of dim s ≡ v → SmallReply (reply_by v put onto given)
+    go (Err refusal) j = file_small dim s refusal.number refusal.place j
+    go (Ok file) j = fit (none_fits put onto file.elements)
       where
         fit : (b : Bool) → SmallReply (cond b (refuse 15 0) (done given))
         fit true = (omega arith, omega arith, omega arith)
@@ -73,13 +75,13 @@ reply_small dim s put onto given = go (judge_of dim s) refl
 
 -- a call that is done had a file that is accepted
 pub done_accepted : (dim : ℕ) (s : List ℕ) (needed put onto : ℕ) (given out : List ℕ) {n : ℕ} {o : List ℕ} → Replied needed (reply_by (judge_of dim s) put onto given) out n o → n ≡ 0 →
-    (e d m : ℕ) × (judge_of dim s ≡ Accepted e d m)
+    (e d m : ℕ) × (judge_of dim s ≡ accepted_with e d m)
 done_accepted dim s needed put onto given out {n} a z = go (judge_of dim s) refl (leb needed (length out)) a.is
   where
-    go : (v : Judged) → judge_of dim s ≡ v → (b : Bool) → n ≡ returned (cond b (reply_by v put onto given) (refuse 1 0)) → (e d m : ℕ) × (judge_of dim s ≡ Accepted e d m)
-    go (Accepted e d m) j b q = (e, d, m, j)
-    go (Refused k p) j true q = let h = file_small dim s k p j in absurd (omega arith)
-    go (Refused k p) j false q = absurd (omega arith)
+    go : (v : Result Accepted Refusal) → judge_of dim s ≡ v → (b : Bool) → n ≡ returned (cond b (reply_by v put onto given) (refuse 1 0)) → (e d m : ℕ) × (judge_of dim s ≡ accepted_with e d m)
+    go (Ok file) j b q = (file.elements, file.deepest, file.marker, j)
+    go (Err refusal) j true q = let h = file_small dim s refusal.number refusal.place j in absurd (omega arith)
+    go (Err refusal) j false q = absurd (omega arith)
 
 -- signed numbers
 pub within_append : (b : ℕ) (xs ys : List ℤ) → Within b xs → Within b ys → Within b (xs ++ ys)

@@ -9,9 +9,8 @@ use lib.Seq.{length-sets}
 use lib.Dec.{leb}
 use borrow.Author.Tests.{leb-true, leb-false, le-leb, lt-leb}
 use Rattle.answers.proofs.Besides.{put_then}
-use Rattle.order.specs.declared.Taken.{Taken}
-use Rattle.order.specs.declared.Taken.TheVariants.{Full, Used}
 use Rattle.order.specs.Fitting.{Fitting, behind, part_of, items_from, Slices, in_numbers, ElementPut, PartPut}
+use Rattle.std.specs.Prelude.{None, Option, Some}
 
 -- slices in which items are put behind others: the room stays, and what is put in two parts is as put at once
 pub record Lays {S A : Type 0} (into : Slices S A) : Type 0 where
@@ -24,10 +23,10 @@ lays_numbers = record { kept = λ s at x. length-sets s at x; joined = put_then;
 
 module _ {S A : Type 0} (into : Slices S A) (lays : Lays into) where
   -- an element without items is passed over
-  pub nothing_put : (s : S) (used : ℕ) → ElementPut into [] s used (Used used) s
+  pub nothing_put : (s : S) (used : ℕ) → ElementPut into [] s used (Some used) s
   nothing_put s used =
       let fits = le-leb 0 (into.room s - used) (omega arith) in
-      record { is = rw fits (ap Used (omega arith)); given = rw fits (sym (lays.none s used)) }
+      record { is = rw fits (ap Some (omega arith)); given = rw fits (sym (lays.none s used)) }
 
   -- so far: what was put, and what the rest comes to
   pub record Going (p : Fitting A) (s : S) (f : ℕ → List A) (elements i used : ℕ) (now : S) : Type 0 where
@@ -84,10 +83,10 @@ module _ {S A : Type 0} (into : Slices S A) (lays : Lays into) where
 
     -- a turn of the loop, by what was said of its element
     module _ (e : List A) (here : e ≡ f i) (h : i < elements) (t : S) where
-      pub turn_full : (r : Taken) → r ≡ Full → ElementPut into e now used r t → PartPut into p s (record { next = i; used = used }) t
+      pub turn_full : (r : Option ℕ) → r ≡ None → ElementPut into e now used r t → PartPut into p s (record { next = i; used = used }) t
       turn_full r q put = go (leb (length e) (into.room now - used)) refl (sym q ∙ put.is) put.given
         where
-          go : (b : Bool) → leb (length e) (into.room now - used) ≡ b → Full ≡ cond b (Used (used + length e)) Full → t ≡ cond b (into.put now used e) now →
+          go : (b : Bool) → leb (length e) (into.room now - used) ≡ b → None ≡ cond b (Some (used + length e)) None → t ≡ cond b (into.put now used e) now →
               PartPut into p s (record { next = i; used = used }) t
           go true w is given = let z : ◌≡◌ {A = ℕ} 0 1 = cc in absurd (omega arith)
           go false w is given =
@@ -95,10 +94,10 @@ module _ {S A : Type 0} (into : Slices S A) (lays : Lays into) where
               let k = now_room in
               subst (PartPut into p s (record { next = i; used = used })) (sym given) (going_full e here h (omega arith))
 
-      pub turn_more : (r : Taken) (more : ℕ) → r ≡ Used more → ElementPut into e now used r t → Going p s f elements (i + 1) more t
+      pub turn_more : (r : Option ℕ) (more : ℕ) → r ≡ Some more → ElementPut into e now used r t → Going p s f elements (i + 1) more t
       turn_more r more q put = go (leb (length e) (into.room now - used)) refl (sym q ∙ put.is) put.given
         where
-          go : (b : Bool) → leb (length e) (into.room now - used) ≡ b → Used more ≡ cond b (Used (used + length e)) Full → t ≡ cond b (into.put now used e) now →
+          go : (b : Bool) → leb (length e) (into.room now - used) ≡ b → Some more ≡ cond b (Some (used + length e)) None → t ≡ cond b (into.put now used e) now →
               Going p s f elements (i + 1) more t
           go true w is given =
               let l = leb-true (length e) (into.room now - used) w in

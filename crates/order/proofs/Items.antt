@@ -10,10 +10,10 @@ use borrow.Author.Tests.{leb-true, leb-false}
 use Rattle.words.specs.Words.{words}
 use Rattle.files.specs.Judge.{judge_of}
 use Rattle.files.specs.Spots.{Spot, spots_of}
-use Rattle.files.specs.declared.Judged.TheVariants.{Accepted}
 use Rattle.order.specs.Order.{place_of, InOrder}
 use Rattle.order.specs.Fitting.{items_from}
 use Rattle.order.proofs.Order.{order_from, file_order, count_is}
+use Rattle.files.specs.Accepted.{accepted_with}
 
 -- f gives the items of the element at a place
 module _ {A : Type 0} (f : ℕ → List A) where
@@ -21,7 +21,7 @@ module _ {A : Type 0} (f : ℕ → List A) where
   by_places ws end k [] p = refl
   by_places ws end k (x ∷ xs) p = rw (p.0, by_places ws end (suc k) xs p.1) refl
 
-pub items_are : {A : Type 0} (dim : ℕ) (s : List ℕ) (e d m : ℕ) → judge_of dim s ≡ Accepted e d m → (f : ℕ → List A) (k : ℕ) →
+pub items_are : {A : Type 0} (dim : ℕ) (s : List ℕ) (e d m : ℕ) → judge_of dim s ≡ accepted_with e d m → (f : ℕ → List A) (k : ℕ) →
     items_from (e - k) (λ i. f (place_of (words s) i)) k ≡ map (λ x. f x.place) (drop k (spots_of dim (words s)))
 items_are dim s e d m accepted f k = go (leb k (length xs)) refl
   where

@@ -16,13 +16,13 @@ use Rattle.headers.specs.Header.{type_at, size_at}
 use Rattle.headers.proofs.Laws.{size_small}
 use Rattle.files.specs.Judge.{judge_of}
 use Rattle.files.specs.Spots.{Spot, spots_of, spot_in}
-use Rattle.files.specs.declared.Judged.TheVariants.{Accepted}
 use Rattle.grammar.proofs.Forest.{Forest, nil, node, flat, Wf, spots, weight, length_node, own_stands, components_stand, rest_stand}
 use Rattle.grammar.proofs.Stands.{Stands}
 use Rattle.grammar.proofs.Rules.{own_size}
 use Rattle.grammar.proofs.Whole.{FileTree, file_tree}
 use Rattle.grammar.proofs.Exact.{accepted_is}
 use Rattle.order.specs.Order.{place_of, start_of, InOrder}
+use Rattle.files.specs.Accepted.{accepted_with}
 
 ---- the elements of a tree
 
@@ -137,7 +137,7 @@ found_take all (x ∷ xs) (suc k) f = (f.0, found_take all xs k f.1)
 
 ---- an accepted file
 
-module _ (dim : ℕ) (s : List ℕ) (e d m : ℕ) (accepted : judge_of dim s ≡ Accepted e d m) where
+module _ (dim : ℕ) (s : List ℕ) (e d m : ℕ) (accepted : judge_of dim s ≡ accepted_with e d m) where
   tree : FileTree dim (words s) (spots_of dim (words s)) m
   tree = file_tree (accepted_is dim s e d m accepted).file
 

@@ -10,12 +10,12 @@ use borrow.Author.Tests.{eqb-true}
 use Rattle.files.specs.Judge.{judge_of}
 use Rattle.answers.specs.Answers.{Reply, with_room, Replied}
 use Rattle.answers.specs.Besides.{if_done}
-use Rattle.order.specs.declared.Begun.TheVariants.{Refused}
 use Rattle.order.specs.declared.Part.{Part}
 use Rattle.order.specs.Calls.{begun_of, none_fits, reply_by}
 use Rattle.order.specs.Fitting.{Fitting, Slices, PartPut}
 use Rattle.order.proofs.Calls.{GoesOn, call_refused, call_full, call_done}
 use Rattle.order.proofs.Fitting.{Lays}
+use Rattle.std.specs.Prelude.{Err}
 
 -- the answer is the next element's number, and a number that says how much was put
 module _ {S A : Type 0} (into : Slices S A) (lays : Lays into) (dim : ℕ) (s : List ℕ) (part : Fitting A) (second : ℕ) (was : S) (out : List ℕ) where
@@ -31,7 +31,7 @@ module _ {S A : Type 0} (into : Slices S A) (lays : Lays into) (dim : ℕ) (s : 
   abbrev Given : ℕ → List ℕ → S → Type 0
   Given n o t = Replied 2 reply out n o × (t ≡ if_done (with_room 2 reply out) made was)
 
-  pub taken_refused : (a : ℕ) → begun_of dim s 2 (length out) ≡ Refused a → Given a out was
+  pub taken_refused : (a : ℕ) → begun_of dim s 2 (length out) ≡ Err a → Given a out was
   taken_refused a q = call_refused dim s 2 (length part.given) part.next answer out made was a q
 
   module _ (e : ℕ) (on : GoesOn dim s 2 (length out) e) (t : S) (r : Part) (put : PartPut into part was r t) where

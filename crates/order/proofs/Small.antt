@@ -10,7 +10,6 @@ use lib.Seq.{sets}
 use Rattle.words.specs.Words.{words}
 use Rattle.files.specs.Judge.{judge_of}
 use Rattle.files.specs.Spots.{Spot, spots_of, spot_in}
-use Rattle.files.specs.declared.Judged.TheVariants.{Accepted}
 use Rattle.answers.specs.Answers.{Reply, with_room, Replied}
 use Rattle.answers.specs.Besides.{besides}
 use Rattle.answers.proofs.Besides.{front_read, front_at}
@@ -21,13 +20,14 @@ use Rattle.order.specs.Parts.{Within, NumbersSmall}
 use Rattle.order.proofs.Order.{FoundIn, found_drop, file_found}
 use Rattle.order.proofs.Answers.{when_done, done_accepted, within_append}
 use Rattle.order.proofs.Took.{joined, took}
+use Rattle.files.specs.Accepted.{accepted_with}
 
 -- f gives the numbers of an element
 module _ (dim : ℕ) (s : List ℕ) (f : Spot → List ℤ) (bound : ℕ) where
   abbrev all : List Spot
   all = spots_of dim (words s)
 
-  module _ (e d m : ℕ) (j : judge_of dim s ≡ Accepted e d m) (within : (x : Spot) → spot_in (spots_of dim (words s)) x.place ≡ some x → Within bound (f x)) where
+  module _ (e d m : ℕ) (j : judge_of dim s ≡ accepted_with e d m) (within : (x : Spot) → spot_in (spots_of dim (words s)) x.place ≡ some x → Within bound (f x)) where
     each_within : (n : ℕ) (xs : List Spot) → FoundIn all xs → Within bound (joined (take n (map f xs)))
     each_within zero xs h = tt
     each_within (suc n) [] h = tt
@@ -43,11 +43,11 @@ module _ (dim : ℕ) (s : List ℕ) (f : Spot → List ℤ) (bound : ℕ) where
     abbrev reply : Reply ℕ
     reply = reply_by (judge_of dim s) (length part.given) part.next answer
 
-    pub numbers_small : ((e d m : ℕ) → judge_of dim s ≡ Accepted e d m → (x : Spot) → spot_in (spots_of dim (words s)) x.place ≡ some x → Within bound (f x)) →
+    pub numbers_small : ((e d m : ℕ) → judge_of dim s ≡ accepted_with e d m → (x : Spot) → spot_in (spots_of dim (words s)) x.place ≡ some x → Within bound (f x)) →
         Replied 2 reply out 0 out' → numbers' ≡ besides (with_room 2 reply out) part.given numbers → NumbersSmall bound k numbers numbers' out'
     numbers_small within a given = go (done_accepted dim s 2 (length part.given) part.next answer out a refl)
       where
-        go : (e d m : ℕ) × (judge_of dim s ≡ Accepted e d m) → NumbersSmall bound k numbers numbers' out'
+        go : (e d m : ℕ) × (judge_of dim s ≡ accepted_with e d m) → NumbersSmall bound k numbers numbers' out'
         go (e, d, m, j) =
             let t = took (length numbers) k (map f (drop k all)) in
             let w = when_done (judge_of dim s) j 2 (length part.given) part.next answer out a (sets numbers 0 part.given) numbers numbers' given refl in

@@ -13,7 +13,6 @@ use borrow.Author.Tests.{leb-true, leb-false}
 use Rattle.words.specs.Words.{words}
 use Rattle.files.specs.Judge.{judge_of}
 use Rattle.files.specs.Spots.{Spot, spots_of, spot_in}
-use Rattle.files.specs.declared.Judged.TheVariants.{Accepted}
 use Rattle.answers.specs.Answers.{with_room, Replied}
 use Rattle.answers.specs.Besides.{if_done}
 use Rattle.answers.proofs.Besides.{front_read, front_at}
@@ -23,6 +22,7 @@ use Rattle.order.specs.Parts.{InParts, Called, GivesAll, Lent, numbers_call}
 use Rattle.order.proofs.Order.{FoundIn, found_drop, file_found, count_is}
 use Rattle.order.proofs.Parts.{Gave, Joins, Step, gives_all}
 use Rattle.order.proofs.Answers.{some_put, none_left, Done, when_done, done_when}
+use Rattle.files.specs.Accepted.{accepted_with}
 
 pub all_append : {A : Type 0} (g : Spot → List A) (xs ys : List Spot) → all_of g (xs ++ ys) ≡ all_of g xs ++ all_of g ys
 all_append g [] ys = refl
@@ -79,7 +79,7 @@ pub record Takes {L G S A : Type 0} (p : InParts L G) (into : Slices S A) (slice
   pub joins : Joins p (λ xs. shown (all_of g xs))
 
 -- of an accepted file: each element x has the items f x, which are those that g says, and are few
-module _ {L G S A : Type 0} (p : InParts L G) (into : Slices S A) (slices : L → S) (out : L → List ℕ) (dim : ℕ) (s : List ℕ) (e d m : ℕ) (j : judge_of dim s ≡ Accepted e d m) (f g : Spot → List A)
+module _ {L G S A : Type 0} (p : InParts L G) (into : Slices S A) (slices : L → S) (out : L → List ℕ) (dim : ℕ) (s : List ℕ) (e d m : ℕ) (j : judge_of dim s ≡ accepted_with e d m) (f g : Spot → List A)
     (shown : List A → G) (bound : ℕ) (second : ℕ → ℕ) (takes : Takes p into slices out g shown bound second)
     (same : (x : Spot) → spot_in (spots_of dim (words s)) x.place ≡ some x → f x ≡ g x)
     (few : (x : Spot) → spot_in (spots_of dim (words s)) x.place ≡ some x → length (f x) ≤ bound) where

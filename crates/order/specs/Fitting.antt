@@ -1,10 +1,8 @@
 -- What a call over a file's elements takes of them, each of which has items of its own (numbers, or entries) or none: as many elements as
 -- lent slices hold whole.
-use Rattle.std.specs.Prelude.{ℕ, zero, suc, ◌+◌, ◌-◌, ◌≡◌, List, [], ◌∷◌, ◌++◌, cond, ℤ, length, leb}
+use Rattle.std.specs.Prelude.{ℕ, zero, suc, ◌+◌, ◌-◌, ◌≡◌, List, [], ◌∷◌, ◌++◌, cond, ℤ, length, leb, None, Option, Some}
 use Rattle.std.proofs.lemmas.List.Edits.{sets}
 use Rattle.files.specs.Spots.{Spot}
-use Rattle.order.specs.declared.Taken.{Taken}
-use Rattle.order.specs.declared.Taken.TheVariants.{Full, Used}
 use Rattle.order.specs.declared.Part.{Part}
 
 -- elements that are taken: the number of the next one, and the items of those taken
@@ -40,8 +38,8 @@ abbrev pub in_numbers : Slices (List ℤ) ℤ
 in_numbers = record { room = length; put = sets }
 
 -- an element whose items e are put behind those that are used, where they fit
-pub record ElementPut {S A : Type 0} (into : Slices S A) (e : List A) (s : S) (used : ℕ) (r : Taken) (s' : S) : Type 0 where
-  pub is : r ≡ cond (leb (length e) (into.room s - used)) (Used (used + length e)) Full
+pub record ElementPut {S A : Type 0} (into : Slices S A) (e : List A) (s : S) (used : ℕ) (r : Option ℕ) (s' : S) : Type 0 where
+  pub is : r ≡ cond (leb (length e) (into.room s - used)) (Some (used + length e)) None
   pub given : s' ≡ cond (leb (length e) (into.room s - used)) (into.put s used e) s
 
 -- the elements that were taken

@@ -8,19 +8,7 @@ ghost use Rattle.words.specs.Words.{words};
 ghost use Rattle.order.specs.Order.{start_of};
 ghost use Rattle.order.specs.Calls.{begun_of, none_fits};
 
-// How many elements the file has, or the number that the call returns at once.
-#[derive(Clone, Copy)]
-pub enum Begun {
-    Elements { elements: usize },
-    Refused { answer: usize },
-}
-
-// An element does not fit, or so many numbers are used with it.
-#[derive(Clone, Copy)]
-pub enum Taken {
-    Full,
-    Used { used: usize },
-}
+use refusals::Refusal;
 
 // The number of the next element, and how many numbers are used.
 #[derive(Clone, Copy)]
@@ -37,30 +25,23 @@ pub fn start_of(file: &[u8], k: usize) -> usize
         return 0;
     }
     let mut at = 0;
-    let mut i = 0;
-    while i < k {
+    for _ in 0..k {
         at += headers::size_at(file, at);
-        i += 1;
     }
     at
 }
 
-// The beginning of a call whose answer needs so many numbers of a slice with `room`: the file is judged.
-pub fn begin(file: &[u8], dim: usize, needed: usize, room: usize) -> Begun
+// The beginning of a call whose answer needs so many numbers of a slice with `room`: how many elements the file has, or the
+// number that the call returns at once.
+pub fn begin(file: &[u8], dim: usize, needed: usize, room: usize) -> Result<usize, usize>
     ensures { result ≡ begun_of dim file.now needed room }
 {
     if room < needed {
-        return Begun::Refused { answer: 1 };
+        return Err(1);
     }
     match files::judge(file, dim) {
-        files::Judged::Refused { number, place } => Begun::Refused {
-            answer: number + 256 * place,
-        },
-        files::Judged::Accepted {
-            elements,
-            deepest: _,
-            marker: _,
-        } => Begun::Elements { elements },
+        Ok(accepted) => Ok(accepted.elements),
+        Err(Refusal { number, place }) => Err(number + 256 * place),
     }
 }
 

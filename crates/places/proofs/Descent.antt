@@ -22,10 +22,13 @@ use Rattle.grammar.proofs.Rules.{own_type, own_size, own_extent}
 use Rattle.grammar.proofs.Places.{spot_here, spot_before, spot_under, spot_next}
 use Rattle.places.specs.declared.Above.{Above}
 use Rattle.places.specs.declared.Above.TheVariants.{Top, Under}
-use Rattle.places.specs.declared.Spotted.{Spotted}
-use Rattle.places.specs.declared.Spotted.TheVariants as spotted
 use Rattle.places.specs.Places.{above_of, found_by}
 use Rattle.places.specs.Descent.{locate_from, IsLocated, descent_to}
+use Rattle.std.specs.Prelude.{Result}
+use Rattle.places.specs.Spotted.{spotted_with}
+use Rattle.places.specs.declared.Spotted.{Spotted}
+use Rattle.refusals.specs.Refusals.{refused_with}
+use Rattle.refusals.specs.declared.Refusal.{Refusal}
 
 ---- the steps
 
@@ -39,49 +42,49 @@ module _ (n : ℕ) (ws : List ℕ) (here depth : ℕ) (above : Above) (p : ℕ) 
   unfolding locate_from
   locate_into h l e = rw (lt-ltb here p h, lt-leb (here + extent_words ws here) p l, e)
 
-  pub locate_own : here < p → p < here + extent_words ws here → is_header (type_at ws here) ≡ false → locate_from (suc n) ws here depth above p ≡ spotted.Refused 13 0
+  pub locate_own : here < p → p < here + extent_words ws here → is_header (type_at ws here) ≡ false → locate_from (suc n) ws here depth above p ≡ refused_with 13 0
   unfolding locate_from
   locate_own h l e = rw (lt-ltb here p h, lt-leb (here + extent_words ws here) p l, e)
 
-  pub locate_here : here ≡ p → locate_from (suc n) ws here depth above p ≡ spotted.At (here + extent_words ws here) depth above
+  pub locate_here : here ≡ p → locate_from (suc n) ws here depth above p ≡ spotted_with (here + extent_words ws here) depth above
   unfolding locate_from
   locate_here e = rw (le-ltb here p (omega arith), eq-eqb here p e)
 
-  pub locate_past : p < here → locate_from (suc n) ws here depth above p ≡ spotted.Refused 13 0
+  pub locate_past : p < here → locate_from (suc n) ws here depth above p ≡ refused_with 13 0
   unfolding locate_from
   locate_past h = rw (le-ltb here p (omega arith), ne_eqb here p (λ e. omega arith))
 
 ---- the loop: what is found from an element on is what is found from where the descent began
 
 module _ (ws : List ℕ) (here depth : ℕ) (above : Above) (p : ℕ) where
-  pub step_past : p < here → IsLocated ws here depth above p (spotted.Refused 13 0)
+  pub step_past : p < here → IsLocated ws here depth above p (refused_with 13 0)
   step_past h zero l = absurd (omega arith)
   step_past h (suc n) l = sym (locate_past n ws here depth above p h)
 
   module _ (x : ℕ) (is : x ≡ extent_words ws here) where
-    pub step_here : here ≡ p → IsLocated ws here depth above p (spotted.At (here + x) depth above)
+    pub step_here : here ≡ p → IsLocated ws here depth above p (spotted_with (here + x) depth above)
     step_here h zero l = absurd (omega arith)
-    step_here h (suc n) l = ap (λ m. spotted.At (here + m) depth above) is ∙ sym (locate_here n ws here depth above p h)
+    step_here h (suc n) l = ap (λ m. spotted_with (here + m) depth above) is ∙ sym (locate_here n ws here depth above p h)
 
-    pub step_over : (r : Spotted) → here + x ≤ p → IsLocated ws (here + x) depth above p r → IsLocated ws here depth above p r
+    pub step_over : (r : Result Spotted Refusal) → here + x ≤ p → IsLocated ws (here + x) depth above p r → IsLocated ws here depth above p r
     step_over r h i zero l = absurd (omega arith)
     step_over r h i (suc n) l =
         let t = words_two ws here in
         i n (omega arith) ∙ ap (λ m. locate_from n ws (here + m) depth above p) is ∙ sym (locate_over n ws here depth above p (omega arith))
 
     module _ (from : here < p) (to : p < here + x) where
-      pub step_own : is_header (type_at ws here) ≡ false → IsLocated ws here depth above p (spotted.Refused 13 0)
+      pub step_own : is_header (type_at ws here) ≡ false → IsLocated ws here depth above p (refused_with 13 0)
       step_own e zero l = absurd (omega arith)
       step_own e (suc n) l = sym (locate_own n ws here depth above p from (omega arith) e)
 
-      pub step_into : (r : Spotted) (z : ℕ) → z ≡ size_at ws here → is_header (type_at ws here) ≡ true →
+      pub step_into : (r : Result Spotted Refusal) (z : ℕ) → z ≡ size_at ws here → is_header (type_at ws here) ≡ true →
           IsLocated ws (here + z) (depth + 1) (Under here) p r → IsLocated ws here depth above p r
       step_into r z q e i zero l = absurd (omega arith)
       step_into r z q e i (suc n) l =
           i n (omega arith) ∙ ap (λ m. locate_from n ws (here + m) (depth + 1) (Under here) p) q ∙ sym (locate_into n ws here depth above p from (omega arith) e)
 
 -- from the top
-pub descent_is : (ws : List ℕ) (p : ℕ) (r : Spotted) → IsLocated ws 0 0 Top p r → r ≡ descent_to ws p
+pub descent_is : (ws : List ℕ) (p : ℕ) (r : Result Spotted Refusal) → IsLocated ws 0 0 Top p r → r ≡ descent_to ws p
 unfolding descent_to
 descent_is ws p r i = i (suc p) (omega arith)
 
@@ -97,7 +100,7 @@ extent_weight dim depth under ws at own inside n o s = go (is_header (type_at ow
     go false h x = let e = words_plain ws at (rw (own_type o s) h) in let z = own_size o s in let i = x.0 in omega arith
 
 -- no element starts at the place
-absent : {o : Option Spot} → o ≡ none → spotted.Refused 13 0 ≡ found_by o
+absent : {o : Option Spot} → o ≡ none → refused_with 13 0 ≡ found_by o
 absent e = rw e refl
 
 module _ (dim : ℕ) (ws : List ℕ) (p : ℕ) where
@@ -133,7 +136,7 @@ module _ (dim : ℕ) (ws : List ℕ) (p : ℕ) where
           go false b true c d e t f =
               let q = eqb-true at p c in
               locate_here n ws at depth (above_of header) p q
-              ∙ ap (λ m. spotted.At (at + m) depth (above_of header)) whole
+              ∙ ap (λ m. spotted_with (at + m) depth (above_of header)) whole
               ∙ ap found_by (sym (spot_here depth header at own k r p q))
           go false b false c d e t f =
               let g = ltb-false at p b in

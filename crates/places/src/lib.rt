@@ -13,6 +13,9 @@ ghost use Rattle.places.specs.Places.{placed_at, spotted_at};
 ghost use Rattle.places.specs.Descent.{IsLocated, locate_of};
 ghost use Rattle.places.specs.Extents.{extent_answer, extent_bytes};
 
+use files::Reached;
+use refusals::Refusal;
+
 // The direct header of an element.
 #[derive(Clone, Copy)]
 pub enum Above {
@@ -20,30 +23,24 @@ pub enum Above {
     Under { place: usize },
 }
 
-// The element that starts at a place: where its extent ends, its depth and its direct header; or the refusal.
+// The element that starts at a place: where its extent ends, its depth and its direct header.
 #[derive(Clone, Copy)]
-pub enum Spotted {
-    At {
-        end: usize,
-        depth: usize,
-        above: Above,
-    },
-    Refused {
-        number: usize,
-        place: usize,
-    },
+pub struct Spotted {
+    pub end: usize,
+    pub depth: usize,
+    pub above: Above,
 }
 
-// A file judged, with the place of its marker and what starts at a place.
+// Of an accepted file: the place of its marker, and what starts at a place.
 #[derive(Clone, Copy)]
-pub enum Placed {
-    Refused { number: usize, place: usize },
-    Accepted { marker: usize, found: Spotted },
+pub struct Placed {
+    pub marker: usize,
+    pub found: Result<Spotted, Refusal>,
 }
 
 // The element that starts at a place of a judged file, from the element at `top` on: over the elements whose extents end
 // by the place, and into the header whose extent holds it.
-fn descend(file: &[u8], top: usize, place: usize) -> Spotted
+fn descend(file: &[u8], top: usize, place: usize) -> Result<Spotted, Refusal>
     requires { place < length file.now / 2 }
     ensures { IsLocated (words file.now) top 0 Top place result }
 {
@@ -56,10 +53,10 @@ fn descend(file: &[u8], top: usize, place: usize) -> Spotted
             here = end;
         } else {
             if !kinds::is_header(headers::type_at(file, here)) {
-                return Spotted::Refused {
+                return Err(Refusal {
                     number: 13,
                     place: 0,
-                };
+                });
             }
             above = Above::Under { place: here };
             depth += 1;
@@ -68,16 +65,16 @@ fn descend(file: &[u8], top: usize, place: usize) -> Spotted
     }
     if here == place {
         let end = here + headers::extent_words(file, here);
-        return Spotted::At { end, depth, above };
+        return Ok(Spotted { end, depth, above });
     }
-    Spotted::Refused {
+    Err(Refusal {
         number: 13,
         place: 0,
-    }
+    })
 }
 
 // The element that starts at a place before the marker of a judged file.
-pub fn locate(file: &[u8], place: usize, marker: usize) -> Spotted
+pub fn locate(file: &[u8], place: usize, marker: usize) -> Result<Spotted, Refusal>
     ensures { result ≡ locate_of (words file.now) place marker }
 {
     if place < marker {
@@ -85,115 +82,75 @@ pub fn locate(file: &[u8], place: usize, marker: usize) -> Spotted
             return descend(file, 0, place);
         }
     }
-    Spotted::Refused {
+    Err(Refusal {
         number: 13,
         place: 0,
-    }
+    })
 }
 
 // What a file is judged to be, 1 and its own refusals first, and the element that starts at a place. The elements at the
 // top are judged up to the first that ends after the place, where the descent begins, and then the others.
-pub fn placed_at(file: &[u8], dim: usize, place: usize) -> Placed
+pub fn placed_at(file: &[u8], dim: usize, place: usize) -> Result<Placed, Refusal>
     ensures { result ≡ placed_at dim file.now place }
 {
     if !limits::call_ok(file, dim) {
-        return Placed::Refused {
+        return Err(Refusal {
             number: 1,
             place: 0,
-        };
+        });
     }
     let bound = file.len() / 2;
-    match files::reach(file, 0, dim, place, false) {
-        files::Reached::Refused {
-            number,
-            place: fault,
-        } => Placed::Refused {
-            number,
-            place: fault,
-        },
-        files::Reached::End {
-            place: marker,
-            before: _,
-        } => {
-            let found = Spotted::Refused {
+    match files::reach(file, 0, dim, place, false)? {
+        Reached::End { place: marker, .. } => {
+            let found = Err(Refusal {
                 number: 13,
                 place: 0,
-            };
-            Placed::Accepted { marker, found }
+            });
+            Ok(Placed { marker, found })
         }
-        files::Reached::Element {
+        Reached::Element {
             start: top,
             end,
-            before: _,
-        } => match files::reach(file, end, dim, bound, false) {
-            files::Reached::Refused {
-                number,
-                place: fault,
-            } => Placed::Refused {
-                number,
-                place: fault,
-            },
-            files::Reached::End {
-                place: marker,
-                before: _,
-            } => {
-                let found = descend(file, top, place);
-                Placed::Accepted { marker, found }
+            ..
+        } => {
+            match files::reach(file, end, dim, bound, false)? {
+                Reached::End { place: marker, .. } => {
+                    let found = descend(file, top, place);
+                    Ok(Placed { marker, found })
+                }
+                // no element ends after the bound
+                Reached::Element { end: other, .. } => Err(Refusal {
+                    number: 3,
+                    place: other,
+                }),
             }
-            // no element ends after the bound
-            files::Reached::Element {
-                start: _,
-                end: other,
-                before: _,
-            } => Placed::Refused {
-                number: 3,
-                place: other,
-            },
-        },
+        }
     }
 }
 
 // The element that starts at a place of a file: 1, the file's own refusals, then 13.
-pub fn spotted_at(file: &[u8], dim: usize, place: usize) -> Spotted
+pub fn spotted_at(file: &[u8], dim: usize, place: usize) -> Result<Spotted, Refusal>
     ensures { result ≡ spotted_at dim file.now place }
 {
-    match placed_at(file, dim, place) {
-        Placed::Refused {
-            number,
-            place: fault,
-        } => Spotted::Refused {
-            number,
-            place: fault,
-        },
-        Placed::Accepted { marker: _, found } => found,
-    }
+    placed_at(file, dim, place)?.found
 }
 
 // An extent, from its first word to the word after its last.
 #[derive(Clone, Copy)]
-pub enum Extent {
-    At { start: usize, end: usize },
-    Refused { number: usize, place: usize },
+pub struct Extent {
+    pub start: usize,
+    pub end: usize,
 }
 
 // Where the extent of the element at a place starts and ends.
-pub fn extent_answer(file: &[u8], dim: usize, place: usize) -> Extent
+pub fn extent_answer(file: &[u8], dim: usize, place: usize) -> Result<Extent, Refusal>
     ensures { result ≡ extent_answer dim file.now place }
 {
-    match spotted_at(file, dim, place) {
-        Spotted::At {
-            end,
-            depth: _,
-            above: _,
-        } => Extent::At { start: place, end },
-        Spotted::Refused {
-            number,
-            place: fault,
-        } => Extent::Refused {
-            number,
-            place: fault,
-        },
-    }
+    let spot = spotted_at(file, dim, place)?;
+    Ok(Extent {
+        start: place,
+        end: spot.end,
+    })
 }
 
 // The extent of the element at a place, as that part of the file; empty where refused.
@@ -201,18 +158,11 @@ pub fn extent_at(file: &[u8], dim: usize, place: usize) -> &[u8]
     ensures { result.now ≡ extent_bytes dim file.now place }
 {
     match spotted_at(file, dim, place) {
-        Spotted::At {
-            end,
-            depth: _,
-            above: _,
-        } => {
+        Ok(spot) => {
             let a = 2 * place;
-            let e = 2 * end;
+            let e = 2 * spot.end;
             &file[a..e]
         }
-        Spotted::Refused {
-            number: _,
-            place: _,
-        } => &file[..0],
+        Err(_) => &file[..0],
     }
 }

@@ -1,22 +1,18 @@
 -- A cell has a line where it is live, and no other element has one.
-use Prim.Native.Nat.{ℕ, zero, suc, ◌≤◌, ◌<◌}
-use mathlib.Core.Path.{◌≡◌, refl, sym, subst}
+use Prim.Native.Nat.{ℕ, zero, suc, ◌<◌}
+use mathlib.Core.Path.{◌≡◌, refl}
 use mathlib.Core.List.{List}
 use native.Mathlib.Omega.{arith}
-use lib.ListN.{length}
 use borrow.Author.Tests.{eq-eqb, ne_eqb}
 use Rattle.words.specs.Words.{word_at}
 use Rattle.kinds.specs.FirstWord.{deleted_of}
-use Rattle.names.specs.Names.{unpacked}
-use Rattle.names.specs.declared.Unpacked.{Unpacked}
-use Rattle.lines.specs.Element.{text_length}
-use Rattle.lines.proofs.Names.{InSix, in_six}
 use Rattle.listing.specs.Lines.{WritesLine}
 use Rattle.listing.proofs.Laws.{empty_line}
 use Rattle.plates.specs.declared.Plate.{Plate}
-use Rattle.plates.specs.declared.Plated.TheVariants.{Counted, Refused}
 use Rattle.plates.specs.Hops.{plate_in}
 use Rattle.plate_lines.specs.Plate.{line_with, line_in}
+use Rattle.std.specs.Prelude.{Ok, Err}
+use Rattle.refusals.specs.declared.Refusal.{Refusal}
 
 module _ (ws : List ℕ) (at w : ℕ) (word : w ≡ word_at ws at) where
   pub dead_line : (buf : List ℕ) → deleted_of w ≡ 1 → WritesLine 175 buf (line_in ws at) buf 0
@@ -32,14 +28,10 @@ module _ (ws : List ℕ) (at w : ℕ) (word : w ≡ word_at ws at) where
         go (suc zero) e l = absurd (live e)
         go (suc (suc d)) e l = absurd (omega arith)
 
-    pub other_line : (buf : List ℕ) (n p : ℕ) → plate_in ws at ≡ Refused n p → WritesLine 175 buf (line_in ws at) buf 0
+    pub other_line : (buf : List ℕ) (refusal : Refusal) → plate_in ws at ≡ Err refusal → WritesLine 175 buf (line_in ws at) buf 0
     unfolding line_in
-    other_line buf n p q = rw (← word, eq-eqb (deleted_of w) 0 clear, q) (empty_line 175 buf)
+    other_line buf refusal q = rw (← word, eq-eqb (deleted_of w) 0 clear, q) (empty_line 175 buf)
 
-    pub cell_line : (plate : Plate) → plate_in ws at ≡ Counted plate → line_in ws at ≡ line_with at plate
+    pub cell_line : (plate : Plate) → plate_in ws at ≡ Ok plate → line_in ws at ≡ line_with at plate
     unfolding line_in
     cell_line plate q = rw (← word, eq-eqb (deleted_of w) 0 clear, q) refl
-
--- the letters of a name can be lent
-pub name_fits : (u : Unpacked) (a b n : ℕ) → u ≡ unpacked a b → n ≡ text_length u.answer → n ≤ length u.letters
-name_fits u a b n e l = let six = subst InSix (sym e) (in_six a b) in omega (arith, six.0, six.1)

@@ -6,16 +6,17 @@ ghost use Rattle.words.specs.Words.{words};
 ghost use Rattle.listing.specs.Lines.{WritesLine};
 ghost use Rattle.plate_lines.specs.Plate.{line_with, line_in};
 
-use plates::{Plate, Plated};
+use plates::Plate;
 
 // The line of the cell at a place with a plate.
 fn line_with(at: usize, plate: Plate, buf: &mut [u8]) -> usize
     ensures { WritesLine 175 buf.old (line_with at plate) buf.new result }
 {
     let name = names::unpack(plate.first, plate.second);
-    let answer = name.answer;
-    let letters = name.letters;
-    let length = lines::text_length(answer);
+    let letters = match &name {
+        Ok(text) => &text.letters[..text.length],
+        Err(_) => &[],
+    };
     listing::plate_line(
         buf,
         at,
@@ -26,7 +27,7 @@ fn line_with(at: usize, plate: Plate, buf: &mut [u8]) -> usize
         plate.headers,
         plate.others,
         plate.levels,
-        &letters[..length],
+        letters,
     )
 }
 
@@ -39,10 +40,7 @@ pub fn line(file: &[u8], at: usize, buf: &mut [u8]) -> usize
         return 0;
     }
     match plates::plate_in(file, at) {
-        Plated::Counted { plate } => line_with(at, plate, buf),
-        Plated::Refused {
-            number: _,
-            place: _,
-        } => 0,
+        Ok(plate) => line_with(at, plate, buf),
+        Err(_) => 0,
     }
 }

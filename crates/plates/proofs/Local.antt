@@ -7,6 +7,7 @@ use mathlib.Core.List.{List, [], ◌∷◌}
 use native.Mathlib.Omega.{arith}
 use lib.ListN.{length, take, drop, length-drop}
 use lib.Seq.{get_or-take, get_or-drop, length-take-le}
+use Rattle.std.specs.Prelude.{Ok}
 use Rattle.words.specs.Words.{words, word_at}
 use Rattle.kinds.specs.FirstWord.{type_of, bit}
 use Rattle.kinds.specs.Kinds.{is_pointed, is_curve, is_header, name_word}
@@ -17,7 +18,6 @@ use Rattle.finder.specs.Finder.{is_live}
 use Rattle.promises.specs.Components.{place_if, direct_places, Behind}
 use Rattle.promises.proofs.Promises.{words_part, extent_two, place_found, components_are}
 use Rattle.plates.specs.declared.Plate.{Plate}
-use Rattle.plates.specs.declared.Plated.TheVariants.{Counted}
 use Rattle.plates.specs.Kinds.{is_line, is_text, is_other}
 use Rattle.plates.specs.Plates.{live_among, live_direct, count_of, levels_at, plate_on, plate_of}
 use Rattle.plates.specs.Promises.{PlateLocal}
@@ -129,7 +129,7 @@ record Held (dim : ℕ) (s : List ℕ) (at : ℕ) : Type 0 where
   bytes : words (extent_bytes dim s at) ≡ take n (drop at (words s))
   components : Behind (words s) (at + size_at (words s) at) (direct_places (spots_of dim (words s)) at) (at + n)
 
-held : (dim : ℕ) (s : List ℕ) (at : ℕ) (a : Plate) → plate_of dim s at ≡ Counted a → Held dim s at
+held : (dim : ℕ) (s : List ℕ) (at : ℕ) (a : Plate) → plate_of dim s at ≡ Ok a → Held dim s at
 unfolding extent_bytes extent_answer
 held dim s at a q =
     let c = cell_of dim s at a q in

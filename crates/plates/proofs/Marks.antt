@@ -10,6 +10,7 @@ use native.Mathlib.Omega.{arith}
 use lib.Seq.{ext_get_or}
 use lib.Dec.{eqb}
 use borrow.Author.Tests.{eqb-true, eq-eqb, ne_eqb}
+use Rattle.std.specs.Prelude.{Ok}
 use Rattle.words.specs.Words.{word_at, Below}
 use Rattle.kinds.specs.FirstWord.{type_of, deleted_of}
 use Rattle.kinds.specs.Kinds.{is_cell, name_word}
@@ -25,7 +26,6 @@ use Rattle.edits.specs.Marks.{MarkedIn, after_mark}
 use Rattle.promises.specs.Components.{FoundAt, is_under, place_if, direct_places, Behind, Composed}
 use Rattle.promises.proofs.Promises.{extent_two, place_found, components_are, made_exactly, mark_marks, mark_judged, mark_elements}
 use Rattle.plates.specs.declared.Plate.{Plate}
-use Rattle.plates.specs.declared.Plated.TheVariants.{Counted}
 use Rattle.plates.specs.Kinds.{is_kind}
 use Rattle.plates.specs.Plates.{live_among, live_direct, count_of, levels_at, plate_on, plate_at, counts_of, plate_of}
 use Rattle.plates.specs.Promises.{OneMore, Lowered, MarkLowers}
@@ -143,7 +143,7 @@ was_live fine w e = go (eqb (deleted_of w) 0) e
     go false e = let z : ◌≡◌ {A = ℕ} 0 1 = cc in absurd (omega arith)
 
 module _ (dim : ℕ) (s : Session) (p h : ℕ) (x : Spot) (plate : Plate) (below : Below 256 s.file) (made : was_refused (step dim s (mark_call p true)).answer ≡ false)
-    (found : spot_in (spots_of dim (words_of s)) p ≡ some x) (under : x.header ≡ some h) (counted : plate_of dim (used_bytes s) h ≡ Counted plate) where
+    (found : spot_in (spots_of dim (words_of s)) p ≡ some x) (under : x.header ≡ some h) (counted : plate_of dim (used_bytes s) h ≡ Ok plate) where
   abbrev ws : List ℕ
   ws = words_of s
 
@@ -243,7 +243,7 @@ module _ (dim : ℕ) (s : Session) (p h : ℕ) (x : Spot) (plate : Plate) (below
   unfolding levels_at
   levels_same = rw (own_same 22 (omega arith), own_same 23 (omega arith), own_same 24 (omega arith), own_same 25 (omega arith)) refl
 
-  now_counted : plate_of dim (used_bytes (after_mark dim s p true)) h ≡ Counted (plate_at dim vs h)
+  now_counted : plate_of dim (used_bytes (after_mark dim s p true)) h ≡ Ok (plate_at dim vs h)
   now_counted =
       (plate_given dim (used_bytes (after_mark dim s p true)) h there.elements there.deepest there.marker there.spot (mark_judged dim s p true below made ∙ there.judged)
       (ap (λ ys. spot_in ys h) (mark_elements dim s p true below made) ∙ there.is)).cell (ap is_cell type_same ∙ cell.cell)

@@ -7,6 +7,8 @@ use native.Mathlib.Omega.{arith}
 use lib.ListN.{length}
 use lib.Dec.{ltb}
 use borrow.Author.Tests.{ltb-true}
+use Rattle.std.specs.Prelude.{Ok}
+use Rattle.refusals.specs.Refusals.{refused_with}
 use Rattle.words.specs.Words.{words, Below}
 use Rattle.kinds.specs.FirstWord.{bit}
 use Rattle.kinds.specs.Kinds.{is_pointed, is_curve, is_header, is_cell, name_word}
@@ -15,7 +17,6 @@ use Rattle.finder.specs.Finder.{is_live}
 use Rattle.promises.specs.Components.{place_if}
 use Rattle.promises.proofs.Promises.{words_below, extent_two, extent_small}
 use Rattle.plates.specs.declared.Plate.{Plate}
-use Rattle.plates.specs.declared.Plated.TheVariants.{Counted, Refused}
 use Rattle.plates.specs.Kinds.{is_line, is_text, is_other}
 use Rattle.plates.specs.Plates.{live_among, count_of, plate_numbers}
 use Rattle.plates.specs.Hops.{hops_from, hops, hops_under, plate_here, plate_in}
@@ -76,11 +77,11 @@ module _ (s : List ℕ) (below : Below 256 s) (at : ℕ) where
   here_within (suc (suc (suc (suc (suc (suc (suc (suc zero)))))))) = let l = levels_most (words s) at in omega arith
   here_within (suc (suc (suc (suc (suc (suc (suc (suc (suc k))))))))) = omega arith
 
-  pub in_within : (a : Plate) → plate_in (words s) at ≡ Counted a → Below 65536 (plate_numbers a)
+  pub in_within : (a : Plate) → plate_in (words s) at ≡ Ok a → Below 65536 (plate_numbers a)
   unfolding plate_in
   in_within a q = go (is_cell (type_at (words s) at)) q
     where
-      go : (b : Bool) → cond b (Counted (plate_here (words s) at)) (Refused 18 0) ≡ Counted a → Below 65536 (plate_numbers a)
+      go : (b : Bool) → cond b (Ok (plate_here (words s) at)) (refused_with 18 0) ≡ Ok a → Below 65536 (plate_numbers a)
       go true q = let e : plate_here (words s) at ≡ a = cc in subst (λ p. Below 65536 (plate_numbers p)) e here_within
       go false q = let z : ◌≡◌ {A = ℕ} 0 1 = cc in absurd (omega arith)
 

@@ -1,6 +1,8 @@
 -- The plate of the cell at a place of words that were judged: its direct components are gone over by their extents alone, each of which
 -- leads to the next one. What stands under a component is not looked at.
-use Rattle.std.specs.Prelude.{ℕ, zero, suc, ◌+◌, ◌-◌, min, ◌≡◌, List, [], ◌∷◌, cond, length, get_or, eqb, ltb}
+use Rattle.std.specs.Prelude.{ℕ, zero, suc, ◌+◌, ◌-◌, min, ◌≡◌, List, [], ◌∷◌, cond, length, get_or, eqb, ltb, Ok, Result}
+use Rattle.refusals.specs.Refusals.{refused_with}
+use Rattle.refusals.specs.declared.Refusal.{Refusal}
 use Rattle.words.specs.Words.{word_at}
 use Rattle.kinds.specs.FirstWord.{type_of, deleted_of, bit}
 use Rattle.kinds.specs.Kinds.{is_pointed, is_curve, is_header, is_cell}
@@ -8,8 +10,6 @@ use Rattle.headers.specs.Header.{type_at, size_at, extent_words}
 use Rattle.plates.specs.Kinds.{is_line, is_text}
 use Rattle.plates.specs.Plates.{live_among, plate_on}
 use Rattle.plates.specs.declared.Plate.{Plate}
-use Rattle.plates.specs.declared.Plated.{Plated}
-use Rattle.plates.specs.declared.Plated.TheVariants.{Counted, Refused}
 
 -- the places from one on, each behind the extent of the one before, up to an end; an extent has two words at least, so the first number
 -- is enough where it is above the words between
@@ -28,8 +28,8 @@ abbrev pub plate_here : List ℕ → ℕ → Plate
 plate_here ws at = plate_on ws at (live_among ws (hops_under ws at))
 
 -- 18 where the element is no cell
-unfoldable pub plate_in : List ℕ → ℕ → Plated
-plate_in ws at = cond (is_cell (type_at ws at)) (Counted (plate_here ws at)) (Refused 18 0)
+unfoldable pub plate_in : List ℕ → ℕ → Result Plate Refusal
+plate_in ws at = cond (is_cell (type_at ws at)) (Ok (plate_here ws at)) (refused_with 18 0)
 
 ---- the private functions
 

@@ -1,20 +1,19 @@
 -- The plate of a cell (RULES.md, "Plates"): ws are the file's words, at is the cell's place.
-use Rattle.std.specs.Prelude.{ℕ, ◌+◌, List, [], ◌∷◌, Bool, cond}
+use Rattle.std.specs.Prelude.{ℕ, ◌+◌, List, [], ◌∷◌, Bool, cond, Err, Ok, Result}
 use Rattle.std.specs.Int.Count.{ones_in}
+use Rattle.refusals.specs.Refusals.{refused_with}
+use Rattle.refusals.specs.declared.Refusal.{Refusal}
 use Rattle.words.specs.Words.{words, word_at}
 use Rattle.kinds.specs.FirstWord.{bit}
 use Rattle.kinds.specs.Kinds.{is_pointed, is_curve, is_header, is_cell}
 use Rattle.headers.specs.Header.{type_at, name_first, name_second}
 use Rattle.files.specs.Spots.{spots_of}
 use Rattle.places.specs.Places.{spotted_at}
-use Rattle.places.specs.declared.Spotted.{Spotted}
-use Rattle.places.specs.declared.Spotted.TheVariants as spotted
 use Rattle.finder.specs.Finder.{is_live}
 use Rattle.promises.specs.Components.{place_if, direct_places}
 use Rattle.plates.specs.Kinds.{is_line, is_text, is_other}
 use Rattle.plates.specs.declared.Plate.{Plate}
-use Rattle.plates.specs.declared.Plated.{Plated}
-use Rattle.plates.specs.declared.Plated.TheVariants.{Counted, Refused}
+use Rattle.places.specs.declared.Spotted.{Spotted}
 
 -- those of some elements, by their places, that are live: deleted ones are told by their own flag
 abbrev pub live_among : List ℕ → List ℕ → List ℕ
@@ -60,9 +59,9 @@ abbrev pub plate_numbers : Plate → List ℕ
 plate_numbers p = p.first ∷ p.second ∷ p.lines ∷ p.pointed ∷ p.texts ∷ p.curves ∷ p.headers ∷ p.others ∷ p.levels ∷ []
 
 -- the call: 1, the file's own refusals, 13 where no element starts at the place, 18 at 0 where it is no cell
-abbrev pub plate_by : Spotted → Bool → Plate → Plated
-plate_by (spotted.Refused n p) cell plate = Refused n p
-plate_by (spotted.At end depth above) cell plate = cond cell (Counted plate) (Refused 18 0)
+abbrev pub plate_by : Result Spotted Refusal → Bool → Plate → Result Plate Refusal
+plate_by (Err refusal) cell plate = Err refusal
+plate_by (Ok spot) cell plate = cond cell (Ok plate) (refused_with 18 0)
 
-unfoldable pub plate_of : ℕ → List ℕ → ℕ → Plated
+unfoldable pub plate_of : ℕ → List ℕ → ℕ → Result Plate Refusal
 plate_of dim s at = plate_by (spotted_at dim s at) (is_cell (type_at (words s) at)) (plate_at dim (words s) at)

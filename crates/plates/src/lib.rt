@@ -10,7 +10,8 @@ ghost use Rattle.words.specs.Words.{words, word_at};
 ghost use Rattle.plates.specs.Plates.{levels_at, plate_of};
 ghost use Rattle.plates.specs.Hops.{kind_of, slot_of, Tallies, plate_here, plate_in};
 
-use places::{Spotted, spotted_at};
+use places::spotted_at;
+use refusals::Refusal;
 
 // A cell's plate: the two words of its name; how many of its direct components are live and lines, of types 4, 6, 11 or 21,
 // texts, ellipses or arcs, headers, and of other types; how many levels are set.
@@ -25,12 +26,6 @@ pub struct Plate {
     pub headers: usize,
     pub others: usize,
     pub levels: usize,
-}
-
-#[derive(Clone, Copy)]
-pub enum Plated {
-    Counted { plate: Plate },
-    Refused { number: usize, place: usize },
 }
 
 // The number of a type's kind, 0 to 5.
@@ -120,36 +115,22 @@ fn plate_here(file: &[u8], at: usize) -> Plate
 }
 
 // The same of the element that starts at a place of a judged file; 18 where it is no cell.
-pub fn plate_in(file: &[u8], at: usize) -> Plated
+pub fn plate_in(file: &[u8], at: usize) -> Result<Plate, Refusal>
     ensures { result ≡ plate_in (words file.now) at }
 {
     if !cells::is_cell(file, at) {
-        return Plated::Refused {
+        return Err(Refusal {
             number: 18,
             place: 0,
-        };
+        });
     }
-    Plated::Counted {
-        plate: plate_here(file, at),
-    }
+    Ok(plate_here(file, at))
 }
 
 // The plate of the cell at a place of a file: 1, the file's own refusals, 13, then 18.
-pub fn plate_at(file: &[u8], dim: usize, place: usize) -> Plated
+pub fn plate_at(file: &[u8], dim: usize, place: usize) -> Result<Plate, Refusal>
     ensures { result ≡ plate_of dim file.now place }
 {
-    match spotted_at(file, dim, place) {
-        Spotted::At {
-            end: _,
-            depth: _,
-            above: _,
-        } => plate_in(file, place),
-        Spotted::Refused {
-            number,
-            place: fault,
-        } => Plated::Refused {
-            number,
-            place: fault,
-        },
-    }
+    spotted_at(file, dim, place)?;
+    plate_in(file, place)
 }

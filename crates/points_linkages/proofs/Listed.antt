@@ -20,11 +20,11 @@ use Rattle.elements.specs.Attributes.{has_attributes, attributes_ok, linkages_ok
 use Rattle.elements.proofs.Laws.{Checked}
 use Rattle.files.specs.Judge.{judge_of}
 use Rattle.files.specs.Spots.{Spot, spots_of, spot_in}
-use Rattle.files.specs.declared.Judged.TheVariants.{Accepted}
 use Rattle.places.proofs.Places.{spot_rules, spotted_found}
-use Rattle.points_linkages.specs.declared.Attribute.TheVariants as attribute
 use Rattle.points_linkages.specs.Linkages.{attribute_by, linkage_of}
 use Rattle.points_linkages.specs.Listed.{ByNumber}
+use Rattle.files.specs.Accepted.{accepted_with}
+use Rattle.refusals.specs.Refusals.{refused_with}
 
 -- an element that passes its tests and has attributes: linkages fill its attribute part
 part_filled : {dim depth under : ℕ} (ws : List ℕ) (at : ℕ) → Checked dim depth under ws at (length ws) → has_attributes ws at ≡ true →
@@ -41,7 +41,7 @@ part_filled {dim = dim} ws at c h =
     fill_listed ws (at + part) (at + size) (omega arith) (omega arith) inside.1
 
 -- the call for linkage k gives the k-th of them
-pub by_number : (dim : ℕ) (s : List ℕ) (place e d m : ℕ) (x : Spot) → judge_of dim s ≡ Accepted e d m → spot_in (spots_of dim (words s)) place ≡ some x →
+pub by_number : (dim : ℕ) (s : List ℕ) (place e d m : ℕ) (x : Spot) → judge_of dim s ≡ accepted_with e d m → spot_in (spots_of dim (words s)) place ≡ some x →
     has_attributes (words s) place ≡ true → ByNumber dim s place
 unfolding linkage_of
 by_number dim s place e d m x j q h =
@@ -53,7 +53,7 @@ by_number dim s place e d m x j q h =
     }
 
 -- with A clear, or of a type that has no attributes, there are none
-pub no_linkages : (dim : ℕ) (s : List ℕ) (place e d m : ℕ) (x : Spot) → judge_of dim s ≡ Accepted e d m → spot_in (spots_of dim (words s)) place ≡ some x →
-    has_attributes (words s) place ≡ false → (k : ℕ) → linkage_of dim s place k ≡ attribute.Refused 13 0
+pub no_linkages : (dim : ℕ) (s : List ℕ) (place e d m : ℕ) (x : Spot) → judge_of dim s ≡ accepted_with e d m → spot_in (spots_of dim (words s)) place ≡ some x →
+    has_attributes (words s) place ≡ false → (k : ℕ) → linkage_of dim s place k ≡ refused_with 13 0
 unfolding linkage_of
 no_linkages dim s place e d m x j q h k = rw (spotted_found dim s place e d m j, q, h)

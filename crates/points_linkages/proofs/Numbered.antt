@@ -23,12 +23,12 @@ use Rattle.elements.specs.Attributes.{has_attributes}
 use Rattle.limits.specs.Limits.{call_ok}
 use Rattle.limits.proofs.Dimensions.{by_dims, call_dims}
 use Rattle.places.specs.declared.Above.{Above}
-use Rattle.places.specs.declared.Spotted.TheVariants as spotted
-use Rattle.points_linkages.specs.declared.Point.TheVariants as point
-use Rattle.points_linkages.specs.declared.Attribute.TheVariants as attribute
 use Rattle.places.specs.Places.{spotted_at}
 use Rattle.points_linkages.specs.Points.{point_count, before_points, point_at, point_of}
 use Rattle.points_linkages.specs.Linkages.{attribute_by, linkage_of}
+use Rattle.places.specs.Spotted.{spotted_with}
+use Rattle.points_linkages.specs.PointAnswers.{flat_point, solid_point}
+use Rattle.refusals.specs.Refusals.{refused_with}
 
 ---- a point
 
@@ -41,11 +41,11 @@ kept s b i r e =
     ap (λ z. to_z w64 (of_z w64 z)) e ∙ to_z-of_z w64 _ (record { sfits = omega (arith, signed_small _ n) })
 
 module _ (s : List ℕ) (b : Below 256 s) (dim q : ℕ) (x y : ℤ) (ex : x ≡ signed (long_at (words s) q)) (ey : y ≡ signed (long_at (words s) (q + 2))) where
-  pub point_flat : dim ≡ 2 → point.Flat (to_z w64 (of_z w64 x)) (to_z w64 (of_z w64 y)) ≡ point_at dim (words s) q
+  pub point_flat : dim ≡ 2 → flat_point (to_z w64 (of_z w64 x)) (to_z w64 (of_z w64 y)) ≡ point_at dim (words s) q
   point_flat e = rw (eq-eqb dim 2 e, kept s b q x ex, kept s b (q + 2) y ey)
 
   pub point_solid : dim ≢ 2 → (z : ℤ) → z ≡ signed (long_at (words s) (q + 4)) →
-      point.Solid (to_z w64 (of_z w64 x)) (to_z w64 (of_z w64 y)) (to_z w64 (of_z w64 z)) ≡ point_at dim (words s) q
+      solid_point (to_z w64 (of_z w64 x)) (to_z w64 (of_z w64 y)) (to_z w64 (of_z w64 z)) ≡ point_at dim (words s) q
   point_solid e z ez = rw (ne_eqb dim 2 e, kept s b q x ex, kept s b (q + 2) y ey, kept s b (q + 4) z ez)
 
 ---- by number
@@ -82,14 +82,14 @@ point_small s l dim at k n b o e h f =
     let t = stride dim s o k in
     (omega arith, t.0, omega arith)
 
-module _ (dim : ℕ) (s : List ℕ) (at k end depth : ℕ) (above : Above) (found : spotted_at dim s at ≡ spotted.At end depth above) where
+module _ (dim : ℕ) (s : List ℕ) (at k end depth : ℕ) (above : Above) (found : spotted_at dim s at ≡ spotted_with end depth above) where
   module _ (n : ℕ) (count : n ≡ point_count (words s) at) where
     pub point_there : (b : ℕ) → b ≡ before_points (words s) at → k < n → point_at dim (words s) (at + b + 2 * dim * k) ≡ point_of dim s at k
     unfolding point_of
     point_there b e h =
         rw (found, lt-ltb k (point_count (words s) at) (rw count at h)) (ap (λ m. point_at dim (words s) (at + m + 2 * dim * k)) e)
 
-    pub point_none : n ≤ k → point.Refused 13 0 ≡ point_of dim s at k
+    pub point_none : n ≤ k → refused_with 13 0 ≡ point_of dim s at k
     unfolding point_of
     point_none h = rw (found, le-ltb k (point_count (words s) at) (rw count at h))
 
@@ -98,6 +98,6 @@ module _ (dim : ℕ) (s : List ℕ) (at k end depth : ℕ) (above : Above) (foun
   unfolding linkage_of
   linkage_there h w z e f = rw (found, h, e, f)
 
-  pub linkage_none : has_attributes (words s) at ≡ false → attribute.Refused 13 0 ≡ linkage_of dim s at k
+  pub linkage_none : has_attributes (words s) at ≡ false → refused_with 13 0 ≡ linkage_of dim s at k
   unfolding linkage_of
   linkage_none h = rw (found, h)

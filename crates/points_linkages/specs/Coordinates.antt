@@ -1,15 +1,16 @@
 -- Coordinates one after another: of points, as the calls for one point give them, and as signed longs of a file's words.
-use Rattle.std.specs.Prelude.{ℕ, zero, suc, ◌+◌, List, [], ◌∷◌, ◌++◌, ℤ}
+use Rattle.std.specs.Prelude.{ℕ, zero, suc, ◌+◌, List, [], ◌∷◌, ◌++◌, ℤ, Err, Ok, Result}
 use Rattle.words.specs.Words.{long_at, signed}
-use Rattle.points_linkages.specs.declared.Point.{Point}
 use Rattle.points_linkages.specs.declared.Point.TheVariants as point
 use Rattle.points_linkages.specs.Points.{point_of}
+use Rattle.points_linkages.specs.declared.Point.{Point}
+use Rattle.refusals.specs.declared.Refusal.{Refusal}
 
 -- the coordinates of a point
-abbrev pub coordinates : Point → List ℤ
-coordinates (point.Flat x y) = x ∷ y ∷ []
-coordinates (point.Solid x y z) = x ∷ y ∷ z ∷ []
-coordinates (point.Refused n p) = []
+abbrev pub coordinates : Result Point Refusal → List ℤ
+coordinates (Ok (point.Flat x y)) = x ∷ y ∷ []
+coordinates (Ok (point.Solid x y z)) = x ∷ y ∷ z ∷ []
+coordinates (Err refusal) = []
 
 -- the coordinates of n points from number k on, one call for each
 unfoldable pub points_from : ℕ → ℕ → ℕ → List ℕ → ℕ → List ℤ

@@ -14,19 +14,4 @@ pub use points::{before_points, point_at, point_count};
 pub enum Point {
     Flat { x: i64, y: i64 },
     Solid { x: i64, y: i64, z: i64 },
-    Refused { number: usize, place: usize },
-}
-
-#[derive(Clone, Copy)]
-pub enum Attribute {
-    At {
-        user: bool,
-        place: usize,
-        size: usize,
-        id: usize,
-    },
-    Refused {
-        number: usize,
-        place: usize,
-    },
 }

@@ -4,7 +4,8 @@ ghost use Rattle.words.specs.Words.{words};
 ghost use Rattle.points_linkages.specs.Points.{point_count, before_points, point_at, point_of};
 
 use super::Point;
-use places::{Spotted, spotted_at};
+use places::spotted_at;
+use refusals::Refusal;
 
 // How many points the element at a place has.
 pub fn point_count(file: &[u8], at: usize) -> usize
@@ -34,44 +35,30 @@ pub fn before_points(file: &[u8], at: usize) -> usize
 }
 
 // The point whose first word is at a place.
-fn point_from(file: &[u8], dim: usize, first: usize) -> Point
+fn point_from(file: &[u8], dim: usize, first: usize) -> Result<Point, Refusal>
     requires { first + 4 < 2 ^ 64 }
     ensures { result ≡ point_at dim (words file.now) first }
 {
     let x = words::signed_long(file, first);
     let y = words::signed_long(file, first + 2);
     if dim == 2 {
-        return Point::Flat { x, y };
+        return Ok(Point::Flat { x, y });
     }
     let z = words::signed_long(file, first + 4);
-    Point::Solid { x, y, z }
+    Ok(Point::Solid { x, y, z })
 }
 
 // Point k, from 0, of the element at a place.
-pub fn point_at(file: &[u8], dim: usize, place: usize, k: usize) -> Point
+pub fn point_at(file: &[u8], dim: usize, place: usize, k: usize) -> Result<Point, Refusal>
     ensures { result ≡ point_of dim file.now place k }
 {
-    match spotted_at(file, dim, place) {
-        Spotted::At {
-            end: _,
-            depth: _,
-            above: _,
-        } => {
-            if k < point_count(file, place) {
-                let first = place + before_points(file, place) + 2 * dim * k;
-                return point_from(file, dim, first);
-            }
-            Point::Refused {
-                number: 13,
-                place: 0,
-            }
-        }
-        Spotted::Refused {
-            number,
-            place: fault,
-        } => Point::Refused {
-            number,
-            place: fault,
-        },
+    spotted_at(file, dim, place)?;
+    if k < point_count(file, place) {
+        let first = place + before_points(file, place) + 2 * dim * k;
+        return point_from(file, dim, first);
     }
+    Err(Refusal {
+        number: 13,
+        place: 0,
+    })
 }

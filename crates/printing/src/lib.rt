@@ -7,6 +7,8 @@
 
 ghost use Rattle.std.specs.Prelude.{◌≤◌, length};
 
+use files::Accepted;
+use refusals::Refusal;
 use std::io::Read;
 
 // What a listing has lines of.
@@ -89,25 +91,18 @@ fn put_end(listed: Listed, marker: usize, part: &mut [u8], n: usize) -> usize
 }
 
 // The line of a refused file; false where it is not written.
-fn print_refused(out: &impl Print, number: usize, place: usize) -> bool {
+fn print_refused(out: &impl Print, refusal: Refusal) -> bool {
     let mut line = [0u8; 128];
-    let n = listing::refused_line(&mut line, number, place);
+    let n = listing::refused_line(&mut line, refusal.number, refusal.place);
     print(out, &line, n)
 }
 
 // The heading, the lines of an accepted file, and the last line; false where not all of them are written.
-fn print_lines(
-    out: &impl Print,
-    listed: Listed,
-    file: &[u8],
-    elements: usize,
-    marker: usize,
-) -> bool {
+fn print_lines(out: &impl Print, listed: Listed, file: &[u8], accepted: Accepted) -> bool {
     let mut part = [0u8; PART];
     let mut n = put_heading(listed, &mut part);
     let mut w = walking::start();
-    let mut k = 0;
-    while k < elements {
+    for _ in 0..accepted.elements {
         let next = next_line(n);
         if !print_full(out, &part, n, next) {
             return false;
@@ -116,25 +111,20 @@ fn print_lines(
         let depth = w.depth;
         n = put_line(listed, file, at, depth, &mut part, next);
         w = walking::next(file, w);
-        k += 1;
     }
     let next = next_line(n);
     if !print_full(out, &part, n, next) {
         return false;
     }
-    let n = put_end(listed, marker, &mut part, next);
+    let n = put_end(listed, accepted.marker, &mut part, next);
     print(out, &part, n)
 }
 
 // The listing of a file, which is judged once; false where not all of it is written.
 fn print_file(out: &impl Print, listed: Listed, file: &[u8]) -> bool {
     match files::judge(file, 2) {
-        files::Judged::Refused { number, place } => print_refused(out, number, place),
-        files::Judged::Accepted {
-            elements,
-            deepest: _,
-            marker,
-        } => print_lines(out, listed, file, elements, marker),
+        Ok(accepted) => print_lines(out, listed, file, accepted),
+        Err(refusal) => print_refused(out, refusal),
     }
 }
 
@@ -186,7 +176,11 @@ pub fn list_input<R: Read>(
         }
         Ok(_) => {
             if n == 65536 {
-                report(errors, program, print_refused(out, 1, 0));
+                let refusal = Refusal {
+                    number: 1,
+                    place: 0,
+                };
+                report(errors, program, print_refused(out, refusal));
                 return;
             }
         }

@@ -11,6 +11,7 @@ use native.Mathlib.Omega.{arith}
 use lib.ListN.{length}
 use lib.Dec.{eqb, ltb}
 use borrow.Author.Tests.{eqb-true, eqb-false, eq-eqb, ne_eqb, ltb-true, ltb-false}
+use Rattle.refusals.proofs.Laws.{given_is}
 use Rattle.words.specs.Words.{words}
 use Rattle.headers.specs.Header.{type_at, size_at, extent_words}
 use Rattle.elements.proofs.Laws.{fixed_least}
@@ -184,5 +185,5 @@ pub place_found : PlaceFound
 place_found dim s at end depth above q =
     let g = found_there dim s at end depth above q in
     let y = spotted_found dim s at g.elements g.deepest g.marker g.judged ∙ ap found_by g.is in
-    let z : g.spot.end ≡ end = cc in
+    let z = ap (λ r. r.end) (given_is (sym y ∙ q)) in
     record { elements = g.elements; deepest = g.deepest; marker = g.marker; judged = g.judged; spot = g.spot; is = g.is; ends = z }

@@ -2,16 +2,17 @@
 -- behind another, each with its extent, from the end of its own words to the end of its extent.
 use Rattle.std.specs.Prelude.{ℕ, ◌+◌, ◌≤◌, ◌≡◌, Bool, true, false, List, [], ◌∷◌, length, eqb}
 use Rattle.std.proofs.Math.Option.{Option, none, some}
+use Rattle.refusals.specs.Refusals.{refused_with}
 use Rattle.words.specs.Words.{words}
 use Rattle.kinds.specs.Kinds.{fixed_part}
 use Rattle.headers.specs.Header.{type_at, size_at, sizing_at, extent_words}
 use Rattle.files.specs.Judge.{judge_of}
 use Rattle.files.specs.Refused.{RefusedBy}
 use Rattle.files.specs.Spots.{Spot, spots_of, spot_in}
-use Rattle.files.specs.declared.Judged.TheVariants.{Accepted}
+use Rattle.files.specs.Accepted.{accepted_with}
 use Rattle.places.specs.Places.{spotted_at}
 use Rattle.places.specs.declared.Above.{Above}
-use Rattle.places.specs.declared.Spotted.TheVariants as spotted
+use Rattle.places.specs.Spotted.{spotted_with}
 
 ---- an element that a call at a place finds
 
@@ -19,18 +20,18 @@ pub record FoundAt (dim : ℕ) (s : List ℕ) (at end : ℕ) : Type 0 where
   pub elements : ℕ
   pub deepest : ℕ
   pub marker : ℕ
-  pub judged : judge_of dim s ≡ Accepted elements deepest marker
+  pub judged : judge_of dim s ≡ accepted_with elements deepest marker
   pub spot : Spot
   pub is : spot_in (spots_of dim (words s)) at ≡ some spot
   pub ends : spot.end ≡ end
 
 -- the file is accepted, and it is one of its elements
 abbrev pub PlaceFound : Type 0
-PlaceFound = (dim : ℕ) (s : List ℕ) (at end depth : ℕ) (above : Above) → spotted_at dim s at ≡ spotted.At end depth above → FoundAt dim s at end
+PlaceFound = (dim : ℕ) (s : List ℕ) (at end depth : ℕ) (above : Above) → spotted_at dim s at ≡ spotted_with end depth above → FoundAt dim s at end
 
 -- where none is found, the file's own refusals, else 13 at 0
 abbrev pub PlaceRefused : Type 0
-PlaceRefused = (dim : ℕ) (s : List ℕ) (at n p : ℕ) → spotted_at dim s at ≡ spotted.Refused n p → RefusedBy dim s (13 ∷ []) n p
+PlaceRefused = (dim : ℕ) (s : List ℕ) (at n p : ℕ) → spotted_at dim s at ≡ refused_with n p → RefusedBy dim s (13 ∷ []) n p
 
 ---- its words and its direct components
 
@@ -64,5 +65,5 @@ pub record Composed (dim : ℕ) (ws : List ℕ) (at : ℕ) (x : Spot) : Type 0 w
 
 abbrev pub ComponentsAre : Type 0
 ComponentsAre =
-    (dim : ℕ) (s : List ℕ) (e d m at : ℕ) (x : Spot) → judge_of dim s ≡ Accepted e d m → spot_in (spots_of dim (words s)) at ≡ some x →
+    (dim : ℕ) (s : List ℕ) (e d m at : ℕ) (x : Spot) → judge_of dim s ≡ accepted_with e d m → spot_in (spots_of dim (words s)) at ≡ some x →
     Composed dim (words s) at x

@@ -16,24 +16,25 @@ use Rattle.headers.specs.Header.{type_at}
 use Rattle.places.specs.Places.{spotted_at}
 use Rattle.places.specs.OfType.{of_place, TypeRefused}
 use Rattle.places.specs.declared.Above.{Above}
-use Rattle.places.specs.declared.Spotted.{Spotted}
-use Rattle.places.specs.declared.Spotted.TheVariants as spotted
 use Rattle.places.proofs.Places.{spotted_inside}
 use Rattle.places.proofs.Refusals.{spotted_refused}
 use Rattle.places.proofs.OfType.{Way, nowhere, another, of_type_lem, way}
 use Rattle.views.specs.Views.{range_of, element_view, view_by, view_of}
 use Rattle.views.specs.declared.Element.{Element}
-use Rattle.views.specs.declared.Range.{Range}
-use Rattle.views.specs.declared.Range.TheVariants as range
-use Rattle.views.specs.declared.View.TheVariants as view
-use Rattle.views.specs.declared.View.TheVariants.{Seen}
 use Rattle.points_linkages.specs.Points.{point_count, before_points, point_at, point_of}
-use Rattle.points_linkages.specs.declared.Point.{Point}
 use Rattle.points_linkages.specs.declared.Point.TheVariants as point
 use Rattle.points_linkages.proofs.Numbered.{point_there, point_none}
-use Rattle.range_checks.specs.declared.InRange.TheVariants.{Yes, No, Refused}
 use Rattle.range_checks.specs.InRange.{is_range_checked, between, lies_in, point_words, each_lies, in_range, in_range_in, in_range_of}
 use Rattle.range_checks.specs.Exactly.{Between, Lies, YesExactly, NoExactly, OtherExactly, UnseenRefused, RangeRefused}
+use Rattle.std.specs.Prelude.{Err, None, Ok, Option, Result, Some}
+use Rattle.places.specs.Spotted.{spotted_with}
+use Rattle.places.specs.declared.Spotted.{Spotted}
+use Rattle.points_linkages.specs.PointAnswers.{flat_point, solid_point}
+use Rattle.points_linkages.specs.declared.Point.{Point}
+use Rattle.refusals.specs.Refusals.{refused_with}
+use Rattle.refusals.proofs.Laws.{refused_is, given_is, refusal_is, refused_not_given, given_not_refused}
+use Rattle.refusals.specs.declared.Refusal.{Refusal}
+use Rattle.views.specs.declared.Range.{Range}
 
 ---- one point
 
@@ -52,39 +53,39 @@ between_is low high z =
     )
 
 -- a point that stands in the file
-abbrev IsPoint : Point → Type 0
-IsPoint (point.Flat x y) = Unit {0}
-IsPoint (point.Solid x y z) = Unit {0}
-IsPoint (point.Refused n p) = ⊥
+abbrev IsPoint : Result Point Refusal → Type 0
+IsPoint (Ok (point.Flat x y)) = Unit {0}
+IsPoint (Ok (point.Solid x y z)) = Unit {0}
+IsPoint (Err refusal) = ⊥
 
-lies_is : (r : Range) (p : Point) → IsPoint p → (lies_in r p ≡ true) ↔ Lies r p
-lies_is range.Absent (point.Flat x y) i = (λ e. false≢true e, λ l. absurd l)
-lies_is range.Absent (point.Solid x y z) i = (λ e. false≢true e, λ l. absurd l)
-lies_is range.Absent (point.Refused n p) i = absurd i
-lies_is (range.Longs a b c d e f) (point.Flat x y) i =
-    let both = and-eq-true_iff (between a d x) (between b e y) in (
-      λ q. ((between_is a d x).0 (both.0 q).0, (between_is b e y).0 (both.0 q).1),
-      λ l. both.1 ((between_is a d x).1 l.0, (between_is b e y).1 l.1),
+lies_is : (r : Option Range) (p : Result Point Refusal) → IsPoint p → (lies_in r p ≡ true) ↔ Lies r p
+lies_is None (Ok (point.Flat x y)) i = (λ e. false≢true e, λ l. absurd l)
+lies_is None (Ok (point.Solid x y z)) i = (λ e. false≢true e, λ l. absurd l)
+lies_is None (Err refusal) i = absurd i
+lies_is (Some range) (Ok (point.Flat x y)) i =
+    let both = and-eq-true_iff (between range.low_x range.high_x x) (between range.low_y range.high_y y) in (
+      λ q. ((between_is range.low_x range.high_x x).0 (both.0 q).0, (between_is range.low_y range.high_y y).0 (both.0 q).1),
+      λ l. both.1 ((between_is range.low_x range.high_x x).1 l.0, (between_is range.low_y range.high_y y).1 l.1),
     )
-lies_is (range.Longs a b c d e f) (point.Solid x y z) i =
-    let both = and-eq-true_iff (between a d x) (between b e y && between c f z) in
-    let rest = and-eq-true_iff (between b e y) (between c f z) in (
-      λ q. ((between_is a d x).0 (both.0 q).0, ((between_is b e y).0 (rest.0 (both.0 q).1).0, (between_is c f z).0 (rest.0 (both.0 q).1).1)),
-      λ l. both.1 ((between_is a d x).1 l.0, rest.1 ((between_is b e y).1 l.1.0, (between_is c f z).1 l.1.1)),
+lies_is (Some range) (Ok (point.Solid x y z)) i =
+    let both = and-eq-true_iff (between range.low_x range.high_x x) (between range.low_y range.high_y y && between range.low_z range.high_z z) in
+    let rest = and-eq-true_iff (between range.low_y range.high_y y) (between range.low_z range.high_z z) in (
+      λ q. ((between_is range.low_x range.high_x x).0 (both.0 q).0, ((between_is range.low_y range.high_y y).0 (rest.0 (both.0 q).1).0, (between_is range.low_z range.high_z z).0 (rest.0 (both.0 q).1).1)),
+      λ l. both.1 ((between_is range.low_x range.high_x x).1 l.0, rest.1 ((between_is range.low_y range.high_y y).1 l.1.0, (between_is range.low_z range.high_z z).1 l.1.1)),
     )
-lies_is (range.Longs a b c d e f) (point.Refused n p) i = absurd i
+lies_is (Some range) (Err refusal) i = absurd i
 
 is_point : (dim : ℕ) (ws : List ℕ) (q : ℕ) → IsPoint (point_at dim ws q)
 is_point dim ws q = go (eqb dim 2)
   where
     go : (b : Bool) →
-        IsPoint (cond b (point.Flat (signed (long_at ws q)) (signed (long_at ws (q + 2)))) (point.Solid (signed (long_at ws q)) (signed (long_at ws (q + 2))) (signed (long_at ws (q + 4)))))
+        IsPoint (cond b (flat_point (signed (long_at ws q)) (signed (long_at ws (q + 2)))) (solid_point (signed (long_at ws q)) (signed (long_at ws (q + 2))) (signed (long_at ws (q + 4)))))
     go true = tt
     go false = tt
 
 ---- all points
 
-module _ (r : Range) (dim : ℕ) (ws : List ℕ) where
+module _ (r : Option Range) (dim : ℕ) (ws : List ℕ) where
   -- where point k stands, and the point behind it
   abbrev place : ℕ → ℕ → ℕ
   place q k = q + point_words dim * k
@@ -128,21 +129,21 @@ record SeenAt (dim : ℕ) (s : List ℕ) (at : ℕ) (e : Element) : Type 0 where
   end : ℕ
   depth : ℕ
   above : Above
-  found : spotted_at dim s at ≡ spotted.At end depth above
+  found : spotted_at dim s at ≡ spotted_with end depth above
   kind : type_at (words s) at ≡ e.kind
   range : range_of (words s) at ≡ e.range
 
-seen_at : (dim : ℕ) (s : List ℕ) (at : ℕ) (e : Element) → view_of dim s at ≡ Seen e → SeenAt dim s at e
+seen_at : (dim : ℕ) (s : List ℕ) (at : ℕ) (e : Element) → view_of dim s at ≡ Ok e → SeenAt dim s at e
 unfolding view_of element_view
 seen_at dim s at e v = go (spotted_at dim s at) refl v
   where
-    go : (o : Spotted) → spotted_at dim s at ≡ o → view_by o (words s) at ≡ Seen e → SeenAt dim s at e
-    go (spotted.Refused n p) f q = let z : ◌≡◌ {A = ℕ} 0 1 = cc in absurd (omega arith)
-    go (spotted.At end depth above) f q =
-        let is : element_view (words s) at depth above ≡ e = cc in
-        record { end = end; depth = depth; above = above; found = f; kind = ap (λ x. x.kind) is; range = ap (λ x. x.range) is }
+    go : (o : Result Spotted Refusal) → spotted_at dim s at ≡ o → view_by o (words s) at ≡ Ok e → SeenAt dim s at e
+    go (Err refusal) f q = absurd (given_not_refused q)
+    go (Ok spot) f q =
+        let is : element_view (words s) at spot.depth spot.above ≡ e = given_is q in
+        record { end = spot.end; depth = spot.depth; above = spot.above; found = f; kind = ap (λ x. x.kind) is; range = ap (λ x. x.range) is }
 
-module _ (dim : ℕ) (s : List ℕ) (at : ℕ) {end depth : ℕ} {above : Above} (found : spotted_at dim s at ≡ spotted.At end depth above) where
+module _ (dim : ℕ) (s : List ℕ) (at : ℕ) {end depth : ℕ} {above : Above} (found : spotted_at dim s at ≡ spotted_with end depth above) where
   abbrev count : ℕ
   count = point_count (words s) at
 
@@ -156,75 +157,75 @@ module _ (dim : ℕ) (s : List ℕ) (at : ℕ) {end depth : ℕ} {above : Above}
       let stride : first + 2 * dim * k ≡ first + point_words dim * k = by_dims (λ d. first + 2 * d * k ≡ first + point_words d * k) dim dims refl refl in
       sym (point_there dim s at k end depth above found count refl (before_points (words s) at) refl h) ∙ ap (point_at dim (words s)) stride
 
-  lies_at : (r : Range) (k : ℕ) → k < count → (lies_in r (point_at dim (words s) (first + point_words dim * k)) ≡ true) ↔ Lies r (point_of dim s at k)
+  lies_at : (r : Option Range) (k : ℕ) → k < count → (lies_in r (point_at dim (words s) (first + point_words dim * k)) ≡ true) ↔ Lies r (point_of dim s at k)
   lies_at r k h =
       let q = first + point_words dim * k in
       subst (λ p. (lies_in r (point_at dim (words s) (first + point_words dim * k)) ≡ true) ↔ Lies r p) (sym (point_is k h)) (lies_is r (point_at dim (words s) q) (is_point dim (words s) q))
 
   -- of a number that has no point nothing is said
-  lies_none : (r : Range) (k : ℕ) → count ≤ k → Lies r (point_of dim s at k)
+  lies_none : (r : Option Range) (k : ℕ) → count ≤ k → Lies r (point_of dim s at k)
   lies_none r k h = subst (Lies r) (point_none dim s at k end depth above found count refl h) (go r)
     where
-      go : (r : Range) → Lies r (point.Refused 13 0)
-      go range.Absent = tt
-      go (range.Longs a b c d e f) = tt
+      go : (r : Option Range) → Lies r (refused_with 13 0)
+      go None = tt
+      go (Some range) = tt
 
-  abbrev all : Range → Bool
+  abbrev all : Option Range → Bool
   all r = each_lies count r dim (words s) first
 
-  all_yes : (r : Range) → all r ≡ true → (k : ℕ) → Lies r (point_of dim s at k)
+  all_yes : (r : Option Range) → all r ≡ true → (k : ℕ) → Lies r (point_of dim s at k)
   all_yes r e k = go (ltb k count) refl
     where
       go : (b : Bool) → ltb k count ≡ b → Lies r (point_of dim s at k)
       go true q = let h = ltb-true k count q in (lies_at r k h).0 (each_true r dim (words s) count first e k h)
       go false q = lies_none r k (ltb-false k count q)
 
-  all_no : (r : Range) → all r ≡ false → (k : ℕ) × (Lies r (point_of dim s at k) → ⊥)
+  all_no : (r : Option Range) → all r ≡ false → (k : ℕ) × (Lies r (point_of dim s at k) → ⊥)
   all_no r e =
       let l = each_false r dim (words s) count first e in
       (l.0, λ lies. false≢true (sym l.2 ∙ (lies_at r l.0 l.1).1 lies))
 
 ---- the call
 
-module _ (dim : ℕ) (s : List ℕ) (at : ℕ) (e : Element) (v : view_of dim s at ≡ Seen e) where
+module _ (dim : ℕ) (s : List ℕ) (at : ℕ) (e : Element) (v : view_of dim s at ≡ Ok e) where
   seen : SeenAt dim s at e
   seen = seen_at dim s at e v
 
   abbrev lie : Bool
   lie = all dim s at seen.found e.range
 
-  answered : (k : Bool) → is_range_checked e.kind ≡ k → (t : Bool) → lie ≡ t → in_range_of dim s at ≡ cond k (cond t Yes No) (Refused 6 at)
+  answered : (k : Bool) → is_range_checked e.kind ≡ k → (t : Bool) → lie ≡ t → in_range_of dim s at ≡ cond k (Ok t) (refused_with 6 at)
   unfolding in_range_of in_range_in in_range
   answered k q t l =
       rw (seen.found, ap is_range_checked seen.kind ∙ q)
-      (ap (λ r. cond k (cond (all dim s at seen.found r) Yes No) (Refused 6 at)) seen.range ∙ ap (λ b. cond k (cond b Yes No) (Refused 6 at)) l)
+      (ap (λ r. cond k (Ok (all dim s at seen.found r)) (refused_with 6 at)) seen.range ∙ ap (λ b. cond k (Ok b) (refused_with 6 at)) l)
 
   module _ (k : is_range_checked e.kind ≡ true) where
-    yes : (in_range_of dim s at ≡ Yes) ↔ ((k : ℕ) → Lies e.range (point_of dim s at k))
+    yes : (in_range_of dim s at ≡ (Ok true)) ↔ ((k : ℕ) → Lies e.range (point_of dim s at k))
     yes = go lie refl
       where
-        go : (t : Bool) → lie ≡ t → (in_range_of dim s at ≡ Yes) ↔ ((k : ℕ) → Lies e.range (point_of dim s at k))
+        go : (t : Bool) → lie ≡ t → (in_range_of dim s at ≡ (Ok true)) ↔ ((k : ℕ) → Lies e.range (point_of dim s at k))
         go true l = (λ q. all_yes dim s at seen.found e.range l, λ h. answered true k true l)
         go false l =
             let n = all_no dim s at seen.found e.range l in
             let a = answered true k false l in
-            (λ q. let z : ◌≡◌ {A = ℕ} 0 1 = cc in absurd (omega arith), λ h. absurd (n.1 (h n.0)))
+            (λ q. absurd (false≢true (given_is (sym a ∙ q))), λ h. absurd (n.1 (h n.0)))
 
-    no : (in_range_of dim s at ≡ No) ↔ ((k : ℕ) × (Lies e.range (point_of dim s at k) → ⊥))
+    no : (in_range_of dim s at ≡ (Ok false)) ↔ ((k : ℕ) × (Lies e.range (point_of dim s at k) → ⊥))
     no = go lie refl
       where
-        go : (t : Bool) → lie ≡ t → (in_range_of dim s at ≡ No) ↔ ((k : ℕ) × (Lies e.range (point_of dim s at k) → ⊥))
+        go : (t : Bool) → lie ≡ t → (in_range_of dim s at ≡ (Ok false)) ↔ ((k : ℕ) × (Lies e.range (point_of dim s at k) → ⊥))
         go true l =
             let a = answered true k true l in
-            (λ q. let z : ◌≡◌ {A = ℕ} 0 1 = cc in absurd (omega arith), λ h. absurd (h.1 (all_yes dim s at seen.found e.range l h.0)))
+            (λ q. absurd (false≢true (given_is (sym q ∙ a))), λ h. absurd (h.1 (all_yes dim s at seen.found e.range l h.0)))
         go false l = (λ q. all_no dim s at seen.found e.range l, λ h. answered true k false l)
 
-  other : (in_range_of dim s at ≡ Refused 6 at) ↔ (is_range_checked e.kind ≡ false)
+  other : (in_range_of dim s at ≡ refused_with 6 at) ↔ (is_range_checked e.kind ≡ false)
   other = go (is_range_checked e.kind) refl lie refl
     where
-      go : (k : Bool) → is_range_checked e.kind ≡ k → (t : Bool) → lie ≡ t → (in_range_of dim s at ≡ Refused 6 at) ↔ (is_range_checked e.kind ≡ false)
-      go true k true l = let a = answered true k true l in (λ q. let z : ◌≡◌ {A = ℕ} 0 1 = cc in absurd (omega arith), λ h. absurd (false≢true (sym h ∙ k)))
-      go true k false l = let a = answered true k false l in (λ q. let z : ◌≡◌ {A = ℕ} 0 1 = cc in absurd (omega arith), λ h. absurd (false≢true (sym h ∙ k)))
+      go : (k : Bool) → is_range_checked e.kind ≡ k → (t : Bool) → lie ≡ t → (in_range_of dim s at ≡ refused_with 6 at) ↔ (is_range_checked e.kind ≡ false)
+      go true k true l = let a = answered true k true l in (λ q. absurd (refused_not_given (sym a ∙ q)), λ h. absurd (false≢true (sym h ∙ k)))
+      go true k false l = let a = answered true k false l in (λ q. absurd (refused_not_given (sym a ∙ q)), λ h. absurd (false≢true (sym h ∙ k)))
       go false k t l = (λ q. k, λ h. answered false k t l)
 
 pub yes_exactly : YesExactly
@@ -242,16 +243,15 @@ pub unseen_refused : UnseenRefused
 unfolding view_of in_range_of
 unseen_refused dim s at n p v = go (spotted_at dim s at) v
   where
-    go : (x : Spotted) → view_by x (words s) at ≡ view.Refused n p → of_place Refused x (in_range_in dim (words s) at) ≡ Refused n p
-    go (spotted.Refused m q) e = cc
-    go (spotted.At end depth above) e = let z : ◌≡◌ {A = ℕ} 0 1 = cc in absurd (omega arith)
+    go : (x : Result Spotted Refusal) → view_by x (words s) at ≡ refused_with n p → of_place refused_with x (in_range_in dim (words s) at) ≡ refused_with n p
+    go (Err refusal) e = ap Err (refusal_is e)
+    go (Ok spot) e = absurd (refused_not_given e)
 
 pub in_range_refused : RangeRefused
 unfolding in_range_of in_range_in
-in_range_refused dim s at n p q = go (in_range dim (words s) at) (way is_range_checked Refused dim s at (cond (in_range dim (words s) at) Yes No) (Refused n p) q)
+in_range_refused dim s at n p q = go (way is_range_checked refused_with dim s at (Ok (in_range dim (words s) at)) (refused_with n p) q)
   where
-    go : (t : Bool) → Way is_range_checked Refused dim s at (cond t Yes No) (Refused n p) → TypeRefused is_range_checked dim s at n p
-    go t (nowhere m r e f) = inl (spotted_refused dim s at n p (cc))
-    go t (another end depth above e h f) = inr (record { number = cc; place = cc; end = end; depth = depth; above = above; found = e; other = h })
-    go true (of_type_lem end depth above e h f) = let z : ◌≡◌ {A = ℕ} 0 1 = cc in absurd (omega arith)
-    go false (of_type_lem end depth above e h f) = let z : ◌≡◌ {A = ℕ} 0 1 = cc in absurd (omega arith)
+    go : Way is_range_checked refused_with dim s at (Ok (in_range dim (words s) at)) (refused_with n p) → TypeRefused is_range_checked dim s at n p
+    go (nowhere m r e f) = inl (spotted_refused dim s at n p (e ∙ ap Err (refusal_is (sym f))))
+    go (another end depth above e h f) = let x = refused_is f in inr (record { number = x.0; place = x.1; end = end; depth = depth; above = above; found = e; other = h })
+    go (of_type_lem end depth above e h f) = absurd (given_not_refused f)

@@ -1,10 +1,11 @@
--- What the tests of the code say: two tests are `between`, three are a point in a range, and a turn of the loop is one point more.
+-- What the tests of the code say: two tests are `between`, three are a point in a range, and points by their numbers are those one behind another.
 use Prim.Native.Nat.{ℕ, zero, suc, ◌+◌, ◌-◌, ◌*◌, ◌≤◌, ◌<◌}
 use mathlib.Core.Path.{◌≡◌, refl, sym, ap, ◌∙◌}
 use mathlib.Core.Logic.{◌≢◌}
 use mathlib.Core.Bool.{Bool, true, false, cond, not, ◌&&◌, ◌||◌}
 use mathlib.Core.List.{List}
 use native.Mathlib.Omega.{arith}
+use Rattle.std.specs.List.{list_all, range_with_len}
 use lib.Dec.{eqb, leb, ltb}
 use lib.IntN.{ℤ, pos, negsuc}
 use lib.Signed.{mag, le_z, lt_z}
@@ -15,11 +16,12 @@ use mir.ValLaws.{to_z-of_z}
 use Rattle.words.specs.Words.{long_at, signed}
 use Rattle.headers.specs.Header.{type_at}
 use Rattle.views.specs.Views.{range_of}
-use Rattle.views.specs.declared.Range.{Range}
-use Rattle.views.specs.declared.Range.TheVariants as range
 use Rattle.points_linkages.specs.Points.{point_count, before_points, point_at}
-use Rattle.range_checks.specs.declared.InRange.TheVariants as answer
 use Rattle.range_checks.specs.InRange.{is_range_checked, between, lies_in, point_words, each_lies, in_range, in_range_in}
+use Rattle.std.specs.Prelude.{Ok, Option}
+use Rattle.refusals.specs.Refusals.{refused_with}
+use Rattle.views.specs.Range.{longs_with}
+use Rattle.views.specs.declared.Range.{Range}
 
 ---- a number between two
 
@@ -59,18 +61,18 @@ held low high z l h f w e q =
 
 -- its tests one after another; of a 2D file z is not asked
 lies_is : (dim : ℕ) (ws : List ℕ) (q : ℕ) (a b c d e f : ℤ) →
-    lies_in (range.Longs a b c d e f) (point_at dim ws q)
+    lies_in (longs_with a b c d e f) (point_at dim ws q)
     ≡ (between a d (signed (long_at ws q)) && (between b e (signed (long_at ws (q + 2))) && (eqb dim 2 || between c f (signed (long_at ws (q + 4))))))
 lies_is dim ws q a b c d e f = go (eqb dim 2) refl (between b e (signed (long_at ws (q + 2)))) refl
   where
     go : (t : Bool) → eqb dim 2 ≡ t → (y : Bool) → between b e (signed (long_at ws (q + 2))) ≡ y →
-        lies_in (range.Longs a b c d e f) (point_at dim ws q)
+        lies_in (longs_with a b c d e f) (point_at dim ws q)
         ≡ (between a d (signed (long_at ws q)) && (y && (t || between c f (signed (long_at ws (q + 4))))))
     go true e true m = rw (e, m) refl
     go true e false m = rw (e, m) refl
     go false e y m = rw (e, m) refl
 
-module _ (dim : ℕ) (ws : List ℕ) (q : ℕ) {a b c d e f : ℤ} {r : Range} (is : r ≡ range.Longs a b c d e f) where
+module _ (dim : ℕ) (ws : List ℕ) (q : ℕ) {a b c d e f : ℤ} {r : Option Range} (is : r ≡ longs_with a b c d e f) where
   lies : lies_in r (point_at dim ws q)
       ≡ (between a d (signed (long_at ws q)) && (between b e (signed (long_at ws (q + 2))) && (eqb dim 2 || between c f (signed (long_at ws (q + 4))))))
   lies = ap (λ s. lies_in s (point_at dim ws q)) is ∙ lies_is dim ws q a b c d e f
@@ -121,30 +123,31 @@ words_more dim (suc n) h = go (eqb dim 2)
     go true = omega arith
     go false = omega arith
 
--- the first of them decides, or the others do
-pub each_first : (n : ℕ) (r : Range) (dim : ℕ) (ws : List ℕ) (q : ℕ) → n ≢ 0 →
-    each_lies n r dim ws q ≡ (lies_in r (point_at dim ws q) && each_lies (n - 1) r dim ws (q + point_words dim))
-each_first zero r dim ws q h = absurd (h refl)
-each_first (suc n) r dim ws q h =
-    let z : n ≡ suc n - 1 = omega arith in ap (λ m. lies_in r (point_at dim ws q) && each_lies m r dim ws (q + point_words dim)) z
+-- each of n points from number k on
+each_from : (n k : ℕ) (r : Option Range) (dim : ℕ) (ws : List ℕ) (q : ℕ) →
+    each_lies n r dim ws (q + point_words dim * k) ≡ list_all (λ j. lies_in r (point_at dim ws (q + point_words dim * j))) (range_with_len k n)
+each_from zero k r dim ws q = refl
+each_from (suc n) k r dim ws q =
+    let next : q + point_words dim * k + point_words dim ≡ q + point_words dim * (k + 1) = grind (arith, words_more dim (k + 1) (λ e. omega arith)) in
+    ap (λ m. lies_in r (point_at dim ws (q + point_words dim * k)) && m) (ap (each_lies n r dim ws) next ∙ each_from n (k + 1) r dim ws q)
+
+pub each_numbered : (n : ℕ) (r : Option Range) (dim : ℕ) (ws : List ℕ) (q : ℕ) →
+    list_all (λ j. lies_in r (point_at dim ws (q + point_words dim * j))) (range_with_len 0 n) ≡ each_lies n r dim ws q
+each_numbered n r dim ws q =
+    let first : q + point_words dim * 0 ≡ q = omega arith in
+    sym (each_from n 0 r dim ws q) ∙ ap (each_lies n r dim ws) first
 
 ---- an element
 
 -- it is another type, or the points decide
 module _ (dim : ℕ) (ws : List ℕ) (at : ℕ) where
-  pub other_type : is_range_checked (type_at ws at) ≡ false → answer.Refused 6 at ≡ in_range_in dim ws at
+  pub other_type : is_range_checked (type_at ws at) ≡ false → refused_with 6 at ≡ in_range_in dim ws at
   unfolding in_range_in
   other_type e = rw e refl
 
-  module _ (e : is_range_checked (type_at ws at) ≡ true) (n b : ℕ) (r : Range) (count : n ≡ point_count ws at) (before : b ≡ before_points ws at) (own : r ≡ range_of ws at) where
-    answer_is : (t : Bool) → t ≡ each_lies n r dim ws (at + b) → cond t answer.Yes answer.No ≡ in_range_in dim ws at
+  module _ (e : is_range_checked (type_at ws at) ≡ true) (n b : ℕ) (r : Option Range) (count : n ≡ point_count ws at) (before : b ≡ before_points ws at) (own : r ≡ range_of ws at) where
+    pub answer_is : {t : Bool} → t ≡ each_lies n r dim ws (at + b) → Ok t ≡ in_range_in dim ws at
     unfolding in_range_in in_range
-    answer_is t q =
-        rw e (ap (λ x. cond x answer.Yes answer.No) (q ∙ ap (λ m. each_lies m r dim ws (at + b)) count ∙ ap (λ m. each_lies (point_count ws at) r dim ws (at + m)) before
+    answer_is q =
+        rw e (ap Ok (q ∙ ap (λ m. each_lies m r dim ws (at + b)) count ∙ ap (λ m. each_lies (point_count ws at) r dim ws (at + m)) before
         ∙ ap (λ s. each_lies (point_count ws at) s dim ws (at + before_points ws at)) own))
-
-    pub all_lie : {t : Bool} → t ≡ each_lies n r dim ws (at + b) → t ≡ true → answer.Yes ≡ in_range_in dim ws at
-    all_lie {t} q y = ap (λ x. cond x answer.Yes answer.No) (sym y) ∙ answer_is t q
-
-    pub not_all : {t : Bool} → t ≡ each_lies n r dim ws (at + b) → t ≡ false → answer.No ≡ in_range_in dim ws at
-    not_all {t} q y = ap (λ x. cond x answer.Yes answer.No) (sym y) ∙ answer_is t q

@@ -7,15 +7,9 @@ ghost use Rattle.words.specs.Words.{words, WordRead, long_at, signed};
 ghost use Rattle.points_linkages.specs.Points.{point_at};
 ghost use Rattle.range_checks.specs.InRange.{is_range_checked, between, point_words, lies_in, each_lies, in_range_in, in_range_of};
 
-use places::{Spotted, spotted_at};
+use places::spotted_at;
+use refusals::Refusal;
 use views::Range;
-
-#[derive(Clone, Copy)]
-pub enum InRange {
-    Yes,
-    No,
-    Refused { number: usize, place: usize },
-}
 
 // The types that are asked.
 fn is_range_checked(kind: usize) -> bool
@@ -68,88 +62,63 @@ fn point_words(dim: usize) -> usize
 }
 
 // Whether the point whose first word is at a place lies in a range. Where `known` holds its words are there.
-fn lies_at(file: &[u8], dim: usize, first: usize, known: bool, range: Range) -> bool
+fn lies_at(file: &[u8], dim: usize, first: usize, known: bool, range: Option<Range>) -> bool
     requires { (first + 5 < 2 ^ 64) × (known ≡ true → first + point_words dim ≤ length file.now / 2) }
     ensures { result ≡ lies_in range (point_at dim (words file.now) first) }
 {
-    match range {
-        Range::Absent => false,
-        Range::Longs {
-            low_x,
-            low_y,
-            low_z,
-            high_x,
-            high_y,
-            high_z,
-        } => {
-            if !between(low_x, high_x, known_signed(file, first, known)) {
-                return false;
-            }
-            if !between(low_y, high_y, known_signed(file, first + 2, known)) {
-                return false;
-            }
-            if dim == 2 {
-                return true;
-            }
-            between(low_z, high_z, known_signed(file, first + 4, known))
-        }
+    let Some(range) = range else {
+        return false;
+    };
+    if !between(range.low_x, range.high_x, known_signed(file, first, known)) {
+        return false;
     }
+    if !between(
+        range.low_y,
+        range.high_y,
+        known_signed(file, first + 2, known),
+    ) {
+        return false;
+    }
+    if dim == 2 {
+        return true;
+    }
+    between(
+        range.low_z,
+        range.high_z,
+        known_signed(file, first + 4, known),
+    )
 }
 
 // Whether n points, one behind another from a place on, lie in a range. Whether all their words are there is asked once: the
 // compiler then makes a loop without that test.
-fn each_lies(file: &[u8], dim: usize, first: usize, n: usize, range: Range) -> bool
+fn each_lies(file: &[u8], dim: usize, first: usize, n: usize, range: Option<Range>) -> bool
     requires { first + 6 * n + 6 < 2 ^ 64 }
     ensures { result ≡ each_lies n range dim (words file.now) first }
 {
     let stride = point_words(dim);
     let known = first + stride * n <= file.len() / 2;
-    let mut left = n;
-    let mut here = first;
-    while left != 0 {
-        if !lies_at(file, dim, here, known, range) {
-            return false;
-        }
-        here += stride;
-        left -= 1;
-    }
-    true
+    (0..n).all(|k| lies_at(file, dim, first + stride * k, known, range))
 }
 
 // Whether all points of the element at a place of a judged file lie in its range; 6 where its type is not asked.
-pub fn in_range_in(file: &[u8], dim: usize, at: usize) -> InRange
+pub fn in_range_in(file: &[u8], dim: usize, at: usize) -> Result<bool, Refusal>
     ensures { result ≡ in_range_in dim (words file.now) at }
 {
     if !is_range_checked(headers::type_at(file, at)) {
-        return InRange::Refused {
+        return Err(Refusal {
             number: 6,
             place: at,
-        };
+        });
     }
     let n = points_linkages::point_count(file, at);
     let first = at + points_linkages::before_points(file, at);
-    if each_lies(file, dim, first, n, views::range_at(file, at)) {
-        return InRange::Yes;
-    }
-    InRange::No
+    Ok(each_lies(file, dim, first, n, views::range_at(file, at)))
 }
 
 // Whether all points of the element at a place of a file lie in its range.
-pub fn in_range_at(file: &[u8], dim: usize, place: usize) -> InRange
+pub fn in_range_at(file: &[u8], dim: usize, place: usize) -> Result<bool, Refusal>
     ensures { result ≡ in_range_of dim file.now place }
 {
-    match spotted_at(file, dim, place) {
-        Spotted::At {
-            end: _,
-            depth: _,
-            above: _,
-        } => in_range_in(file, dim, place),
-        Spotted::Refused {
-            number,
-            place: fault,
-        } => InRange::Refused {
-            number,
-            place: fault,
-        },
-    }
+    spotted_at(file, dim, place)?;
+    in_range_in(file, dim, place)
 }

@@ -5,13 +5,13 @@ use mathlib.Core.List.{List}
 use native.Mathlib.Omega.{arith}
 use lib.ListN.{length, take, drop}
 use lib.Seq.{take_at}
+use Rattle.std.specs.Prelude.{Ok}
 use Rattle.words.specs.Words.{words, bytes, over}
 use Rattle.words.proofs.Laws.{length_bytes}
 use Rattle.headers.specs.Header.{size_at}
 use Rattle.grammar.proofs.Stands.{Stands}
 use Rattle.fields.proofs.Element.{Formed, length_of, formed}
 use Rattle.fields.proofs.Writable.{writable_none}
-use Rattle.writer.specs.declared.Written.TheVariants as written
 use Rattle.text_fields.proofs.Element as text
 use Rattle.text_fields.proofs.Writable as texts
 use Rattle.round_trips.specs.Parts.{Parts, with_points, with_text, fields_of, tail_of, size_by, fault_by}
@@ -64,6 +64,6 @@ rewrites dim s at p out r last g room wrote =
     let none : fault_by dim p (length out) ≡ 0 = m.fine (length out) (omega arith) in
     let l : length (bytes (words_by dim p)) ≡ 2 * g.element.size = let a = length_bytes own in let b = length_again g m in omega arith in
     record {
-      answer = w.answer ∙ rw none (ap written.Made (m.size ∙ size_seen g));
+      answer = w.answer ∙ rw none (ap Ok (m.size ∙ size_seen g));
       same = ap (take (2 * g.element.size)) (w.bytes ∙ rw none refl) ∙ take_at (bytes own) (drop (0 + length (bytes own)) out) (2 * g.element.size) l ∙ bytes_again g m;
     }

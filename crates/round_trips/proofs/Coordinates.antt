@@ -16,17 +16,17 @@ use Rattle.limits.proofs.Dimensions.{by_dims}
 use Rattle.words.specs.Words.{words, Below, long_at, signed, unsigned}
 use Rattle.words.proofs.Signed.{unsigned_signed}
 use Rattle.places.specs.declared.Above.{Above}
-use Rattle.places.specs.declared.Spotted.TheVariants as spotted
-use Rattle.points_linkages.specs.declared.Point.TheVariants as point
 use Rattle.places.specs.Places.{spotted_at}
 use Rattle.points_linkages.specs.Points.{point_count, before_points, point_place, point_at, point_of}
 use Rattle.points_linkages.specs.Coordinates.{coordinates, points_from}
 use Rattle.points_linkages.proofs.Numbered.{point_there, point_none}
 use Rattle.fields.specs.Words.{points_in}
+use Rattle.places.specs.Spotted.{spotted_with}
+use Rattle.refusals.specs.Refusals.{refused_with}
 use Rattle.round_trips.specs.Parts.{GivesPoints}
 use Rattle.round_trips.proofs.Spans.{LongsAt, longs_at_append, long_small}
 
-module _ (dim : ℕ) (s : List ℕ) (at : ℕ) {end depth : ℕ} {above : Above} (found : spotted_at dim s at ≡ spotted.At end depth above) (d : dim_ok dim ≡ true) where
+module _ (dim : ℕ) (s : List ℕ) (at : ℕ) {end depth : ℕ} {above : Above} (found : spotted_at dim s at ≡ spotted_with end depth above) (d : dim_ok dim ≡ true) where
   ---- one point
 
   point_in : (k : ℕ) → k < point_count (words s) at → point_of dim s at k ≡ point_at dim (words s) (point_place dim (words s) at k)
@@ -89,9 +89,9 @@ module _ (dim : ℕ) (s : List ℕ) (at : ℕ) {end depth : ℕ} {above : Above}
 
   module _ (points : List ℤ) (g : GivesPoints dim s at points) where
     -- a point that is there is no refusal
-    no_refusal : (q : ℕ) → point_at dim (words s) q ≡ point.Refused 13 0 → ⊥
+    no_refusal : (q : ℕ) → point_at dim (words s) q ≡ refused_with 13 0 → ⊥
     no_refusal q =
-        by_dims (λ m. point_at m (words s) q ≡ point.Refused 13 0 → ⊥) dim d
+        by_dims (λ m. point_at m (words s) q ≡ refused_with 13 0 → ⊥) dim d
         (λ e. let z : ◌≡◌ {A = ℕ} 0 1 = cc in omega arith) (λ e. let z : ◌≡◌ {A = ℕ} 0 1 = cc in omega arith)
 
     not_fewer : point_count (words s) at ≤ points_in dim points

@@ -9,6 +9,7 @@ use lib.ListN.{length}
 use lib.Dec.{eqb}
 use lib.IntN.{ℤ}
 use borrow.Author.Tests.{le-leb, eqb-true, eqb-false}
+use Rattle.std.proofs.lemmas.Option.{same_Some}
 use Rattle.words.specs.Words.{Below, word_at, long_at}
 use Rattle.ranges.specs.Ranges.{stored}
 use Rattle.ranges.proofs.Ranges.{coordinate_small, stored_coordinate}
@@ -18,12 +19,12 @@ use Rattle.kinds.specs.Kinds.{is_linked}
 use Rattle.headers.specs.Flags.{reserved_ok}
 use Rattle.grammar.proofs.Stands.{Stands, stands_nil, stands_join}
 use Rattle.places.specs.declared.Above.{Above}
-use Rattle.views.specs.declared.Range.TheVariants as range
-use Rattle.views.specs.declared.Display.TheVariants as display
 use Rattle.views.specs.Views.{coordinate_at, range_of, display_of, element_view}
 use Rattle.fields.specs.Words.{longs, first_word, range_coordinates, range_longs, symbology, display_words, header_words}
 use Rattle.fields.specs.declared.Fields.{Fields}
 use Rattle.fields.proofs.Bounds.{Coordinates, Bounds}
+use Rattle.views.specs.Display.{display_with}
+use Rattle.views.specs.Range.{longs_with}
 use Rattle.round_trips.specs.Parts.{Shows}
 use Rattle.round_trips.proofs.Spans.{stands_cons, stands_at, LongsAt, long_small, longs_stand}
 
@@ -61,21 +62,21 @@ pub record Shown (ws : List ℕ) (at : ℕ) (f : Fields) : Type 0 where
 
 pub range_there : (ws : List ℕ) (at : ℕ) → 14 ≤ size_at ws at →
     range_of ws at
-    ≡ range.Longs (coordinate_at ws (at + 2)) (coordinate_at ws (at + 4)) (coordinate_at ws (at + 6)) (coordinate_at ws (at + 8)) (coordinate_at ws (at + 10)) (coordinate_at ws (at + 12))
+    ≡ longs_with (coordinate_at ws (at + 2)) (coordinate_at ws (at + 4)) (coordinate_at ws (at + 6)) (coordinate_at ws (at + 8)) (coordinate_at ws (at + 10)) (coordinate_at ws (at + 12))
 unfolding range_of
 range_there ws at h = rw (le-leb 14 (size_at ws at) h) refl
 
 pub display_there : (ws : List ℕ) (at : ℕ) → is_linked (type_at ws at) ≡ true →
     display_of ws at
-    ≡ display.Words (word_at ws (at + 14)) (word_at ws (at + 15)) (word_at ws (at + 16)) (word_at ws (at + 17) % 8) (word_at ws (at + 17) / 8 % 32) (word_at ws (at + 17) / 256)
+    ≡ display_with (word_at ws (at + 14)) (word_at ws (at + 15)) (word_at ws (at + 16)) (word_at ws (at + 17) % 8) (word_at ws (at + 17) / 8 % 32) (word_at ws (at + 17) / 256)
 unfolding display_of
 display_there ws at k = rw k refl
 
 pub shown : (ws : List ℕ) (at depth : ℕ) (above : Above) (f : Fields) → is_linked (type_at ws at) ≡ true → 14 ≤ size_at ws at → Shows (element_view ws at depth above) f → Shown ws at f
 unfolding element_view
 shown ws at depth above f k h v =
-    let r = sym v.range ∙ range_there ws at h in
-    let d = sym (display_there ws at k) ∙ v.display in
+    let r = same_Some _ _ (sym v.range ∙ range_there ws at h) in
+    let d = same_Some _ _ (sym (display_there ws at k) ∙ v.display) in
     let place : (m n : ℕ) → m ≡ n → coordinate_at ws m ≡ coordinate_at ws n = λ m n e. ap (coordinate_at ws) e in
     record {
       level = v.level;
@@ -83,27 +84,27 @@ shown ws at depth above f k h v =
       kind = v.kind;
       deleted = v.deleted;
       range = (
-        cc,
+        ap (λ x. x.low_x) r,
         (
-          (cc) ∙ place (at + 4) (at + 2 + 2) (omega arith),
+          ap (λ x. x.low_y) r ∙ place (at + 4) (at + 2 + 2) (omega arith),
           (
-            (cc) ∙ place (at + 6) (at + 2 + 2 + 2) (omega arith),
+            ap (λ x. x.low_z) r ∙ place (at + 6) (at + 2 + 2 + 2) (omega arith),
             (
-              (cc) ∙ place (at + 8) (at + 2 + 2 + 2 + 2) (omega arith),
+              ap (λ x. x.high_x) r ∙ place (at + 8) (at + 2 + 2 + 2 + 2) (omega arith),
               (
-                (cc) ∙ place (at + 10) (at + 2 + 2 + 2 + 2 + 2) (omega arith),
-                ((cc) ∙ place (at + 12) (at + 2 + 2 + 2 + 2 + 2 + 2) (omega arith), tt),
+                ap (λ x. x.high_y) r ∙ place (at + 10) (at + 2 + 2 + 2 + 2 + 2) (omega arith),
+                (ap (λ x. x.high_z) r ∙ place (at + 12) (at + 2 + 2 + 2 + 2 + 2 + 2) (omega arith), tt),
               ),
             ),
           ),
         ),
       );
-      group = cc;
-      index = cc;
-      properties = cc;
-      style = cc;
-      weight = cc;
-      colour = cc;
+      group = ap (λ x. x.group) d;
+      index = ap (λ x. x.index) d;
+      properties = ap (λ x. x.properties) d;
+      style = ap (λ x. x.style) d;
+      weight = ap (λ x. x.weight) d;
+      colour = ap (λ x. x.colour) d;
     }
 
 ---- the words that are made of them

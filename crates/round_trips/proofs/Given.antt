@@ -12,6 +12,7 @@ use lib.Seq.{length-take-le}
 use lib.IntN.{pos}
 use lib.Dec.{eqb}
 use borrow.Author.Tests.{leb-true, eqb-true, eqb-false, eq-eqb, ne_eqb}
+use Rattle.std.specs.Prelude.{Err, None, Ok, Result, Some}
 use Rattle.limits.specs.Limits.{dim_ok}
 use Rattle.limits.proofs.Dimensions.{by_dims, call_dims}
 use Rattle.words.specs.Words.{words, word_at, long_at, signed, Below}
@@ -22,22 +23,17 @@ use Rattle.kinds.specs.Kinds.{is_linked, fixed_part}
 use Rattle.headers.specs.Header.{type_at, size_at}
 use Rattle.elements.proofs.Laws.{fixed_least, linked_size, text_part_is}
 use Rattle.files.specs.Judge.{judge_of}
-use Rattle.files.specs.declared.Judged.TheVariants.{Accepted}
 use Rattle.grammar.proofs.Exact.{accepted_is}
 use Rattle.places.specs.declared.Above.{Above}
-use Rattle.places.specs.declared.Spotted.TheVariants as spotted
 use Rattle.places.specs.Places.{spotted_at}
 use Rattle.places.specs.Extents.{extent_bytes}
 use Rattle.views.specs.Starts.{Accepts}
 use Rattle.views.specs.Views.{coordinate_at, element_view, view_of}
 use Rattle.views.specs.declared.Element.{Element}
-use Rattle.views.specs.declared.View.{View}
-use Rattle.views.specs.declared.View.TheVariants.{Seen, Refused}
 use Rattle.views.proofs.Starts.{view_accepts}
 use Rattle.points_linkages.specs.Points.{point_count, point_of}
 use Rattle.points_linkages.specs.Coordinates.{coordinates, points_from}
 use Rattle.points_linkages.proofs.Numbered.{point_none}
-use Rattle.text_views.specs.declared.Odd.TheVariants as odds
 use Rattle.turns.specs.Turns.{turn_at}
 use Rattle.text_views.specs.TextViews.{origin_at, odd_at, text_at, text_in, text_of, character_bytes, field_of}
 use Rattle.fields.specs.Words.{points_in}
@@ -47,6 +43,9 @@ use Rattle.fields.proofs.Bounds.{by_kinds}
 use Rattle.text_fields.specs.Words.{counts_of}
 use Rattle.text_fields.specs.Faults.{flat_ok, odd_ok}
 use Rattle.text_fields.specs.declared.Text.{Text}
+use Rattle.files.specs.Accepted.{accepted_with}
+use Rattle.places.specs.Spotted.{spotted_with}
+use Rattle.refusals.specs.declared.Refusal.{Refusal}
 use Rattle.round_trips.specs.Parts.{Parts, with_points, with_text, fields_of, tail_of, is_kind_of, Shows, GivesPoints, turn_read, origin_read, odd_read, triples_from, GivesText, GivesBody, tail_read}
 use Rattle.round_trips.specs.RoundTrip.{HasParts, EveryGiven}
 use Rattle.round_trips.proofs.Seen.{SeenAt, seen_at}
@@ -84,7 +83,7 @@ shows_fields ws at depth above k h =
 
 ---- the points
 
-module _ (dim : ℕ) (s : List ℕ) (at : ℕ) {end depth : ℕ} {above : Above} (found : spotted_at dim s at ≡ spotted.At end depth above) (d : dim_ok dim ≡ true) where
+module _ (dim : ℕ) (s : List ℕ) (at : ℕ) {end depth : ℕ} {above : Above} (found : spotted_at dim s at ≡ spotted_with end depth above) (d : dim_ok dim ≡ true) where
   -- n points have so many coordinates
   length_points : (n k : ℕ) → k + n ≤ point_count (words s) at → length (points_from n k dim s at) ≡ dim * n
   unfolding points_from
@@ -135,7 +134,7 @@ module _ (dim : ℕ) (ws : List ℕ) (at n : ℕ) (e : n ≡ text_bytes (counts_
   odd_shown = rw (← e) (go (eqb (n % 2) 1) refl)
     where
       go : (b : Bool) → eqb (n % 2) 1 ≡ b →
-          cond (eqb (n % 2) 0) odds.Absent (odds.Byte (byte_at ws at (first_character dim + n))) ≡ cond b (odds.Byte (cond b (byte_at ws at (first_character dim + n)) 0)) odds.Absent
+          cond (eqb (n % 2) 0) None (Some (byte_at ws at (first_character dim + n))) ≡ cond b (Some (cond b (byte_at ws at (first_character dim + n)) 0)) None
       go true q = let z = eqb-true (n % 2) 1 q in rw (ne_eqb (n % 2) 0 (λ y. omega arith)) refl
       go false q = let z = eqb-false (n % 2) 1 q in let l : n % 2 < 2 = omega arith in rw (eq-eqb (n % 2) 0 (omega arith)) refl
 
@@ -147,7 +146,7 @@ module _ (dim : ℕ) (ws : List ℕ) (at n : ℕ) (e : n ≡ text_bytes (counts_
       go true = refl
       go false = refl
 
-module _ (dim : ℕ) (s : List ℕ) (at : ℕ) {end depth : ℕ} {above : Above} (found : spotted_at dim s at ≡ spotted.At end depth above) (d : dim_ok dim ≡ true) (b : Below 256 s) (text : type_at (words s) at ≡ 17)
+module _ (dim : ℕ) (s : List ℕ) (at : ℕ) {end depth : ℕ} {above : Above} (found : spotted_at dim s at ≡ spotted_with end depth above) (d : dim_ok dim ≡ true) (b : Below 256 s) (text : type_at (words s) at ≡ 17)
     (inside : at + text_part dim (counts_at dim (words s) at) ≤ length (words s)) where
   length_characters : length (character_bytes dim s at) ≡ characters_in (counts_at dim (words s) at)
   unfolding text_part
@@ -200,7 +199,7 @@ module _ (dim : ℕ) (s : List ℕ) (at : ℕ) {end depth : ℕ} {above : Above}
 ---- the element
 
 -- what all parts of an element in an accepted file have in common
-module _ (dim : ℕ) (s : List ℕ) (at e d m : ℕ) (x : Element) (j : judge_of dim s ≡ Accepted e d m) (b : Below 256 s) (v : view_of dim s at ≡ Seen x) where
+module _ (dim : ℕ) (s : List ℕ) (at e d m : ℕ) (x : Element) (j : judge_of dim s ≡ accepted_with e d m) (b : Below 256 s) (v : view_of dim s at ≡ Ok x) where
   seen : SeenAt dim s at x
   seen = seen_at dim s at e d m x j v
 
@@ -253,11 +252,11 @@ module _ (dim : ℕ) (s : List ℕ) (at e d m : ℕ) (x : Element) (j : judge_of
 pub every_given : EveryGiven
 every_given dim s e d m x j b i k = go (view_of dim s x.place) refl ((view_accepts dim s x.place e d m j).0 (x, i, refl))
   where
-    by_kind : (y : Element) → view_of dim s x.place ≡ Seen y → (a t : Bool) → is_written (type_at (words s) x.place) ≡ a → eqb (type_at (words s) x.place) 17 ≡ t → (a || t) ≡ true → HasParts dim s x.place
+    by_kind : (y : Element) → view_of dim s x.place ≡ Ok y → (a t : Bool) → is_written (type_at (words s) x.place) ≡ a → eqb (type_at (words s) x.place) 17 ≡ t → (a || t) ≡ true → HasParts dim s x.place
     by_kind y q true t u w h = points_of dim s x.place e d m y j b q u
     by_kind y q false true u w h = text_of_lem dim s x.place e d m y j b q (eqb-true (type_at (words s) x.place) 17 w)
     by_kind y q false false u w h = absurd (false≢true h)
 
-    go : (v : View) → view_of dim s x.place ≡ v → Accepts v → HasParts dim s x.place
-    go (Seen y) q a = by_kind y q (is_written (type_at (words s) x.place)) (eqb (type_at (words s) x.place) 17) refl refl k
-    go (Refused n p) q a = absurd a
+    go : (v : Result Element Refusal) → view_of dim s x.place ≡ v → Accepts v → HasParts dim s x.place
+    go (Ok y) q a = by_kind y q (is_written (type_at (words s) x.place)) (eqb (type_at (words s) x.place) 17) refl refl k
+    go (Err refusal) q a = absurd a

@@ -16,7 +16,6 @@ use Rattle.kinds.specs.Kinds.{may_stand}
 use Rattle.files.specs.Spots.{Spot, spots_of, spot_in}
 use Rattle.grammar.proofs.Forest.{nil}
 use Rattle.grammar.proofs.Stands.{Stands}
-use Rattle.places.specs.declared.Spotted.TheVariants as spotted
 use Rattle.places.specs.Places.{above_of, found_by, spotted_at}
 use Rattle.places.specs.Extents.{extent_bytes}
 use Rattle.views.specs.Views.{element_view}
@@ -30,6 +29,7 @@ use Rattle.fields.specs.Words.{element_of}
 use Rattle.fields.specs.declared.Fields.{Fields}
 use Rattle.fields.proofs.Bounds.{both}
 use Rattle.fields.proofs.Element.{length_of}
+use Rattle.places.specs.Spotted.{spotted_with}
 use Rattle.round_trips.specs.Parts.{Parts, fields_of, tail_of, size_by, fault_by, linkage_by}
 use Rattle.round_trips.specs.RoundTrip.{under, Place, ReadBack, ReadsBack}
 use Rattle.round_trips.proofs.Own.{Owned, written_own}
@@ -79,7 +79,7 @@ module _ {dim : ℕ} {p : Parts} (m : Made dim p) where
       let file = accepted_bytes dim after m.dims (omega arith) i.kept in
       let x = i.spot in
       let stands : Stands (words_by dim p) at (words (bytes after)) = rw same i.stands in
-      let found : spotted_at dim (bytes after) at ≡ spotted.At x.end x.depth (above_of x.header) =
+      let found : spotted_at dim (bytes after) at ≡ spotted_with x.end x.depth (above_of x.header) =
       spotted_found dim (bytes after) at file.elements file.deepest file.marker file.judged ∙ ap found_by (ap (λ v. spot_in (spots_of dim v) at) same ∙ i.found) in
       record {
         file = file;

@@ -11,6 +11,7 @@ use lib.Dec.{eqb, leb}
 use lib.IntN.{ℤ}
 use lib.Signed.{mag}
 use borrow.Author.Tests.{le-leb, leb-true}
+use Rattle.std.specs.Prelude.{Ok}
 use Rattle.words.specs.Words.{words, bytes, Below, word_at, long_at}
 use Rattle.words.proofs.Laws.{length_words, length_bytes, bytes_words, bytes_append}
 use Rattle.ranges.specs.Ranges.{coordinate, stored}
@@ -22,11 +23,6 @@ use Rattle.headers.specs.Header.{type_at, size_at, attribute_part_at}
 use Rattle.kinds.specs.Kinds.{is_header, is_linked}
 use Rattle.grammar.proofs.Stands.{Stands, stands_word, stands_first, stands_right}
 use Rattle.places.specs.declared.Above.{Above}
-use Rattle.places.specs.declared.Spotted.TheVariants as spotted
-use Rattle.views.specs.declared.Range.TheVariants as range
-use Rattle.views.specs.declared.Display.TheVariants as display
-use Rattle.points_linkages.specs.declared.Attribute.TheVariants as attribute
-use Rattle.views.specs.declared.View.TheVariants.{Seen}
 use Rattle.places.specs.Places.{spotted_at}
 use Rattle.views.specs.Views.{coordinate_at, range_of, display_of, element_view, view_of}
 use Rattle.points_linkages.specs.Linkages.{attribute_by, linkage_of}
@@ -35,14 +31,18 @@ use Rattle.fields.specs.Faults.{tail_ok}
 use Rattle.fields.specs.declared.Fields.{Fields}
 use Rattle.fields.proofs.Bounds.{both, bounds}
 use Rattle.fields.proofs.Element.{front, front_tail, length_front, length_of, size_of_lem, kind_of, tail_right}
+use Rattle.places.specs.Spotted.{spotted_with}
+use Rattle.refusals.specs.Refusals.{refused_with}
+use Rattle.views.specs.Display.{display_with}
+use Rattle.views.specs.Range.{longs_with}
 use Rattle.round_trips.specs.Parts.{Shows, linkage_moved, linkage_by}
 use Rattle.round_trips.proofs.Own.{Owned, first_read, symbology_read}
 use Rattle.round_trips.proofs.Walks.{in_from, moved_by}
 
-same_range : {a b c d e f a' b' c' d' e' f' : ℤ} → a ≡ a' → b ≡ b' → c ≡ c' → d ≡ d' → e ≡ e' → f ≡ f' → range.Longs a b c d e f ≡ range.Longs a' b' c' d' e' f'
+same_range : {a b c d e f a' b' c' d' e' f' : ℤ} → a ≡ a' → b ≡ b' → c ≡ c' → d ≡ d' → e ≡ e' → f ≡ f' → longs_with a b c d e f ≡ longs_with a' b' c' d' e' f'
 same_range p q r s t u = cc
 
-same_display : {a b c d e f a' b' c' d' e' f' : ℕ} → a ≡ a' → b ≡ b' → c ≡ c' → d ≡ d' → e ≡ e' → f ≡ f' → display.Words a b c d e f ≡ display.Words a' b' c' d' e' f'
+same_display : {a b c d e f a' b' c' d' e' f' : ℕ} → a ≡ a' → b ≡ b' → c ≡ c' → d ≡ d' → e ≡ e' → f ≡ f' → display_with a b c d e f ≡ display_with a' b' c' d' e' f'
 same_display p q r s t u = cc
 
 long_whole : (v : ℕ) → 65536 * (v / 65536) + v % 65536 ≡ v
@@ -88,7 +88,7 @@ module _ {dim : ℕ} {f : Fields} {size : ℕ} {body tail : List ℕ} (o : Owned
   size_there : size_at ws at ≡ size
   size_there = ap (λ n. n + 2) (word_there 1 (omega arith)) ∙ size_of_lem o.formed
 
-  range_there : range_of ws at ≡ range.Longs f.low_x f.low_y f.low_z f.high_x f.high_y f.high_z
+  range_there : range_of ws at ≡ longs_with f.low_x f.low_y f.low_z f.high_x f.high_y f.high_z
   unfolding range_of header_words
   range_there =
       let l = o.formed.long in
@@ -104,7 +104,7 @@ module _ {dim : ℕ} {f : Fields} {size : ℕ} {body tail : List ℕ} (o : Owned
   linked_there : is_linked (type_at ws at) ≡ true
   linked_there = ap is_linked type_there ∙ o.formed.linked
 
-  display_there : display_of ws at ≡ display.Words f.group f.index f.properties f.style f.weight f.colour
+  display_there : display_of ws at ≡ display_with f.group f.index f.properties f.style f.weight f.colour
   unfolding display_of header_words
   display_there =
       let r = symbology_read o.formed in
@@ -169,8 +169,8 @@ module _ {dim : ℕ} {f : Fields} {size : ℕ} {body tail : List ℕ} (o : Owned
 
 module _ {dim : ℕ} {f : Fields} {size : ℕ} {body tail : List ℕ} (o : Owned dim f size body tail)
     (s : List ℕ) {at : ℕ} (stands : Stands (element_of f size body tail) at (words s))
-    {end depth : ℕ} {above : Above} (found : spotted_at dim s at ≡ spotted.At end depth above) where
-  pub seen : view_of dim s at ≡ Seen (element_view (words s) at depth above)
+    {end depth : ℕ} {above : Above} (found : spotted_at dim s at ≡ spotted_with end depth above) where
+  pub seen : view_of dim s at ≡ Ok (element_view (words s) at depth above)
   unfolding view_of
   seen = rw found refl
 
@@ -202,7 +202,7 @@ module _ {dim : ℕ} {f : Fields} {size : ℕ} {body tail : List ℕ} (o : Owned
   linkages_given k = rw (found, linked_there o stands, word_there o stands 16 (omega arith)) (go (eqb (f.properties / 2048 % 2) 1) refl)
     where
       go : (b : Bool) → eqb (f.properties / 2048 % 2) 1 ≡ b →
-          cond b (attribute_by (linkage_in (words s) (at + attribute_part_at (words s) at) (at + size_at (words s) at) k)) (attribute.Refused 13 0)
-          ≡ cond b (linkage_moved (at + (18 + length body)) (linkage_in (words tail) (16 + f.index - (18 + length body)) (length tail / 2) k)) (attribute.Refused 13 0)
+          cond b (attribute_by (linkage_in (words s) (at + attribute_part_at (words s) at) (at + size_at (words s) at) k)) (refused_with 13 0)
+          ≡ cond b (linkage_moved (at + (18 + length body)) (linkage_in (words tail) (16 + f.index - (18 + length body)) (length tail / 2) k)) (refused_with 13 0)
       go false e = refl
       go true e = walked e k

@@ -6,11 +6,11 @@ use mathlib.Core.Bool.{true}
 use mathlib.Core.List.{List, [], ◌∷◌}
 use lib.ListN.{length}
 use lib.IntN.{ℤ}
+use Rattle.std.specs.Prelude.{Result}
 use Rattle.words.specs.Words.{words, Below}
 use Rattle.limits.specs.Limits.{dim_ok}
 use Rattle.grammar.proofs.Stands.{Stands}
 use Rattle.places.specs.declared.Above.{Above}
-use Rattle.places.specs.declared.Spotted.TheVariants as spotted
 use Rattle.places.specs.Places.{spotted_at}
 use Rattle.fields.specs.Words.{size_of, point_words, element_of, element_words}
 use Rattle.fields.specs.Faults.{write_fault}
@@ -18,12 +18,13 @@ use Rattle.fields.specs.declared.Fields.{Fields}
 use Rattle.fields.proofs.Element.{length_body}
 use Rattle.fields.proofs.Writable.{writable, writable_none}
 use Rattle.writer.specs.Writing.{WritesBy}
-use Rattle.writer.specs.declared.Written.{Written}
 use Rattle.text_fields.specs.Words.{text_body, text_size, text_words}
 use Rattle.text_fields.specs.Faults.{text_fault}
 use Rattle.text_fields.specs.declared.Text.{Text}
 use Rattle.text_fields.proofs.Element as body
 use Rattle.text_fields.proofs.Writable as text
+use Rattle.places.specs.Spotted.{spotted_with}
+use Rattle.refusals.specs.declared.Refusal.{Refusal}
 use Rattle.round_trips.specs.Parts.{Parts, with_points, with_text, fields_of, tail_of, tail_place, size_by, fault_by, GivesBody}
 use Rattle.round_trips.specs.RoundTrip.{Longs, Handed, WritesParts}
 use Rattle.round_trips.proofs.Own.{Owned, written_below}
@@ -48,7 +49,7 @@ pub record Made (dim : ℕ) (p : Parts) : Type 0 where
   pub below : Below 65536 (words_by dim p)
   pub tail_bytes : Below 256 (tail_of p)
   pub fine : (room : ℕ) → 2 * size_by dim p ≤ room → fault_by dim p room ≡ 0
-  pub gives : (s : List ℕ) (at end depth : ℕ) (above : Above) → Below 256 s → spotted_at dim s at ≡ spotted.At end depth above → Stands (words_by dim p) at (words s) → GivesBody dim s at p
+  pub gives : (s : List ℕ) (at end depth : ℕ) (above : Above) → Below 256 s → spotted_at dim s at ≡ spotted_with end depth above → Stands (words_by dim p) at (words s) → GivesBody dim s at p
 
 made_points : (dim : ℕ) (f : Fields) (ps : List ℤ) (tail : List ℕ) → Longs ps → Below 256 tail → write_fault dim f ps tail (2 * size_of dim f ps tail) ≡ 0 → Made dim (with_points f ps tail)
 made_points dim f ps tail l b none =
@@ -87,7 +88,7 @@ made dim (with_text f t characters triples tail) h =
     made_text dim f t characters triples tail h.coordinates b.0 b.1.0 b.1.1 h.not_refused
 
 -- the call writes these words
-pub writes_by : (dim : ℕ) (p : Parts) (out : List ℕ) (r : Written) (last : List ℕ) → WritesParts dim p out r last →
+pub writes_by : (dim : ℕ) (p : Parts) (out : List ℕ) (r : Result ℕ Refusal) (last : List ℕ) → WritesParts dim p out r last →
     WritesBy (fault_by dim p (length out)) (size_by dim p) (words_by dim p) out r last
 unfolding element_words text_words
 writes_by dim (with_points f ps tail) out r last w = w

@@ -13,8 +13,6 @@ use Rattle.headers.specs.Header.{type_at}
 use Rattle.kinds.specs.Kinds.{is_pointed}
 use Rattle.grammar.proofs.Stands.{Stands, stands_left, stands_right}
 use Rattle.places.specs.declared.Above.{Above}
-use Rattle.places.specs.declared.Spotted.TheVariants as spotted
-use Rattle.points_linkages.specs.declared.Point.TheVariants as point
 use Rattle.places.specs.Places.{spotted_at}
 use Rattle.points_linkages.specs.Points.{before_points, point_at, point_of, point_count}
 use Rattle.points_linkages.specs.Coordinates as numbers
@@ -26,6 +24,8 @@ use Rattle.limits.proofs.Dimensions.{by_dims}
 use Rattle.fields.proofs.Bounds.{by_kinds, count_whole}
 use Rattle.fields.proofs.Element.{length_header}
 use Rattle.fields.proofs.Writable.{Writable}
+use Rattle.places.specs.Spotted.{spotted_with}
+use Rattle.refusals.specs.Refusals.{refused_with}
 use Rattle.round_trips.specs.Parts.{GivesPoints}
 use Rattle.round_trips.specs.RoundTrip.{Longs}
 use Rattle.round_trips.proofs.OwnPoints.{owned_points}
@@ -67,12 +67,12 @@ module _ {dim : ℕ} {f : Fields} {ps : List ℤ} {tail : List ℕ} {room : ℕ}
 
 module _ {dim : ℕ} {f : Fields} {ps : List ℤ} {tail : List ℕ} {room : ℕ} (w : Writable dim f ps tail room)
     (s : List ℕ) {at : ℕ} (stands : Stands (element_of f (size_of dim f ps tail) (point_words dim f.kind ps) tail) at (words s))
-    {end depth : ℕ} {above : Above} (found : spotted_at dim s at ≡ spotted.At end depth above) where
+    {end depth : ℕ} {above : Above} (found : spotted_at dim s at ≡ spotted_with end depth above) where
   point_there : (k : ℕ) → k < points_in dim ps → point_of dim s at k ≡ point_at dim (words s) (at + before_points (words s) at + 2 * dim * k)
   unfolding point_of
   point_there k h = rw (found, count_there w stands, lt-ltb k (points_in dim ps) h) refl
 
-  no_point : point_of dim s at (points_in dim ps) ≡ point.Refused 13 0
+  no_point : point_of dim s at (points_in dim ps) ≡ refused_with 13 0
   unfolding point_of
   no_point = rw (found, count_there w stands, le-ltb (points_in dim ps) (points_in dim ps) (omega arith)) refl
 

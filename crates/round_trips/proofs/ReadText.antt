@@ -8,21 +8,21 @@ use native.Mathlib.Omega.{arith}
 use lib.ListN.{length, get_or, take, drop}
 use lib.Dec.{eqb}
 use borrow.Author.Tests.{eqb-true, eqb-false, eq-eqb, ne_eqb}
+use Rattle.std.specs.Prelude.{None, Some}
 use Rattle.words.specs.Words.{words, Below}
 use Rattle.words.proofs.Laws.{length_words}
 use Rattle.texts.specs.Texts.{byte_at, characters_in, fields_in, text_part, text_bytes, counts_at, first_character, field_byte}
 use Rattle.headers.specs.Header.{type_at}
 use Rattle.grammar.proofs.Stands.{Stands}
 use Rattle.places.specs.declared.Above.{Above}
-use Rattle.places.specs.declared.Spotted.TheVariants as spotted
 use Rattle.places.specs.Places.{spotted_at}
-use Rattle.text_views.specs.declared.Odd.TheVariants as odds
 use Rattle.text_views.specs.TextViews.{odd_at, text_at, text_in, text_of, field_of}
 use Rattle.fields.specs.Words.{element_of}
 use Rattle.fields.specs.declared.Fields.{Fields}
 use Rattle.text_fields.specs.Words.{text_body, text_size}
 use Rattle.text_fields.specs.declared.Text.{Text}
 use Rattle.text_fields.proofs.Element.{counted}
+use Rattle.places.specs.Spotted.{spotted_with}
 use Rattle.round_trips.specs.Parts.{odd_read, triples_from, GivesText}
 use Rattle.round_trips.specs.RoundTrip.{Longs}
 use Rattle.round_trips.proofs.TextNumbers.{numbers_read}
@@ -32,7 +32,7 @@ use Rattle.round_trips.proofs.OwnText.{TextCall, numbers_there, counts_there, en
 module _ {dim : ℕ} {f : Fields} {t : Text} {characters triples tail : List ℕ} (c : TextCall dim f t characters triples tail)
     (l : Longs (t.x ∷ t.y ∷ t.z ∷ [])) (p : Below 256 characters) (q : Below 256 triples) (s : List ℕ) (b : Below 256 s) {at : ℕ}
     (stands : Stands (element_of f (text_size dim characters triples tail) (text_body dim t characters triples) tail) at (words s))
-    {end depth : ℕ} {above : Above} (found : spotted_at dim s at ≡ spotted.At end depth above) (text : type_at (words s) at ≡ 17) where
+    {end depth : ℕ} {above : Above} (found : spotted_at dim s at ≡ spotted_with end depth above) (text : type_at (words s) at ≡ 17) where
   -- how many characters and how many bytes of fields there are, and that they end in the file
   characters_count : characters_in (counts_at dim (words s) at) ≡ length characters
   characters_count = ap characters_in (counts_there c stands) ∙ (counted characters triples c.is.lists).0
@@ -56,15 +56,15 @@ module _ {dim : ℕ} {f : Fields} {t : Text} {characters triples tail : List ℕ
       rw n (go (eqb ((length characters + length triples) % 2) 1) refl)
     where
       go : (o : Bool) → eqb ((length characters + length triples) % 2) 1 ≡ o →
-          cond (eqb ((length characters + length triples) % 2) 0) odds.Absent (odds.Byte (byte_at (words s) at (first_character dim + (length characters + length triples))))
-          ≡ cond o (odds.Byte t.odd) odds.Absent
+          cond (eqb ((length characters + length triples) % 2) 0) None (Some (byte_at (words s) at (first_character dim + (length characters + length triples))))
+          ≡ cond o (Some t.odd) None
       go true e =
           let n = length characters + length triples in
           let z = eqb-true ((length characters + length triples) % 2) 1 e in
           let h = ends in
           let k : 2 * at + (first_character dim + (length characters + length triples)) ≡ 2 * at + first_character dim + length characters + length triples = omega arith in
           rw (ne_eqb ((length characters + length triples) % 2) 0 (λ y. omega arith))
-          (ap odds.Byte (byte_file s b at (first_character dim + n) (omega arith) ∙ ap (λ i. get_or s i 0) k ∙ odd_there c p q s b stands e))
+          (ap Some (byte_file s b at (first_character dim + n) (omega arith) ∙ ap (λ i. get_or s i 0) k ∙ odd_there c p q s b stands e))
       go false e =
           let z = eqb-false ((length characters + length triples) % 2) 1 e in
           let m = (length characters + length triples) % 2 in

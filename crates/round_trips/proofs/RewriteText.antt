@@ -9,6 +9,7 @@ use lib.ListN.{length, get_or, take, drop, length-append}
 use lib.Seq.{take-add, drop-drop, drop-cons}
 use lib.Dec.{eqb}
 use borrow.Author.Tests.{eqb-true, eq-eqb, ne_eqb}
+use Rattle.std.specs.Prelude.{Ok, Some}
 use Rattle.words.specs.Words.{words, unsigned}
 use Rattle.words.proofs.Laws.{length_words, words_take, words_drop}
 use Rattle.limits.specs.Limits.{dim_ok}
@@ -20,8 +21,6 @@ use Rattle.texts.specs.Texts as texts
 use Rattle.headers.specs.Header.{type_at, size_at, sizing_at}
 use Rattle.elements.proofs.Laws.{text_part_is, text_fields}
 use Rattle.grammar.proofs.Stands.{Stands, stands_part, stands_join}
-use Rattle.text_views.specs.declared.Odd.TheVariants as odds
-use Rattle.text_views.specs.declared.TextView.TheVariants as view
 use Rattle.text_views.specs.TextViews.{odd_at, text_at, text_in, text_of}
 use Rattle.text_views.proofs.Bytes.{byte_below}
 use Rattle.fields.specs.declared.Fields.{Fields}
@@ -67,7 +66,7 @@ module _ {dim : ℕ} {s : List ℕ} {at : ℕ} {f : Fields} {t : Text} {characte
   unfolding text_of text_in
   shows =
       let found = (again.view g).found in
-      let read : text_of dim s at ≡ view.Read (text_at dim (words s) at) = rw (found, eq-eqb (type_at (words s) at) 17 text) refl in
+      let read : text_of dim s at ≡ Ok (text_at dim (words s) at) = rw (found, eq-eqb (type_at (words s) at) 17 text) refl in
       let given = g.gives_body.read in
       let same : g.gives_body.text ≡ text_at dim (words s) at = cc in
       subst (λ e. ShowsText dim e t (length characters) (length triples)) same g.gives_body.shows
@@ -123,7 +122,7 @@ module _ {dim : ℕ} {s : List ℕ} {at : ℕ} {f : Fields} {t : Text} {characte
       let n : texts.text_bytes (counts_at dim (words s) at) ≡ length characters + length triples = let x = characters_count in let y = triples_count in omega arith in
       let z = eqb-true ((length characters + length triples) % 2) 1 o in
       let even : eqb ((length characters + length triples) % 2) 0 ≡ false = ne_eqb ((length characters + length triples) % 2) 0 (λ y. omega arith) in
-      let shown : odds.Byte (byte_at (words s) at (first_character dim + (length characters + length triples))) ≡ odds.Byte t.odd = rw (n, even, o) at shows.odd in
+      let shown : Some (byte_at (words s) at (first_character dim + (length characters + length triples))) ≡ Some t.odd = rw (n, even, o) at shows.odd in
       cc
 
   odd_small : t.odd ≤ 255

@@ -16,11 +16,11 @@ use Rattle.texts.proofs.Laws.{byte_in}
 use Rattle.headers.specs.Header.{type_at}
 use Rattle.places.specs.Places.{spotted_at}
 use Rattle.places.specs.declared.Above.{Above}
-use Rattle.places.specs.declared.Spotted.TheVariants as spotted
-use Rattle.text_views.specs.declared.FieldView.TheVariants as field
 use Rattle.text_views.specs.TextViews.{field_justification, field_at, field_in, field_of, characters_at, characters_of, character_bytes}
 use Rattle.text_views.proofs.Bytes.{byte_behind}
 use Rattle.text_fields.specs.Faults.{triples_ok}
+use Rattle.places.specs.Spotted.{spotted_with}
+use Rattle.refusals.specs.Refusals.{refused_with}
 use Rattle.round_trips.specs.Parts.{justification_byte, triple, triples_from}
 
 -- the byte of a justification that is read is the one that it was read of
@@ -70,10 +70,10 @@ module _ (s : List ℕ) (b : Below 256 s) (at : ℕ) where
       rw (byte_file j (omega arith), byte_second i j refl (omega arith), byte_third i j refl (omega arith), rest)
       (sym (ap (triples_ok c) (three_next s i n (omega arith))))
 
-  module _ (dim : ℕ) {end depth : ℕ} {above : Above} (found : spotted_at dim s at ≡ spotted.At end depth above) (text : type_at (words s) at ≡ 17) where
+  module _ (dim : ℕ) {end depth : ℕ} {above : Above} (found : spotted_at dim s at ≡ spotted_with end depth above) (text : type_at (words s) at ≡ 17) where
     ---- what the calls give of the text at the place
 
-    pub no_field : (k : ℕ) → fields_in (counts_at dim (words s) at) ≤ k → field_of dim s at k ≡ field.Refused 13 0
+    pub no_field : (k : ℕ) → fields_in (counts_at dim (words s) at) ≤ k → field_of dim s at k ≡ refused_with 13 0
     unfolding field_of field_in
     no_field k h = rw (found, eq-eqb (type_at (words s) at) 17 text, le-ltb k (fields_in (counts_at dim (words s) at)) h) refl
 

@@ -1,18 +1,11 @@
 -- The parts of an element of a type that is written, as the reading calls give them and as the writers take them: header fields,
 -- points or what a text has, tail and linkages. s are a file's bytes, at is the element's place.
-use Rattle.std.specs.Prelude.{ℕ, zero, suc, ◌+◌, ◌-◌, ◌*◌, ◌/◌, ◌%◌, ◌≡◌, Bool, true, cond, ◌||◌, List, [], ◌∷◌, ◌++◌, length, drop, eqb, ℤ, pos, negsuc}
+use Rattle.std.specs.Prelude.{ℕ, zero, suc, ◌+◌, ◌-◌, ◌*◌, ◌/◌, ◌%◌, ◌≡◌, Bool, true, cond, ◌||◌, List, [], ◌∷◌, ◌++◌, length, drop, eqb, ℤ, pos, negsuc, Err, None, Ok, Option, Result, Some}
 use Rattle.words.specs.Words.{words}
 use Rattle.linkages.specs.Linkages.{linkage_in}
-use Rattle.linkages.specs.declared.Linkage.{Linkage}
-use Rattle.linkages.specs.declared.Linkage.TheVariants as linked
 use Rattle.texts.specs.Texts.{text_part}
 use Rattle.kinds.specs.Kinds.{fixed_part}
-use Rattle.views.specs.declared.Range.TheVariants as range
-use Rattle.views.specs.declared.Display.TheVariants as display
 use Rattle.views.specs.declared.Element.{Element}
-use Rattle.points_linkages.specs.declared.Point.TheVariants as point
-use Rattle.points_linkages.specs.declared.Attribute.{Attribute}
-use Rattle.points_linkages.specs.declared.Attribute.TheVariants as attribute
 use Rattle.places.specs.Extents.{extent_bytes}
 use Rattle.points_linkages.specs.Points.{point_of}
 use Rattle.points_linkages.specs.Coordinates.{points_from}
@@ -21,18 +14,20 @@ use Rattle.turns.specs.declared.Turn.{Turn}
 use Rattle.turns.specs.declared.Turn.TheVariants as turns
 use Rattle.text_views.specs.declared.Origin.{Origin}
 use Rattle.text_views.specs.declared.Origin.TheVariants as origins
-use Rattle.text_views.specs.declared.Odd.{Odd}
-use Rattle.text_views.specs.declared.Odd.TheVariants as odds
 use Rattle.text_views.specs.declared.Text as shown
-use Rattle.text_views.specs.declared.TextView.TheVariants as view
-use Rattle.text_views.specs.declared.FieldView.{FieldView}
-use Rattle.text_views.specs.declared.FieldView.TheVariants as field
 use Rattle.fields.specs.Words.{points_in, size_of}
 use Rattle.fields.specs.Faults.{is_written, write_fault}
 use Rattle.fields.specs.declared.Fields.{Fields}
 use Rattle.text_fields.specs.Words.{counts_of, text_size}
 use Rattle.text_fields.specs.Faults.{flat_ok, odd_ok, text_fault}
 use Rattle.text_fields.specs.declared.Text.{Text}
+use Rattle.linkages.specs.Linkage.{attribute_with}
+use Rattle.linkages.specs.declared.Linkage.{Linkage}
+use Rattle.refusals.specs.Refusals.{refused_with}
+use Rattle.refusals.specs.declared.Refusal.{Refusal}
+use Rattle.text_views.specs.declared.Field.{Field}
+use Rattle.views.specs.Display.{display_with}
+use Rattle.views.specs.Range.{longs_with}
 
 ---- what is written
 
@@ -80,13 +75,13 @@ pub record Shows (e : Element) (f : Fields) : Type 0 where
   pub c : e.c ≡ f.c
   pub kind : e.kind ≡ f.kind
   pub deleted : e.deleted ≡ f.deleted
-  pub range : e.range ≡ range.Longs f.low_x f.low_y f.low_z f.high_x f.high_y f.high_z
-  pub display : e.display ≡ display.Words f.group f.index f.properties f.style f.weight f.colour
+  pub range : e.range ≡ longs_with f.low_x f.low_y f.low_z f.high_x f.high_y f.high_z
+  pub display : e.display ≡ display_with f.group f.index f.properties f.style f.weight f.colour
 
 -- the calls for points give these coordinates, and 13 for the number after the last
 pub record GivesPoints (dim : ℕ) (s : List ℕ) (at : ℕ) (points : List ℤ) : Type 0 where
   pub all : points_from (points_in dim points) 0 dim s at ≡ points
-  pub no_more : point_of dim s at (points_in dim points) ≡ point.Refused 13 0
+  pub no_more : point_of dim s at (points_in dim points) ≡ refused_with 13 0
 
 -- how the numbers of a text are read in a file of 2 or 3 dimensions: its turn, its origin, and the byte behind an odd number
 -- of bytes of characters and fields
@@ -96,8 +91,8 @@ turn_read dim t = cond (eqb dim 2) (turns.Flat t.first) (turns.Solid t.first t.s
 abbrev pub origin_read : ℕ → Text → Origin
 origin_read dim t = cond (eqb dim 2) (origins.Flat t.x t.y) (origins.Solid t.x t.y t.z)
 
-abbrev pub odd_read : Text → ℕ → Odd
-odd_read t n = cond (eqb (n % 2) 1) (odds.Byte t.odd) odds.Absent
+abbrev pub odd_read : Text → ℕ → Option ℕ
+odd_read t n = cond (eqb (n % 2) 1) (Some t.odd) None
 
 -- a text that is read shows these numbers, with c characters and n bytes of fields; of those handed in, the ones that it does
 -- not have are 0
@@ -120,9 +115,9 @@ justification_byte (pos n) = n
 justification_byte (negsuc n) = 255 - n
 
 -- the three bytes of a field
-abbrev pub triple : FieldView → List ℕ
-triple (field.Read first length justification) = first ∷ length ∷ justification_byte justification ∷ []
-triple (field.Refused n p) = []
+abbrev pub triple : Result Field Refusal → List ℕ
+triple (Ok field) = field.first ∷ field.length ∷ justification_byte field.justification ∷ []
+triple (Err refusal) = []
 
 -- those of n fields from number k on, one call for each
 unfoldable pub triples_from : ℕ → ℕ → ℕ → List ℕ → ℕ → List ℕ
@@ -132,11 +127,11 @@ triples_from (suc n) k dim s at = triple (field_of dim s at k) ++ triples_from n
 -- the calls for a text give these numbers, these characters and these fields, and 13 for the number after the last field
 pub record GivesText (dim : ℕ) (s : List ℕ) (at : ℕ) (t : Text) (characters triples : List ℕ) : Type 0 where
   pub text : shown.Text
-  pub read : text_of dim s at ≡ view.Read text
+  pub read : text_of dim s at ≡ Ok text
   pub shows : ShowsText dim text t (length characters) (length triples)
   pub all_characters : character_bytes dim s at ≡ characters
   pub all_fields : triples_from (length triples / 3) 0 dim s at ≡ triples
-  pub no_more : field_of dim s at (length triples / 3) ≡ field.Refused 13 0
+  pub no_more : field_of dim s at (length triples / 3) ≡ refused_with 13 0
 
 -- what lies between header and tail
 abbrev pub GivesBody : ℕ → List ℕ → ℕ → Parts → Type 0
@@ -148,17 +143,17 @@ abbrev pub tail_read : ℕ → List ℕ → ℕ → Parts → List ℕ
 tail_read dim s at p = drop (2 * tail_place dim p) (extent_bytes dim s at)
 
 -- a linkage of a tail that begins at a place of the file
-abbrev pub linkage_moved : ℕ → Linkage → Attribute
-linkage_moved from (linked.At user place size id) = attribute.At user (from + place) size id
-linkage_moved from linked.Nothing = attribute.Refused 13 0
+abbrev pub linkage_moved : ℕ → Option Linkage → Result Linkage Refusal
+linkage_moved from (Some linkage) = attribute_with linkage.user (from + linkage.place) linkage.size linkage.id
+linkage_moved from None = refused_with 13 0
 
 -- linkage k of a tail, which begins at word n of its element, handed in with its fields: with A set those from word 16 + index
 -- on, else none
-unfoldable pub linkage_by : Fields → ℕ → List ℕ → ℕ → ℕ → Attribute
+unfoldable pub linkage_by : Fields → ℕ → List ℕ → ℕ → ℕ → Result Linkage Refusal
 linkage_by f n tail at k =
     cond (eqb (f.properties / 2048 % 2) 1)
     (linkage_moved (at + n) (linkage_in (words tail) (16 + f.index - n) (length tail / 2) k))
-    (attribute.Refused 13 0)
+    (refused_with 13 0)
 
-abbrev pub tail_linkage : ℕ → Parts → ℕ → ℕ → Attribute
+abbrev pub tail_linkage : ℕ → Parts → ℕ → ℕ → Result Linkage Refusal
 tail_linkage dim p at k = linkage_by (fields_of p) (tail_place dim p) (tail_of p) at k

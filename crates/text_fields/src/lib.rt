@@ -160,21 +160,10 @@ fn arguments_ok(
 fn triples_ok(c: usize, triples: &[u8]) -> bool
     ensures { result ≡ triples_ok c triples.now }
 {
-    let n = thirds::third(triples.len());
-    let mut k = 0;
-    while k < n {
-        let at = 3 * k;
-        if !texts::field_ok(
-            c,
-            triples[at] as usize,
-            triples[at + 1] as usize,
-            triples[at + 2] as usize,
-        ) {
-            return false;
-        }
-        k += 1;
-    }
-    true
+    let (fields, _) = triples.as_chunks::<3>();
+    fields.iter().all(|&[first, size, justification]| {
+        texts::field_ok(c, first as usize, size as usize, justification as usize)
+    })
 }
 
 // The words before the tail.

@@ -1,12 +1,14 @@
 -- The parts of a text's numbers put one behind another.
 use Prim.Native.Nat.{ℕ, ◌+◌, ◌<◌, ◌≤◌}
-use mathlib.Core.Path.{◌≡◌, refl, ap, ◌∙◌}
+use mathlib.Core.Path.{◌≡◌, refl, sym, ap, ◌∙◌}
 use mathlib.Core.List.{List, ◌++◌}
 use native.Mathlib.Omega.{arith}
 use lib.IntN.{ℤ}
 use lib.ListN.{length, length-append}
-use lib.Seq.{sets}
+use lib.Seq.{sets, sets-eq, take_all}
+use borrow.Rule.Slice.PartMut.{put_mid}
 use borrow.Author.Tests.{le-leb, lt-leb}
+use Rattle.std.proofs.lemmas.Slice.{put_mid-paste}
 use Rattle.turns.specs.Turns.{turn_numbers}
 use Rattle.turns.proofs.Laws.{turn_four}
 use Rattle.text_views.specs.declared.Origin.{Origin}
@@ -14,6 +16,10 @@ use Rattle.text_views.specs.declared.Origin.TheVariants as origins
 use Rattle.text_views.specs.declared.Text.{Text}
 use Rattle.answers.proofs.Besides.{put_then}
 use Rattle.text_numbers.specs.Numbers.{origin_numbers, first_numbers, last_numbers, text_numbers, put_text}
+
+-- a part of a slice that holds the numbers
+pub part_put : {A : Type 0} (s x y : List A) (at k : ℕ) → y ≡ x → k ≡ length x → at + k ≤ length s → put_mid at k s y ≡ sets s at x
+part_put s x y at k e l h = put_mid-paste at k s y x k e refl l ∙ rw (l, take_all (length x) x (omega arith)) (sym (sets-eq x s at (omega arith)))
 
 -- how many numbers each part has, and all of them
 pub origin_three : (x : Origin) → length (origin_numbers x) ≡ 3

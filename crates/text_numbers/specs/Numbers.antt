@@ -1,12 +1,10 @@
 -- A text as 15 signed numbers: font, justification, length and height multipliers, four for the turn, three for the
 -- origin, how many characters and fields, the odd last byte, and the byte of the file where the characters begin.
-use Rattle.std.specs.Prelude.{ℕ, ◌+◌, cond, List, [], ◌∷◌, ◌++◌, length, leb, ℤ, pos, negsuc}
+use Rattle.std.specs.Prelude.{ℕ, ◌+◌, cond, List, [], ◌∷◌, ◌++◌, length, leb, ℤ, pos, negsuc, None, Option, Some}
 use Rattle.std.proofs.lemmas.List.Edits.{sets}
 use Rattle.turns.specs.Turns.{turn_numbers}
 use Rattle.text_views.specs.declared.Origin.{Origin}
 use Rattle.text_views.specs.declared.Origin.TheVariants as origins
-use Rattle.text_views.specs.declared.Odd.{Odd}
-use Rattle.text_views.specs.declared.Odd.TheVariants as odds
 use Rattle.text_views.specs.declared.Text.{Text}
 
 -- z is 0 in 2D
@@ -15,9 +13,9 @@ origin_numbers (origins.Flat x y) = x ∷ y ∷ pos 0 ∷ []
 origin_numbers (origins.Solid x y z) = x ∷ y ∷ z ∷ []
 
 -- -1 where there is none
-abbrev pub odd_number : Odd → ℤ
-odd_number odds.Absent = negsuc 0
-odd_number (odds.Byte value) = pos value
+abbrev pub odd_number : Option ℕ → ℤ
+odd_number None = negsuc 0
+odd_number (Some value) = pos value
 
 -- all of them
 abbrev pub first_numbers : Text → List ℤ

@@ -6,7 +6,7 @@ ghost use Rattle.std.specs.Prelude.{◌≡◌, ◌+◌, ◌≤◌, length};
 ghost use Rattle.std.proofs.lemmas.List.Edits.{sets};
 ghost use Rattle.text_numbers.specs.Numbers.{origin_numbers, odd_number, first_numbers, last_numbers, put_text};
 
-use text_views::{Odd, Origin, Text};
+use text_views::{Origin, Text};
 
 // The origin.
 fn origin_numbers(origin: Origin) -> [i64; 3]
@@ -19,12 +19,12 @@ fn origin_numbers(origin: Origin) -> [i64; 3]
 }
 
 // The odd last byte.
-fn odd_number(odd: Odd) -> i64
+fn odd_number(odd: Option<u8>) -> i64
     ensures { result ≡ odd_number odd }
 {
     match odd {
-        Odd::Absent => -1,
-        Odd::Byte { value } => value as i64,
+        None => -1,
+        Some(value) => value as i64,
     }
 }
 
@@ -44,12 +44,10 @@ fn first_numbers(text: Text) -> [i64; 4]
 fn last_numbers(start: u32, text: Text) -> [i64; 4]
     ensures { result ≡ last_numbers start text }
 {
-    let odd = text.odd;
-    let odd = odd_number(odd);
     [
         text.characters as i64,
         text.fields as i64,
-        odd,
+        odd_number(text.odd),
         start as i64,
     ]
 }
@@ -59,11 +57,7 @@ fn put_numbers(out: &mut [i64], at: usize, numbers: &[i64])
     requires { at + length numbers.now ≤ length out.old }
     ensures { out.new ≡ sets out.old at numbers.now }
 {
-    let mut k = 0;
-    while k < numbers.len() {
-        out[at + k] = numbers[k];
-        k += 1;
-    }
+    out[at..at + numbers.len()].copy_from_slice(numbers);
 }
 
 // The numbers of a text whose characters begin at a byte of the file, from a place of a slice on; a slice with no room for them
@@ -77,10 +71,8 @@ pub fn put_text(out: &mut [i64], at: usize, start: u32, text: Text)
     if out.len() - 15 < at {
         return;
     }
-    let turn = text.turn;
-    let origin = text.origin;
     put_numbers(out, at, &first_numbers(text));
-    put_numbers(out, at + 4, &turns::turn_numbers(turn));
-    put_numbers(out, at + 8, &origin_numbers(origin));
+    put_numbers(out, at + 4, &turns::turn_numbers(text.turn));
+    put_numbers(out, at + 8, &origin_numbers(text.origin));
     put_numbers(out, at + 11, &last_numbers(start, text));
 }

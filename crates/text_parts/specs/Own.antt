@@ -4,8 +4,8 @@ use mathlib.Core.List.{List, Memᴰ}
 use Rattle.words.specs.Words.{words, word_at}
 use Rattle.headers.specs.Header.{size_at}
 use Rattle.files.specs.Spots.{Spot, spots_of}
-use Rattle.text_views.specs.declared.Characters.TheVariants as part
 use Rattle.text_views.specs.TextViews.{characters_of, character_bytes}
+use Rattle.text_views.specs.Characters.{characters_with}
 
 -- the own words of the elements at two places do not meet
 abbrev pub Apart : List ℕ → ℕ → ℕ → Type 0
@@ -25,9 +25,9 @@ pub record Own (dim : ℕ) (s : List ℕ) (at start count : ℕ) : Type 0 where
   pub alone : (y : Spot) → Memᴰ y (spots_of dim (words s)) → y.place ≢ at → Apart (words s) at y.place
 
 abbrev pub CharactersOwn : Type 0
-CharactersOwn = (dim : ℕ) (s : List ℕ) (at start count : ℕ) → characters_of dim s at ≡ part.At start count → Own dim s at start count
+CharactersOwn = (dim : ℕ) (s : List ℕ) (at start count : ℕ) → characters_of dim s at ≡ characters_with start count → Own dim s at start count
 
 -- the characters of two texts have no byte in common
 abbrev pub TextsApart : Type 0
 TextsApart =
-    (dim : ℕ) (s : List ℕ) (p q a m b n : ℕ) → characters_of dim s p ≡ part.At a m → characters_of dim s q ≡ part.At b n → p ≢ q → (a + m ≤ b) ⊎ (b + n ≤ a)
+    (dim : ℕ) (s : List ℕ) (p q a m b n : ℕ) → characters_of dim s p ≡ characters_with a m → characters_of dim s q ≡ characters_with b n → p ≢ q → (a + m ≤ b) ⊎ (b + n ≤ a)

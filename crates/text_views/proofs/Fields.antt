@@ -12,11 +12,13 @@ use Rattle.words.specs.Words.{words}
 use Rattle.texts.specs.Texts.{byte_at, characters_in, fields_in, counts_at, field_byte, field_ok, each_field_ok, fields_ok}
 use Rattle.headers.specs.Header.{type_at}
 use Rattle.elements.specs.Rules.{text_fields_ok}
-use Rattle.text_views.specs.declared.FieldView.TheVariants as field
+use Rattle.places.proofs.OfType.{Way, nowhere, another, of_type_lem, way}
+use Rattle.refusals.specs.Refusals.{refused_with}
+use Rattle.refusals.proofs.Laws.{given_is, refused_not_given}
 use Rattle.text_views.specs.TextViews.{is_text, field_justification, field_at, field_in, field_of}
 use Rattle.text_views.specs.Fields.{Within, FieldsWithin}
-use Rattle.places.proofs.OfType.{Way, nowhere, another, of_type_lem, way}
 use Rattle.text_views.proofs.Inside.{characters_held}
+use Rattle.text_views.specs.Field.{field_with}
 
 -- of fields that pass their test, field k does
 field_passes : (n c : ℕ) (ws : List ℕ) (at j k i : ℕ) → each_field_ok n c ws at j ≡ true → k < n → i ≡ j + 3 * k → field_ok c (byte_at ws at i) (byte_at ws at (i + 1)) (byte_at ws at (i + 2)) ≡ true
@@ -58,19 +60,20 @@ fields_within dim s at k start c first size justification q f =
     let counts = counts_at dim (words s) at in
     let ok = text_passes dim (type_at (words s) at) (words s) at held.text held.ruled.checked.fields in
     go (ltb k (fields_in counts)) refl held.counted ok
-    (way is_text field.Refused dim s at (cond (ltb k (fields_in counts)) (field_at dim (words s) at k) (field.Refused 13 0)) (field.Read first size justification) f)
+    (way is_text refused_with dim s at (cond (ltb k (fields_in counts)) (field_at dim (words s) at k) (refused_with 13 0)) (field_with first size justification) f)
   where
     go : (b : Bool) → ltb k (fields_in (counts_at dim (words s) at)) ≡ b → c ≡ characters_in (counts_at dim (words s) at) → fields_ok dim (words s) at ≡ true →
-        Way is_text field.Refused dim s at (cond b (field_at dim (words s) at k) (field.Refused 13 0)) (field.Read first size justification) → Within c first size justification
-    go b t counted ok (nowhere n p e g) = let z : ◌≡◌ {A = ℕ} 0 1 = cc in absurd (omega arith)
-    go b t counted ok (another end depth above e h g) = let z : ◌≡◌ {A = ℕ} 0 1 = cc in absurd (omega arith)
-    go false t counted ok (of_type_lem end depth above e h g) = let z : ◌≡◌ {A = ℕ} 0 1 = cc in absurd (omega arith)
+        Way is_text refused_with dim s at (cond b (field_at dim (words s) at k) (refused_with 13 0)) (field_with first size justification) → Within c first size justification
+    go b t counted ok (nowhere n p e g) = absurd (refused_not_given g)
+    go b t counted ok (another end depth above e h g) = absurd (refused_not_given g)
+    go false t counted ok (of_type_lem end depth above e h g) = absurd (refused_not_given g)
     go true t counted ok (of_type_lem end depth above e h g) =
         let counts = counts_at dim (words s) at in
         let i = field_byte dim counts k in
         let p = passed (characters_in counts) (byte_at (words s) at i) (byte_at (words s) at (i + 1)) (byte_at (words s) at (i + 2))
         (field_passes (fields_in counts) (characters_in counts) (words s) at (field_byte dim counts 0) k i ok (ltb-true k (fields_in counts) t) (omega arith)) in
-        let a : first ≡ byte_at (words s) at i = cc in
-        let b : size ≡ byte_at (words s) at (i + 1) = cc in
-        let j : justification ≡ field_justification (byte_at (words s) at (i + 2)) = cc in
+        let same = given_is g in
+        let a : first ≡ byte_at (words s) at i = ap (λ r. r.first) same in
+        let b : size ≡ byte_at (words s) at (i + 1) = ap (λ r. r.length) same in
+        let j : justification ≡ field_justification (byte_at (words s) at (i + 2)) = ap (λ r. r.justification) same in
         rw (counted, a, b, j) p

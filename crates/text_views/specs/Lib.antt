@@ -1,3 +1,5 @@
 pub mod TextViews
 pub mod Refusals
 pub mod Fields
+pub mod Characters
+pub mod Field

@@ -1,21 +1,19 @@
 -- What is read of a text (RULES.md, "Text"): ws are the file's words, at is the text's place.
-use Rattle.std.specs.Prelude.{ℕ, ◌+◌, ◌*◌, ◌/◌, ◌%◌, List, [], Bool, cond, take, drop, eqb, ltb, ℤ, pos, negsuc}
+use Rattle.std.specs.Prelude.{ℕ, ◌+◌, ◌*◌, ◌/◌, ◌%◌, List, [], Bool, cond, take, drop, eqb, ltb, ℤ, pos, negsuc, Err, None, Ok, Option, Result, Some}
 use Rattle.words.specs.Words.{words, word_at, long_at, signed}
 use Rattle.texts.specs.Texts.{byte_at, characters_in, fields_in, text_bytes, counts_at, first_character, field_byte}
 use Rattle.turns.specs.Turns.{turn_at}
 use Rattle.places.specs.Places.{spotted_at}
 use Rattle.places.specs.OfType.{of_type, of_place}
+use Rattle.refusals.specs.Refusals.{refused_with}
+use Rattle.refusals.specs.declared.Refusal.{Refusal}
 use Rattle.text_views.specs.declared.Origin.{Origin}
 use Rattle.text_views.specs.declared.Origin.TheVariants as origins
-use Rattle.text_views.specs.declared.Odd.{Odd}
-use Rattle.text_views.specs.declared.Odd.TheVariants as odds
 use Rattle.text_views.specs.declared.Text.{Text}
-use Rattle.text_views.specs.declared.TextView.{TextView}
-use Rattle.text_views.specs.declared.TextView.TheVariants as view
+use Rattle.text_views.specs.Characters.{characters_with}
+use Rattle.text_views.specs.Field.{field_with}
 use Rattle.text_views.specs.declared.Characters.{Characters}
-use Rattle.text_views.specs.declared.Characters.TheVariants as part
-use Rattle.text_views.specs.declared.FieldView.{FieldView}
-use Rattle.text_views.specs.declared.FieldView.TheVariants as field
+use Rattle.text_views.specs.declared.Field.{Field}
 
 ---- the numbers of a text
 
@@ -26,10 +24,10 @@ origin_at dim ws at =
     (origins.Solid (signed (long_at ws (at + 31))) (signed (long_at ws (at + 33))) (signed (long_at ws (at + 35))))
 
 -- where characters and fields have an odd number of bytes, the byte behind them in their last word
-unfoldable pub odd_at : ℕ → List ℕ → ℕ → Odd
+unfoldable pub odd_at : ℕ → List ℕ → ℕ → Option ℕ
 odd_at dim ws at =
     let n = text_bytes (counts_at dim ws at) in
-    cond (eqb (n % 2) 0) odds.Absent (odds.Byte (byte_at ws at (first_character dim + n)))
+    cond (eqb (n % 2) 0) None (Some (byte_at ws at (first_character dim + n)))
 
 -- all of them: font and justification are the bytes of word 18, the multipliers are unsigned longs
 unfoldable pub text_at : ℕ → List ℕ → ℕ → Text
@@ -52,10 +50,10 @@ abbrev pub field_justification : ℕ → ℤ
 field_justification j = cond (eqb j 255) (negsuc 0) (pos j)
 
 -- field k, from 0: the first of its characters, counted from 1, how many they are, and its justification
-unfoldable pub field_at : ℕ → List ℕ → ℕ → ℕ → FieldView
+unfoldable pub field_at : ℕ → List ℕ → ℕ → ℕ → Result Field Refusal
 field_at dim ws at k =
     let j = field_byte dim (counts_at dim ws at) k in
-    field.Read (byte_at ws at j) (byte_at ws at (j + 1)) (field_justification (byte_at ws at (j + 2)))
+    field_with (byte_at ws at j) (byte_at ws at (j + 1)) (field_justification (byte_at ws at (j + 2)))
 
 ---- of the element at a place of a judged file: 6 at it where it is no text
 
@@ -65,33 +63,33 @@ is_text t = eqb t 17
 abbrev pub of_text : {A : Type 0} → (ℕ → ℕ → A) → List ℕ → ℕ → A → A
 of_text = of_type is_text
 
-unfoldable pub text_in : ℕ → List ℕ → ℕ → TextView
-text_in dim ws at = of_text view.Refused ws at (view.Read (text_at dim ws at))
+unfoldable pub text_in : ℕ → List ℕ → ℕ → Result Text Refusal
+text_in dim ws at = of_text refused_with ws at (Ok (text_at dim ws at))
 
 -- where the characters begin, as a byte of the file, and how many they are
-unfoldable pub characters_at : ℕ → List ℕ → ℕ → Characters
-characters_at dim ws at = of_text part.Refused ws at (part.At (2 * at + first_character dim) (characters_in (counts_at dim ws at)))
+unfoldable pub characters_at : ℕ → List ℕ → ℕ → Result Characters Refusal
+characters_at dim ws at = of_text refused_with ws at (characters_with (2 * at + first_character dim) (characters_in (counts_at dim ws at)))
 
 -- 13 where there is no field k
-unfoldable pub field_in : ℕ → List ℕ → ℕ → ℕ → FieldView
+unfoldable pub field_in : ℕ → List ℕ → ℕ → ℕ → Result Field Refusal
 field_in dim ws at k =
-    of_text field.Refused ws at (cond (ltb k (fields_in (counts_at dim ws at))) (field_at dim ws at k) (field.Refused 13 0))
+    of_text refused_with ws at (cond (ltb k (fields_in (counts_at dim ws at))) (field_at dim ws at k) (refused_with 13 0))
 
 ---- the calls: 1, the file's own refusals, 13 where no element starts there, then these
 
-unfoldable pub text_of : ℕ → List ℕ → ℕ → TextView
-text_of dim s at = of_place view.Refused (spotted_at dim s at) (text_in dim (words s) at)
+unfoldable pub text_of : ℕ → List ℕ → ℕ → Result Text Refusal
+text_of dim s at = of_place refused_with (spotted_at dim s at) (text_in dim (words s) at)
 
-unfoldable pub characters_of : ℕ → List ℕ → ℕ → Characters
-characters_of dim s at = of_place part.Refused (spotted_at dim s at) (characters_at dim (words s) at)
+unfoldable pub characters_of : ℕ → List ℕ → ℕ → Result Characters Refusal
+characters_of dim s at = of_place refused_with (spotted_at dim s at) (characters_at dim (words s) at)
 
-unfoldable pub field_of : ℕ → List ℕ → ℕ → ℕ → FieldView
-field_of dim s at k = of_place field.Refused (spotted_at dim s at) (field_in dim (words s) at k)
+unfoldable pub field_of : ℕ → List ℕ → ℕ → ℕ → Result Field Refusal
+field_of dim s at k = of_place refused_with (spotted_at dim s at) (field_in dim (words s) at k)
 
 -- the characters as that part of the file's bytes, none where refused
-abbrev pub characters_by : Characters → List ℕ → List ℕ
-characters_by (part.At start length) s = take length (drop start s)
-characters_by (part.Refused n p) s = []
+abbrev pub characters_by : Result Characters Refusal → List ℕ → List ℕ
+characters_by (Ok part) s = take part.length (drop part.start s)
+characters_by (Err refusal) s = []
 
 unfoldable pub character_bytes : ℕ → List ℕ → ℕ → List ℕ
 character_bytes dim s at = characters_by (characters_of dim s at) s

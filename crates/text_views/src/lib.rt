@@ -8,20 +8,14 @@ ghost use Rattle.words.specs.Words.{words};
 ghost use Rattle.texts.specs.Texts.{counts_at};
 ghost use Rattle.text_views.specs.TextViews.{origin_at, odd_at, text_at, field_justification, text_in, characters_at, field_in, text_of, characters_of, character_bytes, field_of};
 
-use places::{Spotted, spotted_at};
+use places::spotted_at;
+use refusals::Refusal;
 use turns::Turn;
 
 #[derive(Clone, Copy)]
 pub enum Origin {
     Flat { x: i64, y: i64 },
     Solid { x: i64, y: i64, z: i64 },
-}
-
-// The byte behind characters and fields, where these have an odd number of bytes.
-#[derive(Clone, Copy)]
-pub enum Odd {
-    Absent,
-    Byte { value: u8 },
 }
 
 // The numbers of a text: font, justification, length and height multipliers, turn and origin; how many characters and
@@ -36,34 +30,22 @@ pub struct Text {
     pub origin: Origin,
     pub characters: u8,
     pub fields: u8,
-    pub odd: Odd,
-}
-
-#[derive(Clone, Copy)]
-pub enum TextView {
-    Read { text: Text },
-    Refused { number: usize, place: usize },
+    pub odd: Option<u8>,
 }
 
 // The characters of a text, from a byte of the file on.
 #[derive(Clone, Copy)]
-pub enum Characters {
-    At { start: usize, length: usize },
-    Refused { number: usize, place: usize },
+pub struct Characters {
+    pub start: usize,
+    pub length: usize,
 }
 
 // An enter-data field: the first of its characters, counted from 1, how many they are, and its justification.
 #[derive(Clone, Copy)]
-pub enum FieldView {
-    Read {
-        first: u8,
-        length: u8,
-        justification: i64,
-    },
-    Refused {
-        number: usize,
-        place: usize,
-    },
+pub struct Field {
+    pub first: u8,
+    pub length: u8,
+    pub justification: i64,
 }
 
 // The origin of the text at a place.
@@ -85,18 +67,16 @@ fn origin_at(file: &[u8], dim: usize, at: usize) -> Origin
 }
 
 // The odd last byte of the text at a place, by the word of its counts.
-fn odd_at(file: &[u8], dim: usize, at: usize, counts: usize) -> Odd
+fn odd_at(file: &[u8], dim: usize, at: usize, counts: usize) -> Option<u8>
     requires { (at < length file.now / 2) × (counts ≡ counts_at dim (words file.now) at) }
     ensures { result ≡ odd_at dim (words file.now) at }
 {
     let n = counts % 256 + 3 * (counts / 256);
     if n % 2 == 0 {
-        return Odd::Absent;
+        return None;
     }
     let first = 2 * (at + texts::counts_word(dim) + 1);
-    Odd::Byte {
-        value: texts::byte(file, first + n) as u8,
-    }
+    Some(texts::byte(file, first + n) as u8)
 }
 
 // The numbers of the text at a place.
@@ -131,101 +111,75 @@ fn field_justification(byte: usize) -> i64
 }
 
 // The numbers of the element at a place of a judged file, where it is a text; else 6.
-pub fn text_in(file: &[u8], dim: usize, at: usize) -> TextView
+pub fn text_in(file: &[u8], dim: usize, at: usize) -> Result<Text, Refusal>
     ensures { result ≡ text_in dim (words file.now) at }
 {
     if headers::type_at(file, at) != 17 {
-        return TextView::Refused {
+        return Err(Refusal {
             number: 6,
             place: at,
-        };
+        });
     }
-    TextView::Read {
-        text: text_from(file, dim, at),
-    }
+    Ok(text_from(file, dim, at))
 }
 
 // Where its characters stand.
-pub fn characters_in(file: &[u8], dim: usize, at: usize) -> Characters
+pub fn characters_in(file: &[u8], dim: usize, at: usize) -> Result<Characters, Refusal>
     ensures { result ≡ characters_at dim (words file.now) at }
 {
     if headers::type_at(file, at) != 17 {
-        return Characters::Refused {
+        return Err(Refusal {
             number: 6,
             place: at,
-        };
+        });
     }
     let place = at + texts::counts_word(dim);
-    Characters::At {
+    Ok(Characters {
         start: 2 * (place + 1),
         length: words::word(file, place) % 256,
-    }
+    })
 }
 
 // Its field k, from 0; 13 where there is none.
-pub fn field_in(file: &[u8], dim: usize, at: usize, k: usize) -> FieldView
+pub fn field_in(file: &[u8], dim: usize, at: usize, k: usize) -> Result<Field, Refusal>
     ensures { result ≡ field_in dim (words file.now) at k }
 {
     if headers::type_at(file, at) != 17 {
-        return FieldView::Refused {
+        return Err(Refusal {
             number: 6,
             place: at,
-        };
+        });
     }
     let place = at + texts::counts_word(dim);
     let counts = words::word(file, place);
     if counts / 256 <= k {
-        return FieldView::Refused {
+        return Err(Refusal {
             number: 13,
             place: 0,
-        };
+        });
     }
     let j = 2 * (place + 1) + counts % 256 + 3 * k;
-    FieldView::Read {
+    Ok(Field {
         first: texts::byte(file, j) as u8,
         length: texts::byte(file, j + 1) as u8,
         justification: field_justification(texts::byte(file, j + 2)),
-    }
+    })
 }
 
 // The numbers of the text at a place of a file.
-pub fn text_at(file: &[u8], dim: usize, place: usize) -> TextView
+pub fn text_at(file: &[u8], dim: usize, place: usize) -> Result<Text, Refusal>
     ensures { result ≡ text_of dim file.now place }
 {
-    match spotted_at(file, dim, place) {
-        Spotted::At {
-            end: _,
-            depth: _,
-            above: _,
-        } => text_in(file, dim, place),
-        Spotted::Refused {
-            number,
-            place: fault,
-        } => TextView::Refused {
-            number,
-            place: fault,
-        },
-    }
+    spotted_at(file, dim, place)?;
+    text_in(file, dim, place)
 }
 
 // Where its characters stand.
-pub fn characters_answer(file: &[u8], dim: usize, place: usize) -> Characters
+pub fn characters_answer(file: &[u8], dim: usize, place: usize) -> Result<Characters, Refusal>
     ensures { result ≡ characters_of dim file.now place }
 {
-    match spotted_at(file, dim, place) {
-        Spotted::At {
-            end: _,
-            depth: _,
-            above: _,
-        } => characters_in(file, dim, place),
-        Spotted::Refused {
-            number,
-            place: fault,
-        } => Characters::Refused {
-            number,
-            place: fault,
-        },
-    }
+    spotted_at(file, dim, place)?;
+    characters_in(file, dim, place)
 }
 
 // Its characters, as that part of the file; empty where refused.
@@ -233,33 +187,18 @@ pub fn characters_at(file: &[u8], dim: usize, place: usize) -> &[u8]
     ensures { result.now ≡ character_bytes dim file.now place }
 {
     match characters_answer(file, dim, place) {
-        Characters::At { start, length } => {
-            let end = start + length;
-            &file[start..end]
+        Ok(characters) => {
+            let end = characters.start + characters.length;
+            &file[characters.start..end]
         }
-        Characters::Refused {
-            number: _,
-            place: _,
-        } => &file[..0],
+        Err(_) => &file[..0],
     }
 }
 
 // Its field k, from 0.
-pub fn field_at(file: &[u8], dim: usize, place: usize, k: usize) -> FieldView
+pub fn field_at(file: &[u8], dim: usize, place: usize, k: usize) -> Result<Field, Refusal>
     ensures { result ≡ field_of dim file.now place k }
 {
-    match spotted_at(file, dim, place) {
-        Spotted::At {
-            end: _,
-            depth: _,
-            above: _,
-        } => field_in(file, dim, place, k),
-        Spotted::Refused {
-            number,
-            place: fault,
-        } => FieldView::Refused {
-            number,
-            place: fault,
-        },
-    }
+    spotted_at(file, dim, place)?;
+    field_in(file, dim, place, k)
 }

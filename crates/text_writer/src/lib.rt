@@ -12,6 +12,8 @@ ghost use Rattle.text_fields.specs.Words.{turn_longs, origin_of, number_words, t
 ghost use Rattle.text_fields.specs.Faults.{numbers_ok, text_fault};
 ghost use Rattle.text_writer.specs.Writing.{WritesText};
 
+use refusals::Refusal;
+
 // Words 23 to 28 in 2D: the rotation and the origin.
 fn put_flat(out: &mut [u8], text: text_fields::Text)
     requires { (58 ≤ length out.old) × (numbers_ok text ≡ true) }
@@ -111,16 +113,15 @@ pub fn write_text(
     tail: &[u8],
     dim: usize,
     out: &mut [u8],
-) -> writer::Written
+) -> Result<usize, Refusal>
     ensures { WritesText dim fields text characters.now triples.now tail.now out.old result out.new }
 {
     let fault = text_fields::text_fault(dim, fields, text, characters, triples, tail, out.len());
     if fault != 0 {
-        return writer::Written::Refused {
+        return Err(Refusal {
             number: fault,
             place: 0,
-        };
+        });
     }
-    let words = put_text(dim, fields, text, characters, triples, tail, out);
-    writer::Written::Made { words }
+    Ok(put_text(dim, fields, text, characters, triples, tail, out))
 }

@@ -69,17 +69,14 @@ fn each_field_ok(s: &[u8], n: usize, c: usize, j: usize) -> bool
     ensures { result ≡ each_field_ok n c (words s.now) 0 j }
 {
     let known = j + 3 * n <= s.len() / 2 * 2;
-    let mut left = n;
-    let mut here = j;
-    while left != 0 {
+    for k in 0..n {
+        let here = j + 3 * k;
         let first = known_byte(s, here, known);
         let size = known_byte(s, here + 1, known);
         let justification = known_byte(s, here + 2, known);
         if !field_ok(c, first, size, justification) {
             return false;
         }
-        here += 3;
-        left -= 1;
     }
     true
 }

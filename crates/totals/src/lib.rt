@@ -8,7 +8,7 @@ ghost use Rattle.std.specs.Prelude.{◌≡◌, ◌+◌, ◌<◌, ◌≤◌, ◌%
 ghost use Rattle.words.specs.Words.{words};
 ghost use Rattle.headers.specs.Header.{extent_at};
 ghost use Rattle.edits.specs.Edits.{moved};
-ghost use Rattle.totals.specs.Totals.{holder_at, holder_of, word_moved, header_put, totals_from, totals_put, room_of};
+ghost use Rattle.totals.specs.Totals.{holder_at, holder_of, word_moved, header_put, totals_put, room_of};
 
 // Which element, of those that follow one another in a list, has a place in its extent: none; the one that starts
 // there; or a header around it, whose components start at `inner`.
@@ -95,34 +95,27 @@ fn correct_header(file: &mut [u8], place: usize, up: bool, n: usize, direct: boo
     }
 }
 
-// Corrects, from the list at the place `at` down, each header that has the named one in its extent, and last the named
-// one itself: `left` of them at most.
-fn correct_from(file: &mut [u8], at: usize, header: usize, up: bool, n: usize, left: usize)
-    requires { header < length file.old }
-    ensures { file.new ≡ totals_from left up n header at file.old }
-{
-    if left == 0 {
-        return;
-    }
-    match find_holder(file, at, header) {
-        Holder::Nowhere => {}
-        Holder::Itself => {
-            correct_header(file, header, up, n, true);
-        }
-        Holder::Inside { place, inner } => {
-            correct_header(file, place, up, n, false);
-            correct_from(file, inner, header, up, n, left - 1);
-        }
-    }
-}
-
 // The total of each header on the path from the top down to the named one raised or lowered by n, and that one's count
 // by 1. A header is at depth 8 at most, so the path has nine at most.
 pub fn correct_totals(file: &mut [u8], header: usize, up: bool, n: usize)
     ensures { file.new ≡ totals_put up n header file.old }
 {
-    if header < file.len() / 2 {
-        correct_from(file, 0, header, up, n, 9);
+    if file.len() / 2 <= header {
+        return;
+    }
+    let mut at = 0;
+    for _ in 0..9usize {
+        match find_holder(file, at, header) {
+            Holder::Nowhere => return,
+            Holder::Itself => {
+                correct_header(file, header, up, n, true);
+                return;
+            }
+            Holder::Inside { place, inner } => {
+                correct_header(file, place, up, n, false);
+                at = inner;
+            }
+        }
     }
 }
 
@@ -146,8 +139,7 @@ pub fn room_fault(file: &[u8], header: usize, n: usize) -> Room
         return Room::Fine;
     }
     let mut at: usize = 0;
-    let mut left: usize = 9;
-    while 0 < left {
+    for _ in 0..9usize {
         match find_holder(file, at, header) {
             Holder::Nowhere => {
                 return Room::Fine;
@@ -159,12 +151,10 @@ pub fn room_fault(file: &[u8], header: usize, n: usize) -> Room
                 return Room::Full { place: header };
             }
             Holder::Inside { place, inner } => {
-                if has_room(file, place, n) {
-                    at = inner;
-                    left -= 1;
-                } else {
+                if !has_room(file, place, n) {
                     return Room::Full { place };
                 }
+                at = inner;
             }
         }
     }

@@ -8,13 +8,10 @@ use native.Mathlib.Omega.{arith}
 use lib.ListN.{length, take}
 use lib.Dec.{eqb}
 use borrow.Author.Tests.{le-leb, lt-leb, ne_eqb}
-use Rattle.places.specs.declared.Spotted.{Spotted}
-use Rattle.edits.specs.declared.Edited.{Edited}
-use Rattle.edits.specs.declared.Edited.TheVariants.{Made, Refused}
 use Rattle.edits.specs.Edits.{apply}
 use Rattle.edits.specs.Allowed.{Fault?, fine, fault, unless}
 use Rattle.edits.specs.Records.{Rec, Newest, last_record, reversal, reversible}
-use Rattle.edits.specs.Calls.{Index, Session, size_of, index_ok, index_fits, undo_call, used_words, journal_of, words_of, session_fault, open_fault, stored, Result, refused, result_by, undo_made}
+use Rattle.edits.specs.Calls.{Index, Session, size_of, index_ok, index_fits, undo_call, used_words, journal_of, words_of, session_fault, open_fault, stored, Outcome, refused, result_by, undo_made}
 use Rattle.edits.specs.Calls.{words_back, reversal_fault, undo_by, undone, step}
 use Rattle.opening.proofs.Opening.{AcceptedUsed, open_accepted}
 use Rattle.opening.specs.Opening.{session_with, session_of}
@@ -23,11 +20,17 @@ use Rattle.opening.proofs.Beside.{opens_with}
 use Rattle.opening.proofs.Steps.{by_result, left}
 use Rattle.opening.proofs.OpenSession.{open_by, file_lengths}
 use Rattle.undoing.specs.Undoing.{Reversed, back_number, back_fault, answer_by, file_by, OpenFile, told_by, undo_told}
+use Rattle.edits.specs.UsedLengths.{made_with}
+use Rattle.edits.specs.declared.UsedLengths.{UsedLengths}
+use Rattle.places.specs.declared.Spotted.{Spotted}
+use Rattle.refusals.specs.Refusals.{refused_with}
+use Rattle.refusals.specs.declared.Refusal.{Refusal}
+use Rattle.std.specs.Prelude.{Result}
 
 ---- the file of an open session
 
 module _ (dim : ℕ) (file : List ℕ) (used : ℕ) (journal : List ℕ) (jused : ℕ) where
-  pub open_file : (p q : ℕ) (found : Spotted) → p ≡ q → Open dim file used journal jused p found → OpenFile dim file used q found
+  pub open_file : (p q : ℕ) (found : Result Spotted Refusal) → p ≡ q → Open dim file used journal jused p found → OpenFile dim file used q found
   open_file p q found e o =
       let a = open_accepted dim file used journal jused o.ready in
       let l = file_lengths dim file used journal jused o.ready in
@@ -42,7 +45,7 @@ module _ (dim : ℕ) (file : List ℕ) (used : ℕ) (journal : List ℕ) (jused 
       }
 
 -- its used part, as opening's laws have it
-pub accepted_used : (dim : ℕ) (file : List ℕ) (used p : ℕ) (found : Spotted) → OpenFile dim file used p found → AcceptedUsed dim (take used file) (last_place file used)
+pub accepted_used : (dim : ℕ) (file : List ℕ) (used p : ℕ) (found : Result Spotted Refusal) → OpenFile dim file used p found → AcceptedUsed dim (take used file) (last_place file used)
 accepted_used dim file used p found o = record { elements = o.elements; deepest = o.deepest; judged = o.judged; last = o.last }
 
 ---- undo
@@ -64,12 +67,12 @@ module _ (dim : ℕ) (s : Session) (ws : List ℕ) (before : ℕ) where
   journal_of_lem fine = refl
   journal_of_lem (fault n p) = refl
 
-pub undo_closed : (dim : ℕ) (s : Session) (full : Bool) (n p : ℕ) → session_fault dim s ≡ fault n p → Leaves (undo_told dim s full) (Refused n p) s.file s.journal
+pub undo_closed : (dim : ℕ) (s : Session) (full : Bool) (n p : ℕ) → session_fault dim s ≡ fault n p → Leaves (undo_told dim s full) (refused_with n p) s.file s.journal
 unfolding undo_told
 undo_closed dim s full n p e = left (refused s n p) (rw e refl)
 
 module _ (dim : ℕ) (s : Session) (full : Bool) (ready : session_fault dim s ≡ fine) where
-  pub undo_nothing : s.jused ≡ 0 → Leaves (undo_told dim s full) (Refused 17 0) s.file s.journal
+  pub undo_nothing : s.jused ≡ 0 → Leaves (undo_told dim s full) (refused_with 17 0) s.file s.journal
   unfolding undo_told
   undo_nothing e = left (refused s 17 0) (rw (ready, e) refl)
 
@@ -78,11 +81,11 @@ module _ (dim : ℕ) (s : Session) (full : Bool) (ready : session_fault dim s �
     unfolding undo_told
     undo_some = rw (ready, ne_eqb s.jused 0 some_used) refl
 
-    pub undo_bad : last_record (journal_of s) ≡ none → Leaves (undo_told dim s full) (Refused 19 0) s.file s.journal
+    pub undo_bad : last_record (journal_of s) ≡ none → Leaves (undo_told dim s full) (refused_with 19 0) s.file s.journal
     undo_bad e = left (refused s 19 0) (undo_some ∙ rw e refl)
 
     -- the last record's reversal, by what it answers and leaves
-    pub undo_reversed : (rec : Rec) (js : List ℕ) (before : ℕ) (r : Edited) (after : List ℕ) → last_record (journal_of s) ≡ some (rec, js) → 2 * length js ≡ before →
+    pub undo_reversed : (rec : Rec) (js : List ℕ) (before : ℕ) (r : Result UsedLengths Refusal) (after : List ℕ) → last_record (journal_of s) ≡ some (rec, js) → 2 * length js ≡ before →
         Reversed dim s.file s.used rec full before r after → Leaves (undo_told dim s full) r after s.journal
     unfolding undo_made
     undo_reversed rec js before r after e l v =
@@ -113,7 +116,7 @@ fault_told dim ws size beside rec full told = go (reversible dim ws rec) refl
     go true e = rw (e, told e) refl
     go false e = rw e refl
 
-module _ (dim : ℕ) (file : List ℕ) (used : ℕ) (journal : List ℕ) (jused : ℕ) (x : Option Index) (full : Bool) (ok : index_ok x ≡ true) (r : Edited) (after : List ℕ) where
+module _ (dim : ℕ) (file : List ℕ) (used : ℕ) (journal : List ℕ) (jused : ℕ) (x : Option Index) (full : Bool) (ok : index_ok x ≡ true) (r : Result UsedLengths Refusal) (after : List ℕ) where
   abbrev bare : Session
   bare = session_of file used journal jused
 
@@ -121,7 +124,7 @@ module _ (dim : ℕ) (file : List ℕ) (used : ℕ) (journal : List ℕ) (jused 
   whole = session_with file used journal jused x
 
   -- what a refusal leaves, and what is made, are the same but for the index
-  same_by : (f : Fault?) (p q : Result) → (Leaves p r after journal → Leaves q r after journal) → Leaves (result_by f bare p) r after journal → Leaves (result_by f whole q) r after journal
+  same_by : (f : Fault?) (p q : Outcome) → (Leaves p r after journal → Leaves q r after journal) → Leaves (result_by f bare p) r after journal → Leaves (result_by f whole q) r after journal
   same_by fine p q h t = h t
   same_by (fault n m) p q h t = record { answer = t.answer; file_is = t.file_is; journal_is = t.journal_is }
 
@@ -163,25 +166,21 @@ module _ (dim : ℕ) (file : List ℕ) (used : ℕ) (rec : Rec) (full : Bool) (b
   abbrev back : List ℕ
   back = words_back dim (used_words file used) rec
 
-  pub back_refused : (n : ℕ) → n ≡ back_number (reversible dim (used_words file used) rec) full → (n ≡ 0 → ⊥) → Reversed dim file used rec full before (Refused n 0) file
+  pub back_refused : (n : ℕ) → n ≡ back_number (reversible dim (used_words file used) rec) full → (n ≡ 0 → ⊥) → Reversed dim file used rec full before (refused_with n 0) file
   back_refused n e z = go (reversible dim (used_words file used) rec) refl full refl e
     where
-      go : (b : Bool) → reversible dim (used_words file used) rec ≡ b → (f : Bool) → full ≡ f → n ≡ back_number b f → Reversed dim file used rec full before (Refused n 0) file
+      go : (b : Bool) → reversible dim (used_words file used) rec ≡ b → (f : Bool) → full ≡ f → n ≡ back_number b f → Reversed dim file used rec full before (refused_with n 0) file
       go false q f g k = record { answer = rw (q, k) refl; file_is = rw q refl }
       go true q true g k = record { answer = rw (q, g, k) refl; file_is = rw (q, g) refl }
       go true q false g k = absurd (z k)
 
   module _ (allowed : reversible dim (used_words file used) rec ≡ true) (fits : full ≡ false) where
-    pub back_room : length file < 2 * length (words_back dim (used_words file used) rec) → Reversed dim file used rec full before (Refused 15 0) file
+    pub back_room : length file < 2 * length (words_back dim (used_words file used) rec) → Reversed dim file used rec full before (refused_with 15 0) file
     back_room h =
         record { answer = rw (allowed, fits, lt-leb (2 * length back) (length file) h) refl; file_is = rw (allowed, fits, lt-leb (2 * length back) (length file) h) refl }
 
     pub back_done : 2 * length (words_back dim (used_words file used) rec) ≤ length file → (used' : ℕ) (after : List ℕ) →
         used' ≡ 2 * length (words_back dim (used_words file used) rec) → after ≡ stored file used (words_back dim (used_words file used) rec) →
-        Reversed dim file used rec full before (Made used' before) after
+        Reversed dim file used rec full before (made_with used' before) after
     back_done h used' after u f =
         record { answer = rw (allowed, fits, le-leb (2 * length back) (length file) h, u) refl; file_is = rw (allowed, fits, le-leb (2 * length back) (length file) h) f }
-
-pub answered_back : {dim : ℕ} {file : List ℕ} {used : ℕ} {rec : Rec} {full : Bool} {before : ℕ} {after : List ℕ} {r q : Edited} → r ≡ q →
-    Reversed dim file used rec full before q after → Reversed dim file used rec full before r after
-answered_back e t = rw e t

@@ -14,10 +14,10 @@ ghost use Rattle.opening.specs.Opening.{session_of};
 ghost use Rattle.opening.specs.Steps.{Leaves, Stepped, last_place, Open};
 ghost use Rattle.undoing.specs.Undoing.{OpenFile, RecordBy, place_in, back_number, Reversed, undo_told};
 
-use edits::Edited;
+use edits::UsedLengths;
 use journals::Last;
-use opening::Opened;
 use places::{Above, Spotted};
+use refusals::Refusal;
 
 // The number that a reversal is refused by, 0 for none: 19 where it is not allowed, then 15 where the index is full.
 fn back_fault(reverses: bool, full: bool) -> usize
@@ -39,11 +39,11 @@ fn undo_flag(
     dim: usize,
     marker: usize,
     place: usize,
-    found: Spotted,
+    found: Result<Spotted, Refusal>,
     old: &[u8],
     before: usize,
     full: bool,
-) -> Edited
+) -> Result<UsedLengths, Refusal>
     requires open_file { OpenFile dim file.old used place found }
     requires marker_value { marker ≡ last_place file.old used }
     ensures { Reversed dim file.old used (flag place (words old.now)) full before result file.new }
@@ -51,13 +51,13 @@ fn undo_flag(
     let reverses = faults::reversible(&file[..used], dim, marker, found, 1, Above::Top, place, old);
     let number = back_fault(reverses, full);
     if number != 0 {
-        return opening::refused(number);
+        return Err(opening::refused(number));
     }
     flags::restore(&mut file[..used], place, faults::end_of(found), old);
-    Edited::Made {
+    Ok(UsedLengths {
         used,
         jused: before,
-    }
+    })
 }
 
 // Writes the old name back over that of the cell at a place.
@@ -67,12 +67,12 @@ fn undo_renamed(
     dim: usize,
     marker: usize,
     place: usize,
-    found: Spotted,
+    found: Result<Spotted, Refusal>,
     first: u16,
     second: u16,
     before: usize,
     full: bool,
-) -> Edited
+) -> Result<UsedLengths, Refusal>
     requires open_file { OpenFile dim file.old used place found }
     requires marker_value { marker ≡ last_place file.old used }
     ensures { Reversed dim file.old used (renamed place first second) full before result file.new }
@@ -90,13 +90,13 @@ fn undo_renamed(
     );
     let number = back_fault(reverses, full);
     if number != 0 {
-        return opening::refused(number);
+        return Err(opening::refused(number));
     }
     changes::rename_cell(&mut file[..used], place, first, second);
-    Edited::Made {
+    Ok(UsedLengths {
         used,
         jused: before,
-    }
+    })
 }
 
 // Takes the element at a place out again.
@@ -106,36 +106,27 @@ fn undo_inserted(
     dim: usize,
     header: usize,
     place: usize,
-    found: Spotted,
+    found: Result<Spotted, Refusal>,
     before: usize,
     full: bool,
-) -> Edited
+) -> Result<UsedLengths, Refusal>
     requires { OpenFile dim file.old used place found }
     ensures { Reversed dim file.old used (inserted (place_of header) place) full before result file.new }
 {
-    match found {
-        Spotted::Refused {
-            number: _,
-            place: _,
-        } => opening::refused(19),
-        Spotted::At {
-            end,
-            depth: _,
-            above,
-        } => {
-            let reverses = faults::same_above(above, opening::header_at(header));
-            let number = back_fault(reverses, full);
-            if number != 0 {
-                return opening::refused(number);
-            }
-            let n = end - place;
-            changes::remove_extent(file, used, above, place, n);
-            Edited::Made {
-                used: used - 2 * n,
-                jused: before,
-            }
-        }
+    let Ok(spot) = found else {
+        return Err(opening::refused(19));
+    };
+    let reverses = faults::same_above(spot.above, opening::header_at(header));
+    let number = back_fault(reverses, full);
+    if number != 0 {
+        return Err(opening::refused(number));
     }
+    let n = spot.end - place;
+    changes::remove_extent(file, used, spot.above, place, n);
+    Ok(UsedLengths {
+        used: used - 2 * n,
+        jused: before,
+    })
 }
 
 // Puts the words that were removed in again.
@@ -146,11 +137,11 @@ fn undo_removed(
     marker: usize,
     header: usize,
     place: usize,
-    found: Spotted,
+    found: Result<Spotted, Refusal>,
     piece: &[u8],
     before: usize,
     full: bool,
-) -> Edited
+) -> Result<UsedLengths, Refusal>
     requires open_file { OpenFile dim file.old used place found }
     requires marker_value { marker ≡ last_place file.old used }
     requires piece_len { length piece.now % 2 ≡ 0 }
@@ -160,56 +151,40 @@ fn undo_removed(
     let reverses = faults::reversible(&file[..used], dim, marker, found, 4, above, place, piece);
     let number = back_fault(reverses, full);
     if number != 0 {
-        return opening::refused(number);
+        return Err(opening::refused(number));
     }
     if file.len() - used < piece.len() {
-        return opening::refused(15);
+        return Err(opening::refused(15));
     }
     changes::insert_piece(file, used, above, place, piece);
-    Edited::Made {
+    Ok(UsedLengths {
         used: used + piece.len(),
         jused: before,
-    }
+    })
 }
 
-// The last record of a journal by its used length; a bad one where that is beyond the journal.
-pub fn record_by(journal: &[u8], jused: usize) -> Last
+// The last record of a journal by its used length; none where that is beyond the journal, or the record is ill-formed.
+pub fn record_by(journal: &[u8], jused: usize) -> Option<Last>
     ensures { RecordBy journal.now jused result }
 {
     if jused <= journal.len() {
         return journals::last_record(&journal[..jused]);
     }
-    Last::Bad
+    None
 }
 
-// The place of a record, 0 of a bad one.
-fn place_in(last: Last) -> usize
+// The place of a record, 0 where there is none.
+fn place_in(last: Option<Last>) -> usize
     ensures { result ≡ place_in last }
 {
     match last {
-        Last::Bad => 0,
-        Last::Flag {
-            place,
-            count: _,
-            before: _,
-        } => place,
-        Last::Renamed {
-            place,
-            first: _,
-            second: _,
-            before: _,
-        } => place,
-        Last::Inserted {
-            header: _,
-            place,
-            before: _,
-        } => place,
-        Last::Removed {
-            header: _,
-            place,
-            count: _,
-            before: _,
-        } => place,
+        None => 0,
+        Some(
+            Last::Flag { place, .. }
+            | Last::Renamed { place, .. }
+            | Last::Inserted { place, .. }
+            | Last::Removed { place, .. },
+        ) => place,
     }
 }
 
@@ -221,20 +196,20 @@ fn undo_opened(
     jused: usize,
     dim: usize,
     marker: usize,
-    last: Last,
-    found: Spotted,
+    last: Option<Last>,
+    found: Result<Spotted, Refusal>,
     full: bool,
-) -> Edited
+) -> Result<UsedLengths, Refusal>
     requires fact { Open dim file.old used journal.now jused (place_in last) found }
     requires marker_value { marker ≡ last_place file.old used }
     requires last_read { LastRead (take jused journal.now) last }
     ensures { Leaves (undo_told dim (session_of file.old used journal.now jused) full) result file.new journal.now }
 {
     if jused == 0 {
-        return opening::refused(17);
+        return Err(opening::refused(17));
     }
-    match last {
-        Last::Bad => opening::refused(19),
+    let record = last.ok_or(opening::refused(19))?;
+    match record {
         Last::Flag {
             place,
             count,
@@ -301,27 +276,33 @@ pub fn undo_within(
     jused: usize,
     dim: usize,
     full: bool,
-) -> Edited
+) -> Result<UsedLengths, Refusal>
     ensures { Leaves (undo_told dim (session_of file.old used journal.now jused) full) result file.new journal.now }
 {
     let last = record_by(journal, jused);
     let place = place_in(last);
-    match opening::open_at(file, used, journal.len(), jused, dim, place) {
-        Opened::Refused {
-            number,
-            place: fault,
-        } => Edited::Refused {
-            number,
-            place: fault,
-        },
-        Opened::Ready { marker, found } => {
-            undo_opened(file, used, journal, jused, dim, marker, last, found, full)
-        }
-    }
+    let opened = opening::open_at(file, used, journal.len(), jused, dim, place)?;
+    undo_opened(
+        file,
+        used,
+        journal,
+        jused,
+        dim,
+        opened.marker,
+        last,
+        opened.found,
+        full,
+    )
 }
 
 // Undoes the last edit: its record is taken off the journal, whose bytes stay, and reversed.
-pub fn undo(file: &mut [u8], used: usize, journal: &[u8], jused: usize, dim: usize) -> Edited
+pub fn undo(
+    file: &mut [u8],
+    used: usize,
+    journal: &[u8],
+    jused: usize,
+    dim: usize,
+) -> Result<UsedLengths, Refusal>
     ensures { Stepped dim (session_of file.old used journal.now jused) undo_call result file.new journal.now }
 {
     undo_within(file, used, journal, jused, dim, false)

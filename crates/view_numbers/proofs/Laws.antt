@@ -15,38 +15,35 @@ use borrow.Author.Tests.{ltb-true, le-leb, lt-leb}
 use Rattle.answers.proofs.Besides.{put_then}
 use Rattle.places.specs.declared.Above.{Above}
 use Rattle.places.specs.declared.Above.TheVariants as aboves
-use Rattle.views.specs.declared.Number.{Number}
-use Rattle.views.specs.declared.Number.TheVariants as numbers
-use Rattle.views.specs.declared.Range.{Range}
-use Rattle.views.specs.declared.Range.TheVariants as ranges
-use Rattle.views.specs.declared.Display.{Display}
-use Rattle.views.specs.declared.Display.TheVariants as displays
-use Rattle.views.specs.declared.Name.{Name}
-use Rattle.views.specs.declared.Name.TheVariants as cells
 use Rattle.views.specs.declared.Element.{Element}
 use Rattle.kinds.specs.FirstWord.{bit}
 use Rattle.view_numbers.specs.Numbers.{above_numbers, number_numbers, range_numbers, display_numbers, name_numbers, common_numbers, kind_numbers, view_numbers, as_signed, put_view}
+use Rattle.std.specs.Prelude.{None, Option, Some}
+use Rattle.views.specs.Range.{longs_with}
+use Rattle.views.specs.declared.Display.{Display}
+use Rattle.views.specs.declared.Name.{Name}
+use Rattle.views.specs.declared.Range.{Range}
 
 -- how many numbers each part of a view has
 above_two : (x : Above) → length (above_numbers x) ≡ 2
 above_two aboves.Top = refl
 above_two (aboves.Under place) = refl
 
-number_two : (x : Number) → length (number_numbers x) ≡ 2
-number_two numbers.Absent = refl
-number_two (numbers.Value value) = refl
+number_two : (x : Option ℕ) → length (number_numbers x) ≡ 2
+number_two None = refl
+number_two (Some value) = refl
 
-range_seven : (x : Range) → length (range_numbers x) ≡ 7
-range_seven ranges.Absent = refl
-range_seven (ranges.Longs a b c d e f) = refl
+range_seven : (x : Option Range) → length (range_numbers x) ≡ 7
+range_seven None = refl
+range_seven (Some range) = refl
 
-display_seven : (x : Display) → length (display_numbers x) ≡ 7
-display_seven displays.Absent = refl
-display_seven (displays.Words a b c d e f) = refl
+display_seven : (x : Option Display) → length (display_numbers x) ≡ 7
+display_seven None = refl
+display_seven (Some display) = refl
 
-name_three : (x : Name) → length (name_numbers x) ≡ 3
-name_three cells.Absent = refl
-name_three (cells.Words first second) = refl
+name_three : (x : Option Name) → length (name_numbers x) ≡ 3
+name_three None = refl
+name_three (Some name) = refl
 
 -- the parts of a view put one behind another
 abbrev own : Element → List ℕ
@@ -59,7 +56,7 @@ common_put s at e = sym (put_then s at (map as_signed (own e)) (map as_signed (a
 -- the seven numbers of a range, one by one
 pub range_put : (s : List ℤ) (at : ℕ) (a b c d e f : ℤ) →
     set (set (set (set (set (set (set s at (pos 1)) (at + 1) a) (at + 2) b) (at + 3) c) (at + 4) d) (at + 5) e) (at + 6) f
-    ≡ sets s at (range_numbers (ranges.Longs a b c d e f))
+    ≡ sets s at (range_numbers (longs_with a b c d e f))
 range_put s at a b c d e f = simp towards_suc
 
 -- numbers behind others, as signed ones

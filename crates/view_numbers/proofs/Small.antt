@@ -20,19 +20,20 @@ use Rattle.kinds.proofs.Types.{Each}
 use Rattle.headers.specs.Header.{type_at, size_at, name_first, name_second, name_place}
 use Rattle.files.specs.Judge.{judge_of}
 use Rattle.files.specs.Spots.{Spot, spots_of, spot_in}
-use Rattle.files.specs.declared.Judged.{Judged}
-use Rattle.files.specs.declared.Judged.TheVariants as judged
 use Rattle.places.specs.Places.{above_of, spotted_by, spotted_at}
 use Rattle.views.specs.Views.{coordinate_at, range_of, display_of, number_if, name_words, element_view, view_by, view_of}
-use Rattle.views.specs.declared.Range.{Range}
-use Rattle.views.specs.declared.Range.TheVariants as range
-use Rattle.views.specs.declared.Display.TheVariants as display
-use Rattle.views.specs.declared.Name.TheVariants as name
 use Rattle.views.specs.declared.Element.{Element}
-use Rattle.views.specs.declared.View.TheVariants as view
 use Rattle.answers.proofs.Elements.{HeaderBelow, Standing, element_standing}
 use Rattle.order.specs.Parts.{Within}
 use Rattle.view_numbers.specs.Numbers.{above_numbers, number_numbers, range_numbers, display_numbers, name_numbers, common_numbers, kind_numbers, view_numbers, view_given, as_signed, put_view}
+use Rattle.std.specs.Prelude.{Err, None, Ok, Result, Option as Maybe}
+use Rattle.files.specs.declared.Accepted.{Accepted}
+use Rattle.refusals.specs.declared.Refusal.{Refusal}
+use Rattle.refusals.proofs.Laws.{given_is, given_not_refused}
+use Rattle.views.specs.Display.{display_with}
+use Rattle.views.specs.Name.{name_with}
+use Rattle.views.specs.Range.{longs_with}
+use Rattle.views.specs.declared.Range.{Range}
 
 -- each number of a list is below 2,147,483,648
 pub record Small (xs : List ℕ) : Type 0 where
@@ -83,8 +84,8 @@ module _ (ws : List ℕ) (below : Below 65536 ws) where
     display_small = go (is_linked (type_at ws at))
       where
         go : (b : Bool) →
-            Small (display_numbers (cond b (display.Words (word_at ws (at + 14)) (word_at ws (at + 15)) (word_at ws (at + 16)) (word_at ws (at + 17) % 8) (word_at ws (at + 17) / 8 % 32)
-            (word_at ws (at + 17) / 256)) display.Absent))
+            Small (display_numbers (cond b (display_with (word_at ws (at + 14)) (word_at ws (at + 15)) (word_at ws (at + 16)) (word_at ws (at + 17) % 8) (word_at ws (at + 17) / 8 % 32)
+            (word_at ws (at + 17) / 256)) None))
         go true =
             let l = below (at + 17) in
             record { each = (omega arith, (word_small (at + 14), (word_small (at + 15), (word_small (at + 16), (omega arith, (omega arith, (omega arith, tt))))))) }
@@ -94,7 +95,7 @@ module _ (ws : List ℕ) (below : Below 65536 ws) where
     unfolding name_words
     name_small = go (is_cell (type_at ws at))
       where
-        go : (b : Bool) → Small (name_numbers (cond b (name.Words (name_first ws at) (name_second ws at)) name.Absent))
+        go : (b : Bool) → Small (name_numbers (cond b (name_with (name_first ws at) (name_second ws at)) None))
         go true = record { each = (omega arith, (word_small (name_place ws at), (word_small (name_place ws at + 1), tt))) }
         go false = record { each = (omega arith, (omega arith, (omega arith, tt))) }
 
@@ -109,10 +110,10 @@ module _ (ws : List ℕ) (below : Below 65536 ws) where
     unfolding range_of
     range_small = go (leb 14 (size_at ws at))
       where
-        longs : Range
-        longs = range.Longs (coordinate_at ws (at + 2)) (coordinate_at ws (at + 4)) (coordinate_at ws (at + 6)) (coordinate_at ws (at + 8)) (coordinate_at ws (at + 10)) (coordinate_at ws (at + 12))
+        longs : Maybe Range
+        longs = longs_with (coordinate_at ws (at + 2)) (coordinate_at ws (at + 4)) (coordinate_at ws (at + 6)) (coordinate_at ws (at + 8)) (coordinate_at ws (at + 10)) (coordinate_at ws (at + 12))
 
-        go : (b : Bool) → Within 2147483648 (range_numbers (cond b longs range.Absent))
+        go : (b : Bool) → Within 2147483648 (range_numbers (cond b longs None))
         go true =
             (omega arith, (long_small (at + 2), (long_small (at + 4), (long_small (at + 6), (long_small (at + 8), (long_small (at + 10), (long_small (at + 12), tt)))))))
         go false = (omega arith, (omega arith, (omega arith, (omega arith, (omega arith, (omega arith, (omega arith, tt)))))))
@@ -141,13 +142,12 @@ unfolding put_view
 put_as_is s t at place e h l q = rw (le-leb (at + 32) (length s) h) at q ∙ ap (sets s at) (given_as_is place e l)
 
 -- the numbers of a view of lent bytes
-pub view_numbers_small : (dim : ℕ) (s : List ℕ) (at : ℕ) (e : Element) → Below 256 s → view_of dim s at ≡ view.Seen e → SmallView at e
+pub view_numbers_small : (dim : ℕ) (s : List ℕ) (at : ℕ) (e : Element) → Below 256 s → view_of dim s at ≡ Ok e → SmallView at e
 unfolding view_of spotted_at
 view_numbers_small dim s at e b q = go (judge_of dim s) refl (spot_in (spots_of dim (words s)) at) refl q
   where
-    go : (j : Judged) → judge_of dim s ≡ j → (o : Option Spot) → spot_in (spots_of dim (words s)) at ≡ o → view_by (spotted_by j o) (words s) at ≡ view.Seen e → SmallView at e
-    go (judged.Refused n p) h o i q = let z : ◌≡◌ {A = ℕ} 0 1 = cc in absurd (omega arith)
-    go (judged.Accepted c d m) h none i q = let z : ◌≡◌ {A = ℕ} 0 1 = cc in absurd (omega arith)
-    go (judged.Accepted c d m) h (some x) i q =
-        let z : element_view (words s) at x.depth (above_of x.header) ≡ e = cc in
-        rw z at (element_small (words s) (words_below s b) at x (element_standing dim s c d m h at x i))
+    go : (j : Result Accepted Refusal) → judge_of dim s ≡ j → (o : Option Spot) → spot_in (spots_of dim (words s)) at ≡ o → view_by (spotted_by j o) (words s) at ≡ Ok e → SmallView at e
+    go (Err refusal) h o i q = absurd (given_not_refused q)
+    go (Ok file) h none i q = absurd (given_not_refused q)
+    go (Ok file) h (some x) i q =
+        rw (given_is q) at (element_small (words s) (words_below s b) at x (element_standing dim s file.elements file.deepest file.marker h at x i))

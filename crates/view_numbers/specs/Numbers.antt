@@ -1,40 +1,35 @@
 -- A view as 32 signed numbers: of a part that may be absent, 1 and its numbers or 0 and zeros. Only the coordinates of the range may be
 -- negative.
-use Rattle.std.specs.Prelude.{ℕ, ◌+◌, cond, List, [], ◌∷◌, ◌++◌, map, length, leb, ltb, ℤ, pos}
+use Rattle.std.specs.Prelude.{ℕ, ◌+◌, cond, List, [], ◌∷◌, ◌++◌, map, length, leb, ltb, ℤ, pos, None, Option, Some}
 use Rattle.std.proofs.lemmas.List.Edits.{sets}
 use Rattle.places.specs.declared.Above.{Above}
 use Rattle.places.specs.declared.Above.TheVariants as aboves
-use Rattle.views.specs.declared.Number.{Number}
-use Rattle.views.specs.declared.Number.TheVariants as numbers
-use Rattle.views.specs.declared.Range.{Range}
-use Rattle.views.specs.declared.Range.TheVariants as ranges
-use Rattle.views.specs.declared.Display.{Display}
-use Rattle.views.specs.declared.Display.TheVariants as displays
-use Rattle.views.specs.declared.Name.{Name}
-use Rattle.views.specs.declared.Name.TheVariants as cells
 use Rattle.views.specs.declared.Element.{Element}
 use Rattle.kinds.specs.FirstWord.{bit}
+use Rattle.views.specs.declared.Display.{Display}
+use Rattle.views.specs.declared.Name.{Name}
+use Rattle.views.specs.declared.Range.{Range}
 
 -- the parts of a view
 abbrev pub above_numbers : Above → List ℕ
 above_numbers aboves.Top = 0 ∷ 0 ∷ []
 above_numbers (aboves.Under place) = 1 ∷ place ∷ []
 
-abbrev pub number_numbers : Number → List ℕ
-number_numbers numbers.Absent = 0 ∷ 0 ∷ []
-number_numbers (numbers.Value value) = 1 ∷ value ∷ []
+abbrev pub number_numbers : Option ℕ → List ℕ
+number_numbers None = 0 ∷ 0 ∷ []
+number_numbers (Some value) = 1 ∷ value ∷ []
 
-abbrev pub range_numbers : Range → List ℤ
-range_numbers ranges.Absent = pos 0 ∷ pos 0 ∷ pos 0 ∷ pos 0 ∷ pos 0 ∷ pos 0 ∷ pos 0 ∷ []
-range_numbers (ranges.Longs a b c d e f) = pos 1 ∷ a ∷ b ∷ c ∷ d ∷ e ∷ f ∷ []
+abbrev pub range_numbers : Option Range → List ℤ
+range_numbers None = pos 0 ∷ pos 0 ∷ pos 0 ∷ pos 0 ∷ pos 0 ∷ pos 0 ∷ pos 0 ∷ []
+range_numbers (Some range) = pos 1 ∷ range.low_x ∷ range.low_y ∷ range.low_z ∷ range.high_x ∷ range.high_y ∷ range.high_z ∷ []
 
-abbrev pub display_numbers : Display → List ℕ
-display_numbers displays.Absent = 0 ∷ 0 ∷ 0 ∷ 0 ∷ 0 ∷ 0 ∷ 0 ∷ []
-display_numbers (displays.Words a b c d e f) = 1 ∷ a ∷ b ∷ c ∷ d ∷ e ∷ f ∷ []
+abbrev pub display_numbers : Option Display → List ℕ
+display_numbers None = 0 ∷ 0 ∷ 0 ∷ 0 ∷ 0 ∷ 0 ∷ 0 ∷ []
+display_numbers (Some display) = 1 ∷ display.group ∷ display.index ∷ display.properties ∷ display.style ∷ display.weight ∷ display.colour ∷ []
 
-abbrev pub name_numbers : Name → List ℕ
-name_numbers cells.Absent = 0 ∷ 0 ∷ 0 ∷ []
-name_numbers (cells.Words first second) = 1 ∷ first ∷ second ∷ []
+abbrev pub name_numbers : Option Name → List ℕ
+name_numbers None = 0 ∷ 0 ∷ 0 ∷ []
+name_numbers (Some name) = 1 ∷ name.first ∷ name.second ∷ []
 
 -- what every element has
 abbrev pub common_numbers : Element → List ℕ

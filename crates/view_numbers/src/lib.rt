@@ -6,6 +6,8 @@ ghost use Rattle.std.specs.Prelude.{◌≡◌, map, ◌+◌, ◌≤◌, length};
 ghost use Rattle.std.proofs.lemmas.List.Edits.{sets};
 ghost use Rattle.view_numbers.specs.Numbers.{above_numbers, number_numbers, range_numbers, display_numbers, name_numbers, common_numbers, kind_numbers, as_signed, put_view};
 
+use views::{Display, Name, Range};
+
 // A number as a signed one.
 fn as_signed(n: usize) -> i64
     ensures { result ≡ as_signed n }
@@ -21,10 +23,8 @@ fn put_signed(out: &mut [i64], at: usize, numbers: &[usize])
     requires { at + length numbers.now ≤ length out.old }
     ensures { out.new ≡ sets out.old at (map as_signed numbers.now) }
 {
-    let mut k = 0;
-    while k < numbers.len() {
-        out[at + k] = as_signed(numbers[k]);
-        k += 1;
+    for (k, &n) in numbers.iter().enumerate() {
+        out[at + k] = as_signed(n);
     }
 }
 
@@ -39,39 +39,40 @@ fn above_numbers(above: places::Above) -> [usize; 2]
 }
 
 // A number that only some types have.
-fn number_numbers(number: views::Number) -> [usize; 2]
+fn number_numbers(number: Option<usize>) -> [usize; 2]
     ensures { result ≡ number_numbers number }
 {
     match number {
-        views::Number::Absent => [0, 0],
-        views::Number::Value { value } => [1, value],
+        None => [0, 0],
+        Some(value) => [1, value],
     }
 }
 
 // Words 14 to 17.
-fn display_numbers(display: views::Display) -> [usize; 7]
+fn display_numbers(display: Option<Display>) -> [usize; 7]
     ensures { result ≡ display_numbers display }
 {
     match display {
-        views::Display::Absent => [0; 7],
-        views::Display::Words {
-            group,
-            index,
-            properties,
-            style,
-            weight,
-            colour,
-        } => [1, group, index, properties, style, weight, colour],
+        None => [0; 7],
+        Some(display) => [
+            1,
+            display.group,
+            display.index,
+            display.properties,
+            display.style,
+            display.weight,
+            display.colour,
+        ],
     }
 }
 
 // The name words.
-fn name_numbers(name: views::Name) -> [usize; 3]
+fn name_numbers(name: Option<Name>) -> [usize; 3]
     ensures { result ≡ name_numbers name }
 {
     match name {
-        views::Name::Absent => [0, 0, 0],
-        views::Name::Words { first, second } => [1, first, second],
+        None => [0, 0, 0],
+        Some(name) => [1, name.first, name.second],
     }
 }
 
@@ -96,27 +97,20 @@ fn put_common(out: &mut [i64], at: usize, element: views::Element)
 }
 
 // Numbers 8 to 14 of a view, the range, from a place of a slice on.
-fn put_range(out: &mut [i64], at: usize, range: views::Range)
+fn put_range(out: &mut [i64], at: usize, range: Option<Range>)
     requires { at + 7 ≤ length out.old }
     ensures { out.new ≡ sets out.old at (range_numbers range) }
 {
     match range {
-        views::Range::Absent => put_signed(out, at, &[0; 7]),
-        views::Range::Longs {
-            low_x,
-            low_y,
-            low_z,
-            high_x,
-            high_y,
-            high_z,
-        } => {
+        None => put_signed(out, at, &[0; 7]),
+        Some(range) => {
             out[at] = 1;
-            out[at + 1] = low_x;
-            out[at + 2] = low_y;
-            out[at + 3] = low_z;
-            out[at + 4] = high_x;
-            out[at + 5] = high_y;
-            out[at + 6] = high_z;
+            out[at + 1] = range.low_x;
+            out[at + 2] = range.low_y;
+            out[at + 3] = range.low_z;
+            out[at + 4] = range.high_x;
+            out[at + 5] = range.high_y;
+            out[at + 6] = range.high_z;
         }
     }
 }

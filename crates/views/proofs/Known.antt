@@ -14,29 +14,28 @@ use Rattle.ranges.specs.Ranges.{coordinate}
 use Rattle.headers.specs.Header.{size_at}
 use Rattle.places.specs.declared.Above.{Above}
 use Rattle.views.specs.declared.Element.{Element}
-use Rattle.views.specs.declared.Range.{Range}
-use Rattle.views.specs.declared.View.TheVariants.{Seen, Refused}
 use Rattle.views.specs.Views.{coordinate_at, six_at, range_of, element_view, element_in}
+use Rattle.std.specs.Prelude.{Ok, Option}
+use Rattle.refusals.specs.Refusals.{refused_with}
+use Rattle.refusals.proofs.Laws.{given_is, refused_not_given}
+use Rattle.views.specs.declared.Range.{Range}
 
 module _ (s : List ℕ) (at depth : ℕ) (above : Above) where
-  pub known_there : (e : Element) → at < length s / 2 → e ≡ element_view (words s) at depth above → Seen e ≡ element_in (words s) at depth above
+  pub known_there : (e : Element) → at < length s / 2 → e ≡ element_view (words s) at depth above → Ok e ≡ element_in (words s) at depth above
   unfolding element_in
-  known_there e h q = let l = length_words s in rw (lt-ltb at (length (words s)) (omega arith)) (ap Seen q)
+  known_there e h q = let l = length_words s in rw (lt-ltb at (length (words s)) (omega arith)) (ap Ok q)
 
-  pub known_none : length s / 2 ≤ at → Refused 13 0 ≡ element_in (words s) at depth above
+  pub known_none : length s / 2 ≤ at → refused_with 13 0 ≡ element_in (words s) at depth above
   unfolding element_in
   known_none h = let l = length_words s in rw (le-ltb at (length (words s)) (omega arith)) refl
 
-  pub known_element : (e : Element) → at < length (words s) → element_in (words s) at depth above ≡ Seen e → element_view (words s) at depth above ≡ e
+  pub known_element : (e : Element) → at < length (words s) → element_in (words s) at depth above ≡ Ok e → element_view (words s) at depth above ≡ e
   unfolding element_in
-  known_element e h q = let z : Seen (element_view (words s) at depth above) ≡ Seen e = rw (lt-ltb at (length (words s)) h) at q in cc
+  known_element e h q = given_is (rw (lt-ltb at (length (words s)) h) at q)
 
-  pub known_not : (n p : ℕ) → at < length (words s) → element_in (words s) at depth above ≡ Refused n p → ⊥
+  pub known_not : (n p : ℕ) → at < length (words s) → element_in (words s) at depth above ≡ refused_with n p → ⊥
   unfolding element_in
-  known_not n p h q =
-      let r : Seen (element_view (words s) at depth above) ≡ Refused n p = rw (lt-ltb at (length (words s)) h) at q in
-      let z : ◌≡◌ {A = ℕ} 0 1 = cc in
-      omega arith
+  known_not n p h q = refused_not_given (rw (lt-ltb at (length (words s)) h) at q)
 
 -- an element whose size is above 2 has its size in the file
 pub size_inside : (s : List ℕ) (at : ℕ) → 2 < size_at (words s) at → at + 1 < length s / 2
@@ -84,6 +83,6 @@ module _ (s : List ℕ) (at : ℕ) where
       (λ i h. ap (λ ws. word_at ws i) (words_take 14 (drop (2 * at) s)) ∙ get_or-take 14 (words (drop (2 * at) s)) i 0 h ∙ ap (λ ws. word_at ws i) (words_drop at s) ∙ get_or-drop at (words s) i 0)
 
   -- so the range is read of them
-  pub range_six : 14 ≤ size_at (words s) at → {r : Range} → r ≡ six_at (words s) at → r ≡ range_of (words s) at
+  pub range_six : 14 ≤ size_at (words s) at → {r : Option Range} → r ≡ six_at (words s) at → r ≡ range_of (words s) at
   unfolding range_of
   range_six h e = rw (le-leb 14 (size_at (words s) at) h) e

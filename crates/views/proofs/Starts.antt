@@ -12,11 +12,11 @@ use borrow.Author.Tests.{eqb-true, eq-eqb}
 use Rattle.words.specs.Words.{words}
 use Rattle.files.specs.Judge.{judge_of}
 use Rattle.files.specs.Spots.{Spot, spots_of, first_if, spot_in}
-use Rattle.files.specs.declared.Judged.TheVariants.{Accepted}
 use Rattle.places.specs.Places.{found_by}
 use Rattle.views.specs.Views.{view_by, view_of}
 use Rattle.views.specs.Starts.{Starts, Accepts}
 use Rattle.places.proofs.Places.{spotted_found}
+use Rattle.files.specs.Accepted.{accepted_with}
 
 none_some : {x : Spot} → ◌≡◌ {A = Option Spot} none (some x) → ⊥
 none_some e = let z : ◌≡◌ {A = ℕ} 0 1 = cc in omega arith
@@ -40,7 +40,7 @@ starts_spot (y ∷ xs) p x m e n = go (eqb y.place p) refl n (Memᴰ.cases_cons 
     go false q n (inr m) k = k m n
 
 -- each place in the list of an accepted file's elements is one that a view accepts, and no other place is
-pub view_accepts : (dim : ℕ) (s : List ℕ) (p e d m : ℕ) → judge_of dim s ≡ Accepted e d m →
+pub view_accepts : (dim : ℕ) (s : List ℕ) (p e d m : ℕ) → judge_of dim s ≡ accepted_with e d m →
     (Starts (spots_of dim (words s)) p → Accepts (view_of dim s p)) × (Accepts (view_of dim s p) → Starts (spots_of dim (words s)) p)
 unfolding view_of
 view_accepts dim s p e d m q = rw (spotted_found dim s p e d m q) (go (spot_in (spots_of dim (words s)) p) refl)

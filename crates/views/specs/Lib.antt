@@ -1,2 +1,5 @@
 pub mod Views
 pub mod Starts
+pub mod Display
+pub mod Name
+pub mod Range

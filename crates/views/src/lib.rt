@@ -2,52 +2,40 @@
 
 #![tactic(auto)]
 
-ghost use Rattle.std.specs.Prelude.{◌≡◌, ◌/◌, ◌<◌, length};
+ghost use Rattle.std.specs.Prelude.{◌≡◌, ◌/◌, ◌<◌, length, Some};
 ghost use Rattle.words.specs.Words.{words};
 ghost use Rattle.views.specs.Views.{six_at, range_of, display_of, number_if, name_words, element_view, element_in, view_of};
 
-use places::{Above, Spotted, spotted_at};
-
-// A number that only some types have.
-#[derive(Clone, Copy)]
-pub enum Number {
-    Absent,
-    Value { value: usize },
-}
+use places::{Above, spotted_at};
+use refusals::Refusal;
 
 // The coordinates of the range.
 #[derive(Clone, Copy)]
-pub enum Range {
-    Absent,
-    Longs {
-        low_x: i64,
-        low_y: i64,
-        low_z: i64,
-        high_x: i64,
-        high_y: i64,
-        high_z: i64,
-    },
+pub struct Range {
+    pub low_x: i64,
+    pub low_y: i64,
+    pub low_z: i64,
+    pub high_x: i64,
+    pub high_y: i64,
+    pub high_z: i64,
 }
 
 // Words 14 to 17 of known types other than 1.
 #[derive(Clone, Copy)]
-pub enum Display {
-    Absent,
-    Words {
-        group: usize,
-        index: usize,
-        properties: usize,
-        style: usize,
-        weight: usize,
-        colour: usize,
-    },
+pub struct Display {
+    pub group: usize,
+    pub index: usize,
+    pub properties: usize,
+    pub style: usize,
+    pub weight: usize,
+    pub colour: usize,
 }
 
 // The two name words of types 1 and 2.
 #[derive(Clone, Copy)]
-pub enum Name {
-    Absent,
-    Words { first: usize, second: usize },
+pub struct Name {
+    pub first: usize,
+    pub second: usize,
 }
 
 #[derive(Clone, Copy)]
@@ -59,25 +47,19 @@ pub struct Element {
     pub size: usize,
     pub depth: usize,
     pub above: Above,
-    pub range: Range,
-    pub display: Display,
-    pub points: Number,
-    pub name: Name,
-    pub total: Number,
-    pub count: Number,
-}
-
-#[derive(Clone, Copy)]
-pub enum View {
-    Seen { element: Element },
-    Refused { number: usize, place: usize },
+    pub range: Option<Range>,
+    pub display: Option<Display>,
+    pub points: Option<usize>,
+    pub name: Option<Name>,
+    pub total: Option<usize>,
+    pub count: Option<usize>,
 }
 
 // The range of the element whose words a slice begins with.
 fn range_in(own: &[u8]) -> Range
-    ensures { result ≡ six_at (words own.now) 0 }
+    ensures { Some result ≡ six_at (words own.now) 0 }
 {
-    Range::Longs {
+    Range {
         low_x: ranges::coordinate_at(own, 2),
         low_y: ranges::coordinate_at(own, 4),
         low_z: ranges::coordinate_at(own, 6),
@@ -89,68 +71,65 @@ fn range_in(own: &[u8]) -> Range
 
 // The range of the element at a place, where it has the words. Of a part with just these words the compiler knows that they are
 // there, and drops each test for them.
-pub fn range_at(file: &[u8], at: usize) -> Range
+pub fn range_at(file: &[u8], at: usize) -> Option<Range>
     ensures { result ≡ range_of (words file.now) at }
 {
     if headers::size_at(file, at) < 14 {
-        return Range::Absent;
+        return None;
     }
     let start = 2 * at;
     if file.len() - start < 28 {
-        return range_in(&file[start..]);
+        return Some(range_in(&file[start..]));
     }
     let end = start + 28;
-    range_in(&file[start..end])
+    Some(range_in(&file[start..end]))
 }
 
 // Words 14 to 17, of the types that have them.
-fn display_at(file: &[u8], at: usize) -> Display
+fn display_at(file: &[u8], at: usize) -> Option<Display>
     requires { at < length file.now / 2 }
     ensures { result ≡ display_of (words file.now) at }
 {
     if kinds::is_linked(headers::type_at(file, at)) {
         let symbology = words::word(file, at + 17);
-        return Display::Words {
+        return Some(Display {
             group: words::word(file, at + 14),
             index: words::word(file, at + 15),
             properties: words::word(file, at + 16),
             style: symbology % 8,
             weight: symbology / 8 % 32,
             colour: symbology / 256,
-        };
+        });
     }
-    Display::Absent
+    None
 }
 
 // A number that only some types have.
-fn number_if(present: bool, value: usize) -> Number
+fn number_if(present: bool, value: usize) -> Option<usize>
     ensures { result ≡ number_if present value }
 {
-    if present {
-        return Number::Value { value };
-    }
-    Number::Absent
+    present.then_some(value)
 }
 
 // The name words of a cell.
-fn name_at(file: &[u8], at: usize) -> Name
+fn name_at(file: &[u8], at: usize) -> Option<Name>
     requires { at < length file.now / 2 }
     ensures { result ≡ name_words (words file.now) at }
 {
     let t = headers::type_at(file, at);
     if t == 1 {
-        return Name::Words {
+        return Some(Name {
             first: words::word(file, at + 16),
             second: words::word(file, at + 17),
-        };
+        });
     }
     if t == 2 {
-        return Name::Words {
+        return Some(Name {
             first: words::word(file, at + 19),
             second: words::word(file, at + 20),
-        };
+        });
     }
-    Name::Absent
+    None
 }
 
 // All that a view gives of the element at a place.
@@ -179,38 +158,22 @@ fn element_at(file: &[u8], at: usize, depth: usize, above: Above) -> Element
 }
 
 // A view of the element at a place whose depth and direct header are known; 13 where no word stands.
-pub fn element_in(file: &[u8], at: usize, depth: usize, above: Above) -> View
+pub fn element_in(file: &[u8], at: usize, depth: usize, above: Above) -> Result<Element, Refusal>
     ensures { result ≡ element_in (words file.now) at depth above }
 {
     if at < file.len() / 2 {
-        return View::Seen {
-            element: element_at(file, at, depth, above),
-        };
+        return Ok(element_at(file, at, depth, above));
     }
-    View::Refused {
+    Err(Refusal {
         number: 13,
         place: 0,
-    }
+    })
 }
 
 // A view of the element at a place.
-pub fn view_at(file: &[u8], dim: usize, place: usize) -> View
+pub fn view_at(file: &[u8], dim: usize, place: usize) -> Result<Element, Refusal>
     ensures { result ≡ view_of dim file.now place }
 {
-    match spotted_at(file, dim, place) {
-        Spotted::At {
-            end: _,
-            depth,
-            above,
-        } => View::Seen {
-            element: element_at(file, place, depth, above),
-        },
-        Spotted::Refused {
-            number,
-            place: fault,
-        } => View::Refused {
-            number,
-            place: fault,
-        },
-    }
+    let spot = spotted_at(file, dim, place)?;
+    Ok(element_at(file, place, spot.depth, spot.above))
 }

@@ -17,7 +17,6 @@ use Rattle.headers.specs.Header.{type_at, size_at, extent_at}
 use Rattle.kinds.specs.Kinds.{is_header}
 use Rattle.files.specs.Judge.{judge_of}
 use Rattle.files.specs.Spots.{Spot, spots_of}
-use Rattle.files.specs.declared.Judged.TheVariants.{Accepted}
 use Rattle.grammar.proofs.Tests.{OwnTests, Extent}
 use Rattle.grammar.proofs.Forest.{Forest, nil, node, flat, Wf, spots, weight, length_node, own_stands, components_stand, rest_stand}
 use Rattle.grammar.proofs.Stands.{Stands}
@@ -27,6 +26,7 @@ use Rattle.grammar.proofs.Exact.{accepted_is}
 use Rattle.walking.specs.declared.Walk.{Walk}
 use Rattle.walking.specs.Walk.{closed_to, opens, next_of, walk_start}
 use Rattle.walking.proofs.Steps.{Same, closed_here, closed_out, next_by}
+use Rattle.files.specs.Accepted.{accepted_with}
 
 -- from w the walk gives the elements of a list, one after another, and is then at v
 abbrev pub Walks : List ℕ → Walk → List Spot → Walk → Type 0
@@ -186,7 +186,7 @@ pub record FileWalk (ws : List ℕ) (xs : List Spot) (m : ℕ) : Type 0 where
   walks : Walks ws walk_start xs last
   marker : last.place ≡ m
 
-pub file_walk : (dim : ℕ) (s : List ℕ) (e d m : ℕ) → judge_of dim s ≡ Accepted e d m → FileWalk (words s) (spots_of dim (words s)) m
+pub file_walk : (dim : ℕ) (s : List ℕ) (e d m : ℕ) → judge_of dim s ≡ accepted_with e d m → FileWalk (words s) (spots_of dim (words s)) m
 file_walk dim s e d m q =
     let t = file_tree (accepted_is dim s e d m q).file in
     let l = t.end in
@@ -212,7 +212,7 @@ walks_list ws w v (x ∷ xs) p =
 
 -- iterating the walk of an accepted file from its start gives, one after another, exactly the place and depth of each
 -- element in file order, and after the last one the marker's place
-pub walk_is : (dim : ℕ) (s : List ℕ) (e d m : ℕ) → judge_of dim s ≡ Accepted e d m →
+pub walk_is : (dim : ℕ) (s : List ℕ) (e d m : ℕ) → judge_of dim s ≡ accepted_with e d m →
     (walked (length (spots_of dim (words s))) (words s) walk_start ≡ map (λ x. (x.place, x.depth)) (spots_of dim (words s)))
     × ((walked_to (length (spots_of dim (words s))) (words s) walk_start).place ≡ m)
 walk_is dim s e d m q =

@@ -37,12 +37,10 @@ pub fn end_in(ends: [usize; 9], depth: usize) -> usize
 pub fn closed_to(depth: usize, ends: [usize; 9], next: usize) -> usize
     ensures { result ≡ closed_to depth ends next }
 {
-    let mut d = depth;
-    while 0 < d {
+    for d in (1..=depth).rev() {
         if end_in(ends, d) != next {
             return d;
         }
-        d -= 1;
     }
     0
 }

@@ -9,13 +9,13 @@ use lib.ListN.{length}
 use lib.Dec.{eqb, leb}
 use lib.IntN.{ℤ}
 use borrow.Author.Tests.{eqb-true, eqb-false, le-leb, lt-leb}
+use Rattle.std.specs.Prelude.{Err, None, Ok, Result, Some}
 use Rattle.fields.specs.declared.Fields.{Fields}
 use Rattle.writer.specs.Writing.{written_by, WritesBy}
-use Rattle.writer.specs.declared.Written.{Written}
-use Rattle.writer.specs.declared.Written.TheVariants.{Made, Refused}
 use Rattle.answers.specs.Answers.{refuse, Replied, SmallReply}
 use Rattle.answers.proofs.Laws.{too_short, answered}
-use Rattle.write_answers.specs.declared.Given.TheVariants.{Header, Nothing}
+use Rattle.refusals.specs.Refusals.{refused_with}
+use Rattle.refusals.specs.declared.Refusal.{Refusal}
 use Rattle.write_answers.specs.Writing.{natural_at, fields_given, fields_of, given_in, write_reply, cut_reply, WroteBy}
 
 -- header fields are sixteen numbers
@@ -28,17 +28,17 @@ given_sixteen f = go (eqb (length f) 16) refl
     go false e h = let z : ◌≡◌ {A = ℕ} 0 1 = cc in absurd (omega arith)
 
 -- what a slice is, by what is found of it
-pub given_is : (f : List ℤ) (g : Fields) → given_in f ≡ Header g → (fields_given f ≡ true) × (g ≡ fields_of f)
+pub given_is : (f : List ℤ) (g : Fields) → given_in f ≡ Some g → (fields_given f ≡ true) × (g ≡ fields_of f)
 given_is f g e = go (fields_given f) refl e
   where
-    go : (b : Bool) → fields_given f ≡ b → cond b (Header (fields_of f)) Nothing ≡ Header g → (fields_given f ≡ true) × (g ≡ fields_of f)
+    go : (b : Bool) → fields_given f ≡ b → cond b (Some (fields_of f)) None ≡ Some g → (fields_given f ≡ true) × (g ≡ fields_of f)
     go true q e = (q, cc)
     go false q e = let z : ◌≡◌ {A = ℕ} 0 1 = cc in absurd (omega arith)
 
-pub given_not : (f : List ℤ) → given_in f ≡ Nothing → fields_given f ≡ false
+pub given_not : (f : List ℤ) → given_in f ≡ None → fields_given f ≡ false
 given_not f e = go (fields_given f) refl e
   where
-    go : (b : Bool) → fields_given f ≡ b → cond b (Header (fields_of f)) Nothing ≡ Nothing → fields_given f ≡ false
+    go : (b : Bool) → fields_given f ≡ b → cond b (Some (fields_of f)) None ≡ None → fields_given f ≡ false
     go true q e = let z : ◌≡◌ {A = ℕ} 0 1 = cc in absurd (omega arith)
     go false q e = q
 
@@ -51,16 +51,16 @@ Table k = (k ≡ 0 → ⊥) → k ≤ 22
 pub by_table : (k size : ℕ) → Table k → SmallReply (write_reply (written_by k size))
 by_table k size h = go (eqb k 0) refl
   where
-    go : (b : Bool) → eqb k 0 ≡ b → SmallReply (write_reply (cond b (Made size) (Refused k 0)))
+    go : (b : Bool) → eqb k 0 ≡ b → SmallReply (write_reply (cond b (Ok size) (refused_with k 0)))
     go true e = tt
     go false e = let x = eqb-false k 0 e in let l = h x in (omega arith, l, omega arith)
 
 -- so it loses nothing by the cut
-small_cut : (r : Written) → SmallReply (write_reply r) → cut_reply r ≡ write_reply r
-small_cut (Made words) h = refl
-small_cut (Refused n p) h =
-    let number : n % 256 ≡ n = omega arith in
-    let place : p % 72057594037927936 ≡ p = omega arith in
+small_cut : (r : Result ℕ Refusal) → SmallReply (write_reply r) → cut_reply r ≡ write_reply r
+small_cut (Ok words) h = refl
+small_cut (Err refusal) h =
+    let number : refusal.number % 256 ≡ refusal.number = omega arith in
+    let place : refusal.place % 72057594037927936 ≡ refusal.place = omega arith in
     rw (number, place) refl
 
 ---- the function
@@ -78,7 +78,7 @@ module _ (fault size : ℕ) (ws buffer out : List ℕ) where
   }
 
   -- the writer's own answer
-  pub written : (own : ℕ) (r : Written) (n : ℕ) (last t : List ℕ) → fault ≡ own → Table own → 1 ≤ length out → WritesBy own size ws buffer r last → Replied 1 (cut_reply r) out n t →
+  pub written : (own : ℕ) (r : Result ℕ Refusal) (n : ℕ) (last t : List ℕ) → fault ≡ own → Table own → 1 ≤ length out → WritesBy own size ws buffer r last → Replied 1 (cut_reply r) out n t →
       WroteBy fault size ws buffer out n last t
   written own r n last t e k h w a =
       let s : SmallReply (write_reply r) = subst (λ x. SmallReply (write_reply x)) (sym w.answer) (by_table own size k) in

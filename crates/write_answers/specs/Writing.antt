@@ -1,14 +1,11 @@
 -- What the C interface's functions that write an element are handed and what they leave. The header fields are a slice of
 -- sixteen numbers, in the order type, level, C, deleted, low x y z, high x y z, graphic group, attribute index, properties,
 -- style, weight, colour.
-use Rattle.std.specs.Prelude.{ℕ, ◌%◌, ◌≡◌, Bool, cond, ◌&&◌, List, [], ◌∷◌, length, get_or, eqb, leb, ℤ, pos, negsuc}
+use Rattle.std.specs.Prelude.{ℕ, ◌%◌, ◌≡◌, Bool, cond, ◌&&◌, List, [], ◌∷◌, length, get_or, eqb, leb, ℤ, pos, negsuc, Err, None, Ok, Option, Result, Some}
 use Rattle.fields.specs.declared.Fields.{Fields}
 use Rattle.writer.specs.Writing.{written_by, bytes_by}
-use Rattle.writer.specs.declared.Written.{Written}
-use Rattle.writer.specs.declared.Written.TheVariants.{Made, Refused}
-use Rattle.write_answers.specs.declared.Given.{Given}
-use Rattle.write_answers.specs.declared.Given.TheVariants.{Header, Nothing}
 use Rattle.answers.specs.Answers.{Reply, done, refuse, Replied}
+use Rattle.refusals.specs.declared.Refusal.{Refusal}
 
 -- number i of a slice
 abbrev pub number_at : List ℤ → ℕ → ℤ
@@ -47,19 +44,19 @@ fields_of f = record {
   colour = natural_at f 15;
 }
 
-abbrev pub given_in : List ℤ → Given
-given_in f = cond (fields_given f) (Header (fields_of f)) Nothing
+abbrev pub given_in : List ℤ → Option Fields
+given_in f = cond (fields_given f) (Some (fields_of f)) None
 
 -- the words written, or the refusal
-abbrev pub write_reply : Written → Reply ℕ
-write_reply (Made words) = done (words ∷ [])
-write_reply (Refused number place) = refuse number place
+abbrev pub write_reply : Result ℕ Refusal → Reply ℕ
+write_reply (Ok words) = done (words ∷ [])
+write_reply (Err refusal) = refuse refusal.number refusal.place
 
 -- the same of any number and place, cut to 8 and 56 bits, which one number holds; no refusal of the writer loses by it
 -- (`small_cut`)
-abbrev pub cut_reply : Written → Reply ℕ
-cut_reply (Made words) = write_reply (Made words)
-cut_reply (Refused number place) = refuse (number % 256) (place % 72057594037927936)
+abbrev pub cut_reply : Result ℕ Refusal → Reply ℕ
+cut_reply (Ok words) = write_reply (Ok words)
+cut_reply (Err refusal) = refuse (refusal.number % 256) (refusal.place % 72057594037927936)
 
 -- the number that is returned, the answer slice and the buffer as they then are, by the number of the first fault and by the
 -- size and the words of the element; with no room for the answer both stay

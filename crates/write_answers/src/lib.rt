@@ -7,14 +7,7 @@ ghost use Rattle.std.specs.Prelude.{◌≡◌, length};
 ghost use Rattle.answers.specs.Answers.{Replied};
 ghost use Rattle.write_answers.specs.Writing.{natural, natural_at, fields_given, fields_of, given_in, cut_reply};
 
-use writer::Written;
-
-// The header fields that a slice of numbers is, or that it is none.
-#[derive(Clone, Copy)]
-pub enum Given {
-    Header { fields: fields::Fields },
-    Nothing,
-}
+use refusals::Refusal;
 
 // A number that is not negative; any other is none that a writer takes.
 pub fn natural(v: i64) -> usize
@@ -72,29 +65,27 @@ fn fields_of(fields: &[i64]) -> fields::Fields
 }
 
 // The header fields of a slice, where it is such.
-pub fn fields_in(fields: &[i64]) -> Given
+pub fn fields_in(fields: &[i64]) -> Option<fields::Fields>
     ensures { result ≡ given_in fields.now }
 {
     if !fields_given(fields) {
-        return Given::Nothing;
+        return None;
     }
-    Given::Header {
-        fields: fields_of(fields),
-    }
+    Some(fields_of(fields))
 }
 
 // The number of words; of a refusal its number and place as one number, and nothing written. 1 where the slice is too short.
-pub fn put_written(out: &mut [usize], answer: Written) -> usize
+pub fn put_written(out: &mut [usize], answer: Result<usize, Refusal>) -> usize
     ensures { Replied 1 (cut_reply answer) out.old result out.new }
 {
     if out.len() < 1 {
         return 1;
     }
     match answer {
-        Written::Made { words } => {
+        Ok(words) => {
             out[0] = words;
             0
         }
-        Written::Refused { number, place } => number % 256 + 256 * (place % 72057594037927936),
+        Err(refusal) => refusal.number % 256 + 256 * (refusal.place % 72057594037927936),
     }
 }

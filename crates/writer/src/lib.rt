@@ -11,12 +11,7 @@ ghost use Rattle.fields.specs.Words.{longs, first_word, range_longs, display_wor
 ghost use Rattle.fields.specs.Faults.{fields_ok, write_fault};
 ghost use Rattle.writer.specs.Writing.{laid, Writes, header_fits, header_laid};
 
-// What the writer answers: how many words it wrote, or a number and a place.
-#[derive(Clone, Copy)]
-pub enum Written {
-    Made { words: usize },
-    Refused { number: usize, place: usize },
-}
+use refusals::Refusal;
 
 // Word 0.
 fn first_word(fields: fields::Fields) -> usize
@@ -118,10 +113,8 @@ fn put_points(out: &mut [u8], at: usize, points: &[i32])
     requires { at + 2 * length points.now ≤ length out.old / 2 }
     ensures { out.new ≡ laid out.old at (longs (map unsigned points.now)) }
 {
-    let mut k = 0;
-    while k < points.len() {
-        words::put_signed_long(out, at + 2 * k, points[k]);
-        k += 1;
+    for (k, &point) in points.iter().enumerate() {
+        words::put_signed_long(out, at + 2 * k, point);
     }
 }
 
@@ -155,16 +148,15 @@ pub fn write(
     tail: &[u8],
     dim: usize,
     out: &mut [u8],
-) -> Written
+) -> Result<usize, Refusal>
     ensures { Writes dim fields points.now tail.now out.old result out.new }
 {
     let fault = fields::write_fault(dim, fields, points, tail, out.len());
     if fault != 0 {
-        return Written::Refused {
+        return Err(Refusal {
             number: fault,
             place: 0,
-        };
+        });
     }
-    let words = put_element(dim, fields, points, tail, out);
-    Written::Made { words }
+    Ok(put_element(dim, fields, points, tail, out))
 }

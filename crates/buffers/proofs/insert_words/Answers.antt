@@ -4,6 +4,7 @@ use native.Mathlib.Omega.{arith}
 use Rattle.words.proofs.Laws.{lent_below}
 use Rattle.buffers.proofs.Stored.{insert_moves}
 use Rattle.copies.proofs.Copies.{copied_fits}
+use Rattle.buffers.proofs.Over.{moved_over}
 use Rattle.buffers.proofs.Fits.{inserted_fits, inserted_not}
 use Rattle.buffers.proofs.insert_words.Goals as goal
 
@@ -30,5 +31,5 @@ returns c =
     let even = c.if-used-ne0.false in
     let even_piece = c.if-n-ne0.false in
     insert_moves _ _ _ file even (omega arith) _ _ _ piece even_piece (omega arith) (omega arith)
-    c.move_up.ensures (c.copy_in.ensures ∙ copied_fits _ _ _ (omega arith)) ∙ sym
+    (c.copy_within.ensures.after ∙ moved_over _ _ _ _ (omega arith)) (c.copy_in.ensures ∙ copied_fits _ _ _ (omega arith)) ∙ sym
     (inserted_fits _ _ _ _ even even_piece (omega arith) (omega arith))

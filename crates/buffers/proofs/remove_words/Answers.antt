@@ -4,6 +4,7 @@ use native.Mathlib.Omega.{arith}
 use Rattle.words.proofs.Laws.{lent_below}
 use Rattle.copies.proofs.Clears.{cleared_in}
 use Rattle.buffers.proofs.Stored.{remove_moves}
+use Rattle.buffers.proofs.Over.{moved_over}
 use Rattle.buffers.proofs.Fits.{removed_fits, removed_not}
 use Rattle.buffers.proofs.remove_words.Goals as goal
 
@@ -24,5 +25,5 @@ returns c =
     let args = c.args in
     let file = lent_below args.file.now c.slice_known-1.given in
     let even = c.if-used-ne0.false in
-    remove_moves _ _ _ file even (omega arith) _ _ _ (omega arith) c.move_down.ensures
-    (c.clear.ensures ∙ cleared_in _ _ _ (omega arith) (omega (arith, c.move_down.auto.s))) ∙ sym (removed_fits _ _ _ _ even (omega arith) (omega arith))
+    remove_moves _ _ _ file even (omega arith) _ _ _ (omega arith) (c.copy_within.ensures.after ∙ moved_over _ _ _ _ (omega arith))
+    (c.clear.ensures ∙ cleared_in _ _ _ (omega arith) (omega (arith, c.copy_within.auto.self))) ∙ sym (removed_fits _ _ _ _ even (omega arith) (omega arith))

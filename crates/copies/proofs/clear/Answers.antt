@@ -1,10 +1,10 @@
--- The invariant: zeros stand from `at` to k (`zero_turn`).
-use Prim.Native.Nat.{◌-◌}
-use mathlib.Core.Path.{◌≡◌, refl}
+-- The part that is written holds zeros, and the rest stays; where a test fails nothing is cleared.
+use Prim.Native.Nat.{ℕ, ◌-◌}
+use mathlib.Core.Path.{◌≡◌, sym, ap, ◌∙◌}
 use native.Mathlib.Omega.{arith}
-use native.Mathlib.Numerals.{add-one}
-use lib.ListN.{length-set}
-use Rattle.copies.proofs.Clears.{zero_start, zero_turn, cleared_in, cleared_past, cleared_back}
+use lib.ListN.{replicate, length-replicate, length-take, length-drop}
+use Rattle.copies.proofs.Copies.{part_over}
+use Rattle.copies.proofs.Clears.{cleared_in, cleared_past, cleared_back}
 use Rattle.copies.proofs.clear.Goals as goal
 
 pub returns-then-end-at : goal.returns-then-end-at
@@ -13,14 +13,7 @@ returns-then-end-at c = cleared_back _ _ _ (omega arith)
 pub returns-then-s-end : goal.returns-then-s-end
 returns-then-s-end c = cleared_past _ _ _ (omega arith)
 
-pub loop-k-init : goal.loop-k-init
-loop-k-init c = (omega arith, omega arith, refl, zero_start _ _)
-
-pub loop-k-preserved : goal.loop-k-preserved
-loop-k-preserved c = (omega arith, omega arith, simp length-set (omega arith), rw add-one (zero_turn _ _ _ _ c.loop-k.invariant.3 c.loop-k.invariant.0 (omega arith)))
-
 pub returns : goal.returns
 returns c =
-    let args = c.args in
-    let e : c.loop-k.k ≡ args.end = omega arith in
-    rw (cleared_in args.s.now args.at args.end (omega arith) (omega arith), ← e) c.loop-k.invariant.3
+    let z : c.fill.new.self ≡ replicate (c.args.end - c.args.at) 0 = c.fill.ensures.after (λ y h. h) ∙ ap (λ n. replicate n 0) (omega (arith, length-take {A = ℕ}, length-drop {A = ℕ})) in
+    part_over _ _ _ _ _ z (omega (arith, length-replicate {A = ℕ})) ∙ sym (cleared_in _ _ _ (omega arith) (omega arith))

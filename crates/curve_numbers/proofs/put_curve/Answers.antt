@@ -2,7 +2,7 @@
 use mathlib.Core.Path.{sym, ap, ◌∙◌}
 use native.Mathlib.Omega.{arith}
 use lib.Seq.{sets}
-use Rattle.curve_numbers.specs.Numbers.{curve_numbers, curve_floats}
+use Rattle.curve_numbers.specs.Numbers.{curve_numbers, curve_floats, numbers_of, floats_of}
 use Rattle.curve_numbers.proofs.Laws.{no_numbers, no_floats, both_put}
 use Rattle.curve_numbers.proofs.put_curve.Goals as goal
 
@@ -41,8 +41,8 @@ returns-in-Ellipse c =
     let a = c.args in
     both_put a.numbers.now a.at a.floats.now a.from a.curve
     (omega (arith, c.if-numbers-lt7.false, c.if-numbers-at.false)) (omega (arith, c.if-floats-lt5.false, c.if-floats-from.false)) _ _
-    (c.put_longs.ensures ∙ ap (λ x. sets a.numbers.now a.at (curve_numbers x)) (sym c.in-Ellipse.is))
-    (c.put_floats.ensures ∙ ap (λ x. sets a.floats.now a.from (curve_floats x)) (sym c.in-Ellipse.is))
+    (c.put_longs.ensures ∙ ap (λ x. sets a.numbers.now a.at (curve_numbers x)) (sym c.in-Ellipse.is) ∙ ap (λ x. sets a.numbers.now a.at (numbers_of x)) (sym c.in-Ok.is))
+    (c.put_floats.ensures ∙ ap (λ x. sets a.floats.now a.from (curve_floats x)) (sym c.in-Ellipse.is) ∙ ap (λ x. sets a.floats.now a.from (floats_of x)) (sym c.in-Ok.is))
 
 pub shape_of-numbers-in-Arc : goal.shape_of-numbers-in-Arc
 shape_of-numbers-in-Arc c = c.put_longs-in-Arc.auto.numbers
@@ -55,13 +55,13 @@ returns-in-Arc c =
     let a = c.args in
     both_put a.numbers.now a.at a.floats.now a.from a.curve
     (omega (arith, c.if-numbers-lt7.false, c.if-numbers-at.false)) (omega (arith, c.if-floats-lt5.false, c.if-floats-from.false)) _ _
-    (c.put_longs-in-Arc.ensures ∙ ap (λ x. sets a.numbers.now a.at (curve_numbers x)) (sym c.in-Arc.is))
-    (c.put_floats-in-Arc.ensures ∙ ap (λ x. sets a.floats.now a.from (curve_floats x)) (sym c.in-Arc.is))
+    (c.put_longs-in-Arc.ensures ∙ ap (λ x. sets a.numbers.now a.at (curve_numbers x)) (sym c.in-Arc.is) ∙ ap (λ x. sets a.numbers.now a.at (numbers_of x)) (sym c.in-Ok.is))
+    (c.put_floats-in-Arc.ensures ∙ ap (λ x. sets a.floats.now a.from (curve_floats x)) (sym c.in-Arc.is) ∙ ap (λ x. sets a.floats.now a.from (floats_of x)) (sym c.in-Ok.is))
 
-pub returns-in-Refused : goal.returns-in-Refused
-returns-in-Refused c =
+pub returns-in_default : goal.returns-in_default
+returns-in_default c =
     let a = c.args in
     both_put a.numbers.now a.at a.floats.now a.from a.curve
     (omega (arith, c.if-numbers-lt7.false, c.if-numbers-at.false)) (omega (arith, c.if-floats-lt5.false, c.if-floats-from.false)) _ _
-    (ap (λ x. sets a.numbers.now a.at (curve_numbers x)) (sym c.in-Refused.is))
-    (ap (λ x. sets a.floats.now a.from (curve_floats x)) (sym c.in-Refused.is))
+    (ap (λ x. sets a.numbers.now a.at (numbers_of x)) (sym c.in_default.is))
+    (ap (λ x. sets a.floats.now a.from (floats_of x)) (sym c.in_default.is))

@@ -20,20 +20,17 @@ pub bounds-out-2 : goal.bounds-out-2
 bounds-out-2 c = simp length-set (omega arith)
 
 pub overflow_mul-result : goal.overflow_mul-result
-overflow_mul-result c = let b = file_small _ _ _ _ (sym c.judge.ensures ∙ c.in-Refused.is) in omega arith
+overflow_mul-result c = let b = file_small _ _ _ _ (sym c.judge.ensures ∙ c.in-Err.is) in omega arith
 
 pub overflow_add-result : goal.overflow_add-result
-overflow_add-result c = let b = file_small _ _ _ _ (sym c.judge.ensures ∙ c.in-Refused.is) in omega arith
+overflow_add-result c = let b = file_small _ _ _ _ (sym c.judge.ensures ∙ c.in-Err.is) in omega arith
 
-pub shape_of-out : goal.shape_of-out
-shape_of-out c = simp length-set
-
-pub returns-in-Accepted : goal.returns-in-Accepted
-returns-in-Accepted c =
+pub returns-in-Ok : goal.returns-in-Ok
+returns-in-Ok c =
     answered 3 _ _ c.args.out.now
-    (ap judge_reply (sym c.judge.ensures ∙ c.in-Accepted.is)) c.if-out-lt3.false
+    (ap judge_reply (sym c.judge.ensures ∙ c.in-Ok.is)) c.if-out-lt3.false
 
-pub returns-in-Refused : goal.returns-in-Refused
-returns-in-Refused c =
+pub returns-in-Err : goal.returns-in-Err
+returns-in-Err c =
     answered 3 _ _ c.args.out.now
-    (ap judge_reply (sym c.judge.ensures ∙ c.in-Refused.is)) c.if-out-lt3.false
+    (ap judge_reply (sym c.judge.ensures ∙ c.in-Err.is)) c.if-out-lt3.false

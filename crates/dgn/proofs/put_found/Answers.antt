@@ -7,18 +7,18 @@ use Rattle.dgn.proofs.put_found.Goals as goal
 
 pub overflow_mul-result : goal.overflow_mul-result
 overflow_mul-result c =
-    let small = rw c.in-Refused.is at c.requires.0 in
+    let small = rw c.in-Err.is at c.requires.0 in
     omega (arith, c.pick.ensures, small.2)
 
 pub overflow_add-result : goal.overflow_add-result
 overflow_add-result c =
-    let small = rw c.in-Refused.is at c.requires.0 in
+    let small = rw c.in-Err.is at c.requires.0 in
     omega (arith, c.pick.ensures, small.1, small.2)
 
-pub returns-in-At : goal.returns-in-At
-returns-in-At c =
-    answered 2 _ _ c.args.out.now (ap find_reply c.in-At.is) c.requires.1
+pub returns-in-Ok : goal.returns-in-Ok
+returns-in-Ok c =
+    answered 2 _ _ c.args.out.now (ap find_reply c.in-Ok.is) c.requires.1
 
-pub returns-in-Refused : goal.returns-in-Refused
-returns-in-Refused c =
-    rw c.pick.ensures (answered 2 _ _ c.args.out.now (ap find_reply c.in-Refused.is) c.requires.1)
+pub returns-in-Err : goal.returns-in-Err
+returns-in-Err c =
+    rw c.pick.ensures (answered 2 _ _ c.args.out.now (ap find_reply c.in-Err.is) c.requires.1)

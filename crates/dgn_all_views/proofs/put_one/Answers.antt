@@ -1,5 +1,4 @@
 -- Before number k nothing is put; the element is there, since its place is at a word of the file (`one_put`).
-use Prim.Native.Nat.{◌-◌}
 use mathlib.Core.Path.{sym, ◌∙◌}
 use native.Mathlib.Omega.{arith}
 use Rattle.views.proofs.Known.{known_not}
@@ -12,15 +11,15 @@ returns-then-i-k c = one_before c.args.k c.args.i c.args.views.now _ c.if-i-k.tr
 pub overflow_mul-from : goal.overflow_mul-from
 overflow_mul-from c = omega (arith, c.requires.1 c.if-i-k.false)
 
-pub returns-in-Seen : goal.returns-in-Seen
-returns-in-Seen c =
+pub returns-in-Ok : goal.returns-in-Ok
+returns-in-Ok c =
     one_put c.args.file.now c.args.place c.args.depth c.args.above _ c.args.k
     c.args.i c.args.views.now _
-    (sym c.element_in.ensures ∙ c.in-Seen.is) c.requires.0 c.if-i-k.false
+    (sym c.element_in.ensures ∙ c.in-Ok.is) c.requires.0 c.if-i-k.false
     (c.requires.1 c.if-i-k.false) c.put_view.ensures
 
-pub returns-in-Refused : goal.returns-in-Refused
-returns-in-Refused c =
+pub returns-in_default : goal.returns-in_default
+returns-in_default c =
     absurd
     (known_not c.args.file.now c.args.place c.args.depth _ _ _ c.requires.0
-    (sym c.element_in.ensures ∙ c.in-Refused.is))
+    (sym c.element_in.ensures ∙ c.in_default.is))

@@ -1,5 +1,5 @@
--- The loop's invariant: it is at the place of element number i, and what is kept is the last one up to there that is at the top.
-use Prim.Native.Nat.{◌-◌, ◌≤◌}
+-- The loop's invariant: it is at the place of the element before number i, and what is kept is the last one up to there that is at the top.
+use Prim.Native.Nat.{◌+◌, ◌-◌, ◌≤◌}
 use mathlib.Core.Path.{◌≡◌}
 use Rattle.words.specs.Words.{words}
 use Rattle.order.specs.Order.{place_of}
@@ -8,7 +8,4 @@ use Rattle.dgn_all_views.proofs.top_before.Given as goal
 
 abbrev pub invariant-loop-i : goal.invariant-loop-i
 invariant-loop-i l =
-    (l.i ≤ l.k) × (l.at ≡ place_of (words l.file) l.i) × TopBefore (words l.file) l.i (record { number = l.number; place = l.place })
-
-abbrev pub decreases-loop-i : goal.decreases-loop-i
-decreases-loop-i l = l.k - l.i
+    (l.i ≤ l.k + 1) × (l.at ≡ place_of (words l.file) (l.i - 1)) × TopBefore (words l.file) (l.i - 1) (record { number = l.number; place = l.place })

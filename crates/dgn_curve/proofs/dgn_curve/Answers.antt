@@ -6,7 +6,6 @@ use Rattle.dgn_curve.specs.CurveReplies.{curve_reply}
 use Rattle.dgn_curve.proofs.Done.{few_numbers, few_floats, replied_as, put_there}
 use Rattle.dgn_curve.proofs.Small.{curve_refused_small}
 use Rattle.dgn_curve.proofs.dgn_curve.Goals as goal
-use Rattle.dgn_curve.proofs.dgn_curve.Goals.{After-curve_at-curve}
 
 pub returns-then-numbers-lt7 : goal.returns-then-numbers-lt7
 returns-then-numbers-lt7 c = let a = c.args in few_numbers _ a.numbers.now a.floats.now c.if-numbers-lt7.true
@@ -17,26 +16,19 @@ returns-then-floats-lt5 c = let a = c.args in few_floats _ a.numbers.now a.float
 pub overflow_mul-result : goal.overflow_mul-result
 overflow_mul-result c =
     let a = c.args in
-    let small = curve_refused_small a.dim a.file.now a.place _ _ (sym c.curve_at-curve.ensures ∙ c.in-Refused.is) in omega arith
+    let small = curve_refused_small a.dim a.file.now a.place _ _ (sym c.curve_at.ensures ∙ c.in-Err.is) in omega arith
 
 pub overflow_add-result : goal.overflow_add-result
 overflow_add-result c =
     let a = c.args in
-    let small = curve_refused_small a.dim a.file.now a.place _ _ (sym c.curve_at-curve.ensures ∙ c.in-Refused.is) in omega arith
+    let small = curve_refused_small a.dim a.file.now a.place _ _ (sym c.curve_at.ensures ∙ c.in-Err.is) in omega arith
 
-pub returns-in-Refused : goal.returns-in-Refused
-returns-in-Refused c =
+pub returns-in-Err : goal.returns-in-Err
+returns-in-Err c =
     let a = c.args in
-    replied_as (curve_of a.dim a.file.now a.place) a.numbers.now a.floats.now c.if-numbers-lt7.false (omega arith) _ (ap curve_reply (sym c.curve_at-curve.ensures ∙ c.in-Refused.is))
+    replied_as (curve_of a.dim a.file.now a.place) a.numbers.now a.floats.now c.if-numbers-lt7.false (omega arith) _ (ap curve_reply (sym c.curve_at.ensures ∙ c.in-Err.is))
 
-pub shape_of-numbers : goal.shape_of-numbers
-shape_of-numbers c = c.put_curve.auto.numbers
-
-pub shape_of-floats : goal.shape_of-floats
-shape_of-floats c = c.put_curve.auto.floats
-
-pub returns : goal.returns
-returns c =
+pub returns-in-Ok : goal.returns-in-Ok
+returns-in-Ok c =
     let a = c.args in
-    rw (← c.curve_at-curve.ensures)
-    (put_there _ a.numbers.now a.floats.now c.if-numbers-lt7.false (omega arith) _ _ c.in_default.not-Refused c.put_curve.ensures.0 c.put_curve.ensures.1)
+    put_there (curve_of a.dim a.file.now a.place) a.numbers.now a.floats.now c.if-numbers-lt7.false (omega arith) _ _ _ (sym c.curve_at.ensures ∙ c.in-Ok.is) c.put_curve.ensures.0 c.put_curve.ensures.1

@@ -6,30 +6,30 @@ use Rattle.order.proofs.Calls.{GoesOn, goes_on, goes_few}
 use Rattle.dgn_curves.specs.Curves.{both}
 use Rattle.dgn_curves.proofs.Replies.{curves_refused, curves_full, curves_done}
 use Rattle.dgn_curves.proofs.dgn_curves.Goals as goal
-use Rattle.dgn_curves.proofs.dgn_curves.Goals.{In-Elements}
+use Rattle.dgn_curves.proofs.dgn_curves.Goals.{In-Ok}
 
 -- the file is accepted, and the slice has room for the answer
-goes : (c : In-Elements) → GoesOn c.args.dim c.args.file.now 2 (length c.args.out.now) c.in-Elements.elements
-goes c = goes_on _ _ _ _ _ (sym c.begin.ensures ∙ c.in-Elements.is)
+goes : (c : In-Ok) → GoesOn c.args.dim c.args.file.now 2 (length c.args.out.now) c.in-Ok.elements
+goes c = goes_on _ _ _ _ _ (sym c.begin.ensures ∙ c.in-Ok.is)
 
-pub put_curves-part-requires : goal.put_curves-part-requires
-put_curves-part-requires c = goes_few _ _ _ _ _ (goes (goal.at.put_curves-part-requires c).In-Elements)
+pub put_curves-next-requires : goal.put_curves-next-requires
+put_curves-next-requires c = goes_few _ _ _ _ _ (goes (goal.at.put_curves-next-requires c).In-Ok)
 
 pub returns-then-none_fits : goal.returns-then-none_fits
 returns-then-none_fits c = let a = c.args in
-    curves_full _ _ _ (both a.numbers.now a.floats.now) _ _ (goes (goal.at.returns-then-none_fits c).In-Elements) _ _ c.put_curves-part.ensures (sym c.if-none_fits.true ∙ c.none_fits.ensures)
+    curves_full _ _ _ (both a.numbers.now a.floats.now) _ _ (goes (goal.at.returns-then-none_fits c).In-Ok) _ _ c.put_curves-next.ensures (sym c.if-none_fits.true ∙ c.none_fits.ensures)
 
 pub bounds-out-0 : goal.bounds-out-0
-bounds-out-0 c = omega (arith, (goes (goal.at.bounds-out-0 c).In-Elements).room)
+bounds-out-0 c = omega (arith, (goes (goal.at.bounds-out-0 c).In-Ok).room)
 
 pub bounds-out-1 : goal.bounds-out-1
-bounds-out-1 c = simp length-set (omega (arith, (goes (goal.at.bounds-out-1 c).In-Elements).room))
+bounds-out-1 c = simp length-set (omega (arith, (goes (goal.at.bounds-out-1 c).In-Ok).room))
 
-pub returns-in-Refused : goal.returns-in-Refused
-returns-in-Refused c =
+pub returns-in-Err : goal.returns-in-Err
+returns-in-Err c =
     let a = c.args in
-    curves_refused _ _ _ (both a.numbers.now a.floats.now) _ _ (sym c.begin.ensures ∙ c.in-Refused.is)
+    curves_refused _ _ _ (both a.numbers.now a.floats.now) _ _ (sym c.begin.ensures ∙ c.in-Err.is)
 
-pub returns-else-none_fits : goal.returns-else-none_fits
-returns-else-none_fits c = let a = c.args in
-    curves_done _ _ _ (both a.numbers.now a.floats.now) _ _ (goes (goal.at.returns-else-none_fits c).In-Elements) _ _ c.put_curves-part.ensures (sym c.if-none_fits.false ∙ c.none_fits.ensures)
+pub returns : goal.returns
+returns c = let a = c.args in
+    curves_done _ _ _ (both a.numbers.now a.floats.now) _ _ (goes (goal.at.returns c).In-Ok) _ _ c.put_curves-next.ensures (sym c.if-none_fits.false ∙ c.none_fits.ensures)

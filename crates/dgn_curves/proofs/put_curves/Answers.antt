@@ -20,12 +20,12 @@ use Rattle.dgn_curves.proofs.put_curves.Goals.{After-put_curve, At-loop-i}
 kept_numbers : (c : At-loop-i) → length c.loop-i.numbers ≡ length c.args.numbers.now
 kept_numbers c =
     let a = c.args in
-    same_numbers (both a.numbers.now a.floats.now) (both c.loop-i.numbers c.loop-i.floats) c.loop-i.invariant.2.given c.loop-i.invariant.2.stands
+    same_numbers (both a.numbers.now a.floats.now) (both c.loop-i.numbers c.loop-i.floats) c.loop-i.invariant.1.given c.loop-i.invariant.1.stands
 
 kept_floats : (c : At-loop-i) → length c.loop-i.floats ≡ length c.args.floats.now
 kept_floats c =
     let a = c.args in
-    same_floats (both a.numbers.now a.floats.now) (both c.loop-i.numbers c.loop-i.floats) c.loop-i.invariant.2.given c.loop-i.invariant.2.stands
+    same_floats (both a.numbers.now a.floats.now) (both c.loop-i.numbers c.loop-i.floats) c.loop-i.invariant.1.given c.loop-i.invariant.1.stands
 
 pub returns-then-elements-k : goal.returns-then-elements-k
 returns-then-elements-k c =
@@ -36,33 +36,33 @@ pub loop-i-init : goal.loop-i-init
 loop-i-init c =
     let a = c.args in
     let there = start_there (words a.file.now) a.k (omega (arith, c.if-elements-k.false, c.requires)) in
-    (omega (arith, c.if-elements-k.false), c.start_of-at.ensures ∙ there, going_start in_both lays_both (both a.numbers.now a.floats.now) (items_of a.dim a.file.now) a.elements a.k)
+    (c.start_of-at.ensures ∙ there, going_start in_both lays_both (both a.numbers.now a.floats.now) (items_of a.dim a.file.now) a.elements a.k)
 
 pub put_curve-requires : goal.put_curve-requires
 put_curve-requires c =
     let s = c.args.file.now in
     let p = place_small s (lent_below s c.type_inv.file) c.loop-i.i in
-    let l = now_room in_both lays_both c.loop-i.invariant.2 in
-    (omega (arith, c.loop-i.invariant.1, c.loop-i-test.true, c.requires), omega (arith, c.loop-i.invariant.2.room))
+    let l = now_room in_both lays_both c.loop-i.invariant.1 in
+    (omega (arith, c.loop-i.invariant.0, c.loop-i-test.true, c.requires), omega (arith, c.loop-i.invariant.1.room))
 
-pub shape_of-numbers-in-Full : goal.shape_of-numbers-in-Full
-shape_of-numbers-in-Full c =
-    c.put_curve.auto.numbers ∙ kept_numbers (goal.at.shape_of-numbers-in-Full c).At-loop-i
+pub shape_of-numbers-in_default : goal.shape_of-numbers-in_default
+shape_of-numbers-in_default c =
+    c.put_curve.auto.numbers ∙ kept_numbers (goal.at.shape_of-numbers-in_default c).At-loop-i
 
-pub shape_of-floats-in-Full : goal.shape_of-floats-in-Full
-shape_of-floats-in-Full c =
-    c.put_curve.auto.floats ∙ kept_floats (goal.at.shape_of-floats-in-Full c).At-loop-i
+pub shape_of-floats-in_default : goal.shape_of-floats-in_default
+shape_of-floats-in_default c =
+    c.put_curve.auto.floats ∙ kept_floats (goal.at.shape_of-floats-in_default c).At-loop-i
 
 -- the items of this turn
 here : (c : After-put_curve) → let ws = words c.args.file.now in let at = c.loop-i.at in entry_by c.curve_in-curve.result at (deleted_of (word_at ws at)) ≡ items_of c.args.dim c.args.file.now c.loop-i.i
 here c =
     let a = c.args in
     items_here a.dim (words a.file.now) c.curve_in-curve.result c.loop-i.at (place_of (words a.file.now) c.loop-i.i)
-    c.curve_in-curve.ensures c.loop-i.invariant.1
+    c.curve_in-curve.ensures c.loop-i.invariant.0
 
-pub returns-in-Full : goal.returns-in-Full
-returns-in-Full c =
-    turn_full in_both lays_both c.loop-i.invariant.2 _ (here (goal.at.returns-in-Full c).After-put_curve) c.loop-i-test.true _ _ c.in-Full.is c.put_curve.ensures
+pub returns-in_default : goal.returns-in_default
+returns-in_default c =
+    turn_full in_both lays_both c.loop-i.invariant.1 _ (here (goal.at.returns-in_default c).After-put_curve) c.loop-i-test.true _ _ c.in_default.is c.put_curve.ensures
 
 pub overflow_add-at : goal.overflow_add-at
 overflow_add-at c =
@@ -73,22 +73,16 @@ overflow_add-at c =
       c.size_at-at.ensures,
       size_small s b c.loop-i.at,
       place_small s b c.loop-i.i,
-      c.loop-i.invariant.1,
+      c.loop-i.invariant.0,
       c.loop-i-test.true,
       c.requires,
     )
 
-pub overflow_add-i : goal.overflow_add-i
-overflow_add-i c = omega arith
-
-pub loop-i-smaller : goal.loop-i-smaller
-loop-i-smaller c = omega arith
-
 pub loop-i-preserved : goal.loop-i-preserved
 loop-i-preserved c =
-    let p = place_next (words c.args.file.now) c.loop-i.i _ _ c.loop-i.invariant.1 c.size_at-at.ensures in
+    let p = place_next (words c.args.file.now) c.loop-i.i _ _ c.loop-i.invariant.0 c.size_at-at.ensures in
     let taken = c.loop-i-test.true in
-    (omega arith, p, turn_more in_both lays_both c.loop-i.invariant.2 _ (here (goal.at.loop-i-preserved c).After-put_curve) taken _ _ _ c.in-Used.is c.put_curve.ensures)
+    (p, turn_more in_both lays_both c.loop-i.invariant.1 _ (here (goal.at.loop-i-preserved c).After-put_curve) taken _ _ _ c.in-Some.is c.put_curve.ensures)
 
 pub shape_of-numbers : goal.shape_of-numbers
 shape_of-numbers c = kept_numbers (goal.at.shape_of-numbers c).At-loop-i
@@ -97,4 +91,6 @@ pub shape_of-floats : goal.shape_of-floats
 shape_of-floats c = kept_floats (goal.at.shape_of-floats c).At-loop-i
 
 pub returns : goal.returns
-returns c = going_done in_both lays_both c.loop-i.invariant.2 c.loop-i-test.false
+returns c =
+    let z : c.loop-i.i ≡ c.args.elements = omega (arith, c.if-elements-k.false, c.loop-i-test.false) in
+    rw z at (going_done in_both lays_both c.loop-i.invariant.1 c.loop-i-test.false)

@@ -1,5 +1,5 @@
 -- The loop's invariant: what was put so far stands before what the rest of the room takes.
-use Prim.Native.Nat.{◌-◌, ◌≤◌}
+use Prim.Native.Nat.{◌-◌}
 use mathlib.Core.Path.{◌≡◌}
 use Rattle.words.specs.Words.{words}
 use Rattle.order.specs.Order.{place_of}
@@ -8,7 +8,4 @@ use Rattle.dgn_curves.proofs.put_curves.Given as goal
 
 abbrev pub invariant-loop-i : goal.invariant-loop-i
 invariant-loop-i l =
-    (l.i ≤ l.elements) × (l.at ≡ place_of (words l.file) l.i) × So-far l.file l.dim l.elements l.k l.initial.numbers l.initial.floats l.numbers l.floats l.i l.used
-
-abbrev pub decreases-loop-i : goal.decreases-loop-i
-decreases-loop-i l = l.elements - l.i
+    (l.at ≡ place_of (words l.file) l.i) × So-far l.file l.dim l.elements l.k l.initial.numbers l.initial.floats l.numbers l.floats l.i l.used

@@ -12,16 +12,16 @@ returns-then-out-lt1 c = record { answer = too_short 1 _ _ (c.if-out-lt1.true); 
 
 pub overflow_mul-result : goal.overflow_mul-result
 overflow_mul-result c =
-    let b = built_small _ _ _ _ _ _ (sym (c.build.ensures.answer) ∙ c.in-Refused.is) in omega arith
+    let b = built_small _ _ _ _ _ (sym (c.build.ensures.answer) ∙ c.in-Err.is) in omega arith
 
 pub overflow_add-result : goal.overflow_add-result
 overflow_add-result c =
-    let b = built_small _ _ _ _ _ _ (sym (c.build.ensures.answer) ∙ c.in-Refused.is) in omega arith
+    let b = built_small _ _ _ _ _ (sym (c.build.ensures.answer) ∙ c.in-Err.is) in omega arith
 
-pub returns-in-Index : goal.returns-in-Index
-returns-in-Index c =
-    record { answer = answered 1 _ _ (c.args.out.now) (ap index_reply (sym (c.build.ensures.answer) ∙ c.in-Index.is)) (c.if-out-lt1.false); index_is = rw (le-leb 1 _ (c.if-out-lt1.false)) (c.build.ensures.bytes) }
+pub returns-in-Ok : goal.returns-in-Ok
+returns-in-Ok c =
+    record { answer = answered 1 _ _ (c.args.out.now) (ap index_reply (sym (c.build.ensures.answer) ∙ c.in-Ok.is)) (c.if-out-lt1.false); index_is = rw (le-leb 1 _ (c.if-out-lt1.false)) (c.build.ensures.bytes) }
 
-pub returns-in-Refused : goal.returns-in-Refused
-returns-in-Refused c =
-    record { answer = answered 1 _ _ (c.args.out.now) (ap index_reply (sym (c.build.ensures.answer) ∙ c.in-Refused.is)) (c.if-out-lt1.false); index_is = rw (le-leb 1 _ (c.if-out-lt1.false)) (c.build.ensures.bytes) }
+pub returns-in-Err : goal.returns-in-Err
+returns-in-Err c =
+    record { answer = answered 1 _ _ (c.args.out.now) (ap index_reply (sym (c.build.ensures.answer) ∙ c.in-Err.is)) (c.if-out-lt1.false); index_is = rw (le-leb 1 _ (c.if-out-lt1.false)) (c.build.ensures.bytes) }

@@ -1,10 +1,10 @@
 -- The answer by its case: put as an edit's with the index's used length.
 use Rattle.dgn_indexed.proofs.put.Goals as goal
 
-pub returns-in-Made : goal.returns-in-Made
-returns-in-Made c =
-    rw (c.in-Made.is) (c.put_indexed.ensures)
+pub returns-in-Ok : goal.returns-in-Ok
+returns-in-Ok c =
+    rw (c.in-Ok.is) (c.put_indexed.ensures)
 
-pub returns-in-Refused : goal.returns-in-Refused
-returns-in-Refused c =
-    rw (c.in-Refused.is) (c.put_indexed-in-Refused.ensures)
+pub returns-in-Err : goal.returns-in-Err
+returns-in-Err c =
+    rw (c.in-Err.is) (c.put_indexed-in-Err.ensures)

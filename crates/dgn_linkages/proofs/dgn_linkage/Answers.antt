@@ -17,19 +17,19 @@ pub bounds-out-2 : goal.bounds-out-2
 bounds-out-2 c = simp length-set (omega arith)
 
 pub overflow_mul-result : goal.overflow_mul-result
-overflow_mul-result c = let b = refused_small _ _ _ _ _ _ (sym c.linkage_at.ensures ∙ c.in-Refused.is) in omega arith
+overflow_mul-result c = let b = refused_small _ _ _ _ _ _ (sym c.linkage_at.ensures ∙ c.in-Err.is) in omega arith
 
 pub overflow_add-result : goal.overflow_add-result
-overflow_add-result c = let b = refused_small _ _ _ _ _ _ (sym c.linkage_at.ensures ∙ c.in-Refused.is) in omega arith
+overflow_add-result c = let b = refused_small _ _ _ _ _ _ (sym c.linkage_at.ensures ∙ c.in-Err.is) in omega arith
 
-pub returns-in-At : goal.returns-in-At
-returns-in-At c =
+pub returns-in-Ok : goal.returns-in-Ok
+returns-in-Ok c =
     rw c.pick-kind.ensures
     (answered 4 _ _ c.args.out.now
-    (ap linkage_reply (sym c.linkage_at.ensures ∙ c.in-At.is))
+    (ap linkage_reply (sym c.linkage_at.ensures ∙ c.in-Ok.is))
     c.if-out-lt4.false)
 
-pub returns-in-Refused : goal.returns-in-Refused
-returns-in-Refused c =
+pub returns-in-Err : goal.returns-in-Err
+returns-in-Err c =
     answered 4 _ _ c.args.out.now
-    (ap linkage_reply (sym c.linkage_at.ensures ∙ c.in-Refused.is)) c.if-out-lt4.false
+    (ap linkage_reply (sym c.linkage_at.ensures ∙ c.in-Err.is)) c.if-out-lt4.false

@@ -11,9 +11,6 @@ returns-then-out-lt2 c = not_left _ _ _ (c.if-out-lt2.true)
 pub returns-then-deleted-gt1 : goal.returns-then-deleted-gt1
 returns-then-deleted-gt1 c = mark_not _ _ _ _ _ (c.if-out-lt2.false) (c.if-deleted-gt1.true)
 
-pub put_edited-requires : goal.put_edited-requires
-put_edited-requires c = tt
-
 pub returns : goal.returns
 returns c =
     mark_left _ _ _ _ _ c.mark-answer.result _ _ _ none _ c.if-out-lt2.false (omega arith) (bare_stepped _ _ _ refl c.mark-answer.ensures)

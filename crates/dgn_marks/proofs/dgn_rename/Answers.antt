@@ -7,9 +7,6 @@ use Rattle.dgn_marks.proofs.dgn_rename.Goals as goal
 pub returns-then-out-lt2 : goal.returns-then-out-lt2
 returns-then-out-lt2 c = not_left _ _ _ (c.if-out-lt2.true)
 
-pub put_edited-requires : goal.put_edited-requires
-put_edited-requires c = tt
-
 pub returns : goal.returns
 returns c =
     left _ _ _ _ c.rename-answer.result _ _ _ none _ c.if-out-lt2.false (bare_stepped _ _ _ refl c.rename-answer.ensures)

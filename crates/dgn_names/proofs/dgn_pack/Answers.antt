@@ -14,17 +14,17 @@ pub bounds-out-1 : goal.bounds-out-1
 bounds-out-1 c = simp length-set (omega arith)
 
 pub overflow_mul-result : goal.overflow_mul-result
-overflow_mul-result c = let b = pack_refused_small _ _ _ (sym c.pack.ensures ∙ c.in-Refused.is) in omega arith
+overflow_mul-result c = let b = pack_refused_small _ _ _ (sym c.pack.ensures ∙ c.in-Err.is) in omega arith
 
 pub overflow_add-result : goal.overflow_add-result
-overflow_add-result c = let b = pack_refused_small _ _ _ (sym c.pack.ensures ∙ c.in-Refused.is) in omega arith
+overflow_add-result c = let b = pack_refused_small _ _ _ (sym c.pack.ensures ∙ c.in-Err.is) in omega arith
 
-pub returns-in-Words : goal.returns-in-Words
-returns-in-Words c =
-    answered 2 _ _ c.args.out.now (ap pack_reply (sym c.pack.ensures ∙ c.in-Words.is))
+pub returns-in-Ok : goal.returns-in-Ok
+returns-in-Ok c =
+    answered 2 _ _ c.args.out.now (ap pack_reply (sym c.pack.ensures ∙ c.in-Ok.is))
     c.if-out-lt2.false
 
-pub returns-in-Refused : goal.returns-in-Refused
-returns-in-Refused c =
-    answered 2 _ _ c.args.out.now (ap pack_reply (sym c.pack.ensures ∙ c.in-Refused.is))
+pub returns-in-Err : goal.returns-in-Err
+returns-in-Err c =
+    answered 2 _ _ c.args.out.now (ap pack_reply (sym c.pack.ensures ∙ c.in-Err.is))
     c.if-out-lt2.false

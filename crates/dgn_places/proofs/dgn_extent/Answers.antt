@@ -17,21 +17,21 @@ pub bounds-out-1 : goal.bounds-out-1
 bounds-out-1 c = simp length-set (omega arith)
 
 pub overflow_mul-result : goal.overflow_mul-result
-overflow_mul-result c = let b = extent_refused_small _ _ _ _ _ (sym c.extent_answer.ensures ∙ c.in-Refused.is) in omega arith
+overflow_mul-result c = let b = extent_refused_small _ _ _ _ _ (sym c.extent_answer.ensures ∙ c.in-Err.is) in omega arith
 
 pub overflow_add-result : goal.overflow_add-result
-overflow_add-result c = let b = extent_refused_small _ _ _ _ _ (sym c.extent_answer.ensures ∙ c.in-Refused.is) in omega arith
+overflow_add-result c = let b = extent_refused_small _ _ _ _ _ (sym c.extent_answer.ensures ∙ c.in-Err.is) in omega arith
 
 pub shape_of-out : goal.shape_of-out
 shape_of-out c = simp length-set
 
-pub returns-in-At : goal.returns-in-At
-returns-in-At c =
+pub returns-in-Ok : goal.returns-in-Ok
+returns-in-Ok c =
     answered 2 _ _ c.args.out.now
-    (ap extent_reply (sym c.extent_answer.ensures ∙ c.in-At.is)) c.if-out-lt2.false
+    (ap extent_reply (sym c.extent_answer.ensures ∙ c.in-Ok.is)) c.if-out-lt2.false
 
-pub returns-in-Refused : goal.returns-in-Refused
-returns-in-Refused c =
+pub returns-in-Err : goal.returns-in-Err
+returns-in-Err c =
     answered 2 _ _ c.args.out.now
-    (ap extent_reply (sym c.extent_answer.ensures ∙ c.in-Refused.is))
+    (ap extent_reply (sym c.extent_answer.ensures ∙ c.in-Err.is))
     c.if-out-lt2.false

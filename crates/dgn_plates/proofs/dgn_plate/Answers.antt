@@ -13,20 +13,20 @@ returns-then-out-lt9 c = too_short 9 _ _ c.if-out-lt9.true
 pub returns-then-put_cell : goal.returns-then-put_cell
 returns-then-put_cell c =
     let a = c.args in
-    plate_put _ a.file.now _ _ _ _ (sym c.spotted_at.ensures ∙ c.in-At.is) a.out.now c.if-out-lt9.false _ _ c.put_cell.ensures c.if-put_cell.true
+    plate_put _ a.file.now _ _ _ _ (sym c.spotted_at.ensures ∙ c.in_default.is) a.out.now c.if-out-lt9.false _ _ c.put_cell.ensures c.if-put_cell.true
 
 pub overflow_mul-result : goal.overflow_mul-result
-overflow_mul-result c = let b = refused_small _ _ _ _ _ (refused_plate _ _ _ _ _ (sym c.spotted_at.ensures ∙ c.in-Refused.is)) in omega arith
+overflow_mul-result c = let b = refused_small _ _ _ _ _ (refused_plate _ _ _ _ _ (sym c.spotted_at.ensures ∙ c.in-Err.is)) in omega arith
 
 pub overflow_add-result : goal.overflow_add-result
-overflow_add-result c = let b = refused_small _ _ _ _ _ (refused_plate _ _ _ _ _ (sym c.spotted_at.ensures ∙ c.in-Refused.is)) in omega arith
+overflow_add-result c = let b = refused_small _ _ _ _ _ (refused_plate _ _ _ _ _ (sym c.spotted_at.ensures ∙ c.in-Err.is)) in omega arith
 
-pub returns-else-put_cell : goal.returns-else-put_cell
-returns-else-put_cell c =
+pub returns : goal.returns
+returns c =
     let a = c.args in
-    plate_other _ a.file.now _ _ _ _ (sym c.spotted_at.ensures ∙ c.in-At.is) a.out.now c.if-out-lt9.false _ _ c.put_cell.ensures c.if-put_cell.false
+    plate_other _ a.file.now _ _ _ _ (sym c.spotted_at.ensures ∙ c.in_default.is) a.out.now c.if-out-lt9.false _ _ c.put_cell.ensures c.if-put_cell.false
 
-pub returns-in-Refused : goal.returns-in-Refused
-returns-in-Refused c =
+pub returns-in-Err : goal.returns-in-Err
+returns-in-Err c =
     let a = c.args in
-    answered 9 _ _ a.out.now (ap plate_reply (refused_plate _ _ _ _ _ (sym c.spotted_at.ensures ∙ c.in-Refused.is))) c.if-out-lt9.false
+    answered 9 _ _ a.out.now (ap plate_reply (refused_plate _ _ _ _ _ (sym c.spotted_at.ensures ∙ c.in-Err.is))) c.if-out-lt9.false

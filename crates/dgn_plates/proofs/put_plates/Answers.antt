@@ -1,5 +1,4 @@
 -- The loop's invariant: what was put so far stands before what the rest of the room takes.
-use Prim.Native.Nat.{◌-◌}
 use mathlib.Core.Path.{◌≡◌, ap, ◌∙◌}
 use native.Mathlib.Omega.{arith}
 use lib.ListN.{length}
@@ -16,11 +15,11 @@ use Rattle.dgn_plates.proofs.put_plates.Goals.{After-put_element, At-loop-i}
 
 -- the slice keeps its length
 kept_numbers : (c : At-loop-i) → length c.loop-i.numbers ≡ length c.args.numbers.now
-kept_numbers c = same_numbers c.args.numbers.now c.loop-i.numbers c.loop-i.invariant.2.given c.loop-i.invariant.2.stands
+kept_numbers c = same_numbers c.args.numbers.now c.loop-i.numbers c.loop-i.invariant.1.given c.loop-i.invariant.1.stands
 
 -- the items of this turn
 here : (c : After-put_element) → plate_items (words c.args.file.now) c.loop-i.at ≡ items_of c.args.file.now c.loop-i.i
-here c = ap (plate_items (words c.args.file.now)) c.loop-i.invariant.1
+here c = ap (plate_items (words c.args.file.now)) c.loop-i.invariant.0
 
 pub returns-then-elements-k : goal.returns-then-elements-k
 returns-then-elements-k c = let a = c.args in going_done in_plates lays_plates (going_start in_plates lays_plates a.numbers.now (items_of a.file.now) a.elements a.k) (c.if-elements-k.true)
@@ -29,22 +28,22 @@ pub loop-i-init : goal.loop-i-init
 loop-i-init c =
     let a = c.args in
     let there = start_there (words a.file.now) a.k (omega (arith, c.if-elements-k.false, c.requires)) in
-    (omega (arith, c.if-elements-k.false), c.start_of-at.ensures ∙ there, going_start in_plates lays_plates a.numbers.now (items_of a.file.now) a.elements a.k)
+    (c.start_of-at.ensures ∙ there, going_start in_plates lays_plates a.numbers.now (items_of a.file.now) a.elements a.k)
 
 pub put_element-requires : goal.put_element-requires
 put_element-requires c =
     let s = c.args.file.now in
     let p = place_small s (lent_below s (c.type_inv.file)) (c.loop-i.i) in
-    let l = now_room in_plates lays_plates (c.loop-i.invariant.2) in
-    (omega (arith, c.loop-i.invariant.1, c.loop-i-test.true, c.requires), omega (arith, c.loop-i.invariant.2.room))
+    let l = now_room in_plates lays_plates (c.loop-i.invariant.1) in
+    (omega (arith, c.loop-i.invariant.0, c.loop-i-test.true, c.requires), omega (arith, c.loop-i.invariant.1.room))
 
-pub shape_of-numbers-in-Full : goal.shape_of-numbers-in-Full
-shape_of-numbers-in-Full c =
-    c.put_element.auto.numbers ∙ kept_numbers (goal.at.shape_of-numbers-in-Full c).At-loop-i
+pub shape_of-numbers-in_default : goal.shape_of-numbers-in_default
+shape_of-numbers-in_default c =
+    c.put_element.auto.numbers ∙ kept_numbers (goal.at.shape_of-numbers-in_default c).At-loop-i
 
-pub returns-in-Full : goal.returns-in-Full
-returns-in-Full c =
-    turn_full in_plates lays_plates c.loop-i.invariant.2 _ (here (goal.at.returns-in-Full c).After-put_element) c.loop-i-test.true _ _ c.in-Full.is c.put_element.ensures
+pub returns-in_default : goal.returns-in_default
+returns-in_default c =
+    turn_full in_plates lays_plates c.loop-i.invariant.1 _ (here (goal.at.returns-in_default c).After-put_element) c.loop-i-test.true _ _ c.in_default.is c.put_element.ensures
 
 pub overflow_add-at : goal.overflow_add-at
 overflow_add-at c =
@@ -55,25 +54,21 @@ overflow_add-at c =
       c.size_at-at.ensures,
       size_small s b c.loop-i.at,
       place_small s b c.loop-i.i,
-      c.loop-i.invariant.1,
+      c.loop-i.invariant.0,
       c.loop-i-test.true,
       c.requires,
     )
 
-pub overflow_add-i : goal.overflow_add-i
-overflow_add-i c = omega arith
-
-pub loop-i-smaller : goal.loop-i-smaller
-loop-i-smaller c = omega arith
-
 pub loop-i-preserved : goal.loop-i-preserved
 loop-i-preserved c =
-    let p = place_next (words c.args.file.now) c.loop-i.i _ _ c.loop-i.invariant.1 c.size_at-at.ensures in
+    let p = place_next (words c.args.file.now) c.loop-i.i _ _ c.loop-i.invariant.0 c.size_at-at.ensures in
     let taken = c.loop-i-test.true in
-    (omega arith, p, turn_more in_plates lays_plates c.loop-i.invariant.2 _ (here (goal.at.loop-i-preserved c).After-put_element) taken _ _ _ c.in-Used.is c.put_element.ensures)
+    (p, turn_more in_plates lays_plates c.loop-i.invariant.1 _ (here (goal.at.loop-i-preserved c).After-put_element) taken _ _ _ c.in-Some.is c.put_element.ensures)
 
 pub shape_of-numbers : goal.shape_of-numbers
 shape_of-numbers c = kept_numbers (goal.at.shape_of-numbers c).At-loop-i
 
 pub returns : goal.returns
-returns c = going_done in_plates lays_plates (c.loop-i.invariant.2) (c.loop-i-test.false)
+returns c =
+    let z : c.loop-i.i ≡ c.args.elements = omega (arith, c.if-elements-k.false, c.loop-i-test.false) in
+    rw z at (going_done in_plates lays_plates (c.loop-i.invariant.1) (c.loop-i-test.false))

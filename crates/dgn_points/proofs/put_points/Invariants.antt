@@ -1,5 +1,5 @@
 -- The loop's invariant: what was put so far stands before what the rest of the room takes.
-use Prim.Native.Nat.{◌-◌, ◌≤◌}
+use Prim.Native.Nat.{◌-◌}
 use mathlib.Core.Path.{◌≡◌}
 use lib.ListN.{length}
 use Rattle.words.specs.Words.{words}
@@ -11,7 +11,4 @@ use Rattle.dgn_points.proofs.Places.{numbers_of}
 use Rattle.dgn_points.proofs.put_points.Given as goal
 
 abbrev pub invariant-loop-i : goal.invariant-loop-i
-invariant-loop-i l = (l.i ≤ l.elements) × (l.at ≡ place_of (words l.file) l.i) × Going in_numbers lays_numbers (part_of (length l.initial.numbers) l.k (points_from (l.elements - l.k) l.dim (words l.file) l.k)) l.initial.numbers (numbers_of l.dim l.file) l.elements l.i l.used l.numbers
-
-abbrev pub decreases-loop-i : goal.decreases-loop-i
-decreases-loop-i l = l.elements - l.i
+invariant-loop-i l = (l.at ≡ place_of (words l.file) l.i) × Going in_numbers lays_numbers (part_of (length l.initial.numbers) l.k (points_from (l.elements - l.k) l.dim (words l.file) l.k)) l.initial.numbers (numbers_of l.dim l.file) l.elements l.i l.used l.numbers

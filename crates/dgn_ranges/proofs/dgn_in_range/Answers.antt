@@ -10,19 +10,15 @@ pub returns-then-out-lt1 : goal.returns-then-out-lt1
 returns-then-out-lt1 c = too_short 1 _ c.args.out.now c.if-out-lt1.true
 
 pub overflow_mul-result : goal.overflow_mul-result
-overflow_mul-result c = let b = refused_small _ _ _ _ _ (sym c.in_range_at.ensures ∙ c.in-Refused.is) in omega arith
+overflow_mul-result c = let b = refused_small _ _ _ _ _ (sym c.in_range_at.ensures ∙ c.in-Err.is) in omega arith
 
 pub overflow_add-result : goal.overflow_add-result
-overflow_add-result c = let b = refused_small _ _ _ _ _ (sym c.in_range_at.ensures ∙ c.in-Refused.is) in omega arith
+overflow_add-result c = let b = refused_small _ _ _ _ _ (sym c.in_range_at.ensures ∙ c.in-Err.is) in omega arith
 
-pub returns-in-Yes : goal.returns-in-Yes
-returns-in-Yes c =
-    answered 1 _ _ c.args.out.now (ap in_range_reply (sym c.in_range_at.ensures ∙ c.in-Yes.is)) c.if-out-lt1.false
+pub returns-in-Ok : goal.returns-in-Ok
+returns-in-Ok c =
+    rw c.from.ensures (answered 1 _ _ c.args.out.now (ap in_range_reply (sym c.in_range_at.ensures ∙ c.in-Ok.is)) c.if-out-lt1.false)
 
-pub returns-in-No : goal.returns-in-No
-returns-in-No c =
-    answered 1 _ _ c.args.out.now (ap in_range_reply (sym c.in_range_at.ensures ∙ c.in-No.is)) c.if-out-lt1.false
-
-pub returns-in-Refused : goal.returns-in-Refused
-returns-in-Refused c =
-    answered 1 _ _ c.args.out.now (ap in_range_reply (sym c.in_range_at.ensures ∙ c.in-Refused.is)) c.if-out-lt1.false
+pub returns-in-Err : goal.returns-in-Err
+returns-in-Err c =
+    answered 1 _ _ c.args.out.now (ap in_range_reply (sym c.in_range_at.ensures ∙ c.in-Err.is)) c.if-out-lt1.false

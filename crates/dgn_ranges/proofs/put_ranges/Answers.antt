@@ -1,6 +1,5 @@
 -- The loop's invariant: what was put so far stands before what the rest of the room takes.
-use Prim.Native.Nat.{◌-◌}
-use mathlib.Core.Path.{ap, ◌∙◌}
+use mathlib.Core.Path.{◌≡◌, ap, ◌∙◌}
 use native.Mathlib.Omega.{arith}
 use Rattle.words.specs.Words.{words}
 use Rattle.words.proofs.Laws.{lent_below}
@@ -20,7 +19,6 @@ returns-then-elements-k c =
 pub loop-i-init : goal.loop-i-init
 loop-i-init c =
     let a = c.args in (
-      omega (arith, c.if-elements-k.false),
       c.start_of-at.ensures ∙ start_there (words a.file.now) a.k (omega (arith, c.if-elements-k.false, c.requires)),
       going_start in_numbers lays_numbers a.places.now (places_of a.dim a.file.now) a.elements a.k,
     )
@@ -29,18 +27,18 @@ pub put_element-requires : goal.put_element-requires
 put_element-requires c =
     let s = c.args.file.now in
     let p = place_small s (lent_below s c.type_inv.file) c.loop-i.i in
-    let l = now_room in_numbers lays_numbers c.loop-i.invariant.2 in
-    (omega (arith, c.loop-i.invariant.1, c.loop-i-test.true, c.requires), omega (arith, c.loop-i.invariant.2.room))
+    let l = now_room in_numbers lays_numbers c.loop-i.invariant.1 in
+    (omega (arith, c.loop-i.invariant.0, c.loop-i-test.true, c.requires), omega (arith, c.loop-i.invariant.1.room))
 
-pub shape_of-places-in-Full : goal.shape_of-places-in-Full
-shape_of-places-in-Full c =
-    c.put_element.auto.places ∙ now_room in_numbers lays_numbers c.loop-i.invariant.2
+pub shape_of-places-in_default : goal.shape_of-places-in_default
+shape_of-places-in_default c =
+    c.put_element.auto.places ∙ now_room in_numbers lays_numbers c.loop-i.invariant.1
 
-pub returns-in-Full : goal.returns-in-Full
-returns-in-Full c =
+pub returns-in_default : goal.returns-in_default
+returns-in_default c =
     let a = c.args in
-    turn_full in_numbers lays_numbers c.loop-i.invariant.2 _ (ap (entry_at a.dim (words a.file.now)) c.loop-i.invariant.1) c.loop-i-test.true _ _
-    c.in-Full.is c.put_element.ensures
+    turn_full in_numbers lays_numbers c.loop-i.invariant.1 _ (ap (entry_at a.dim (words a.file.now)) c.loop-i.invariant.0) c.loop-i-test.true _ _
+    c.in_default.is c.put_element.ensures
 
 pub overflow_add-at : goal.overflow_add-at
 overflow_add-at c =
@@ -51,28 +49,23 @@ overflow_add-at c =
       c.size_at-size.ensures,
       size_small s b c.loop-i.at,
       place_small s b c.loop-i.i,
-      c.loop-i.invariant.1,
+      c.loop-i.invariant.0,
       c.loop-i-test.true,
       c.requires,
     )
 
-pub overflow_add-i : goal.overflow_add-i
-overflow_add-i c = omega arith
-
-pub loop-i-smaller : goal.loop-i-smaller
-loop-i-smaller c = omega arith
-
 pub loop-i-preserved : goal.loop-i-preserved
 loop-i-preserved c =
     let a = c.args in (
-      omega arith,
-      place_next (words a.file.now) c.loop-i.i _ _ c.loop-i.invariant.1 c.size_at-size.ensures,
-      turn_more in_numbers lays_numbers c.loop-i.invariant.2 _ (ap (entry_at a.dim (words a.file.now)) c.loop-i.invariant.1) c.loop-i-test.true _ _ _
-          c.in-Used.is c.put_element.ensures,
+      place_next (words a.file.now) c.loop-i.i _ _ c.loop-i.invariant.0 c.size_at-size.ensures,
+      turn_more in_numbers lays_numbers c.loop-i.invariant.1 _ (ap (entry_at a.dim (words a.file.now)) c.loop-i.invariant.0) c.loop-i-test.true _ _ _
+          c.in-Some.is c.put_element.ensures,
     )
 
 pub shape_of-places : goal.shape_of-places
-shape_of-places c = now_room in_numbers lays_numbers c.loop-i.invariant.2
+shape_of-places c = now_room in_numbers lays_numbers c.loop-i.invariant.1
 
 pub returns : goal.returns
-returns c = going_done in_numbers lays_numbers c.loop-i.invariant.2 c.loop-i-test.false
+returns c =
+    let z : c.loop-i.i ≡ c.args.elements = omega (arith, c.if-elements-k.false, c.loop-i-test.false) in
+    rw z at (going_done in_numbers lays_numbers c.loop-i.invariant.1 c.loop-i-test.false)

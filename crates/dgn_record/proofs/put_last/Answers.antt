@@ -1,11 +1,5 @@
 -- Each case as its numbers.
-use mathlib.Core.Path.{ap}
-use Rattle.answers.proofs.Laws.{answered}
-use Rattle.dgn_record.specs.LastRecord.{last_reply}
 use Rattle.dgn_record.proofs.put_last.Goals as goal
-
-pub returns-in-Bad : goal.returns-in-Bad
-returns-in-Bad c = answered 5 _ _ c.args.out.now (ap last_reply c.in-Bad.is) c.requires
 
 pub returns-in-Flag : goal.returns-in-Flag
 returns-in-Flag c =

@@ -10,15 +10,15 @@ pub returns-then-out-lt2 : goal.returns-then-out-lt2
 returns-then-out-lt2 c = too_short 2 _ c.args.out.now c.if-out-lt2.true
 
 pub overflow_mul-result : goal.overflow_mul-result
-overflow_mul-result c = let b = characters_refused_small _ _ _ _ _ (sym c.characters_answer.ensures ∙ c.in-Refused.is) in omega arith
+overflow_mul-result c = let b = characters_refused_small _ _ _ _ _ (sym c.characters_answer.ensures ∙ c.in-Err.is) in omega arith
 
 pub overflow_add-result : goal.overflow_add-result
-overflow_add-result c = let b = characters_refused_small _ _ _ _ _ (sym c.characters_answer.ensures ∙ c.in-Refused.is) in omega arith
+overflow_add-result c = let b = characters_refused_small _ _ _ _ _ (sym c.characters_answer.ensures ∙ c.in-Err.is) in omega arith
 
-pub returns-in-At : goal.returns-in-At
-returns-in-At c =
-    answered 2 _ _ c.args.out.now (ap characters_reply (sym c.characters_answer.ensures ∙ c.in-At.is)) c.if-out-lt2.false
+pub returns-in-Ok : goal.returns-in-Ok
+returns-in-Ok c =
+    answered 2 _ _ c.args.out.now (ap characters_reply (sym c.characters_answer.ensures ∙ c.in-Ok.is)) c.if-out-lt2.false
 
-pub returns-in-Refused : goal.returns-in-Refused
-returns-in-Refused c =
-    answered 2 _ _ c.args.out.now (ap characters_reply (sym c.characters_answer.ensures ∙ c.in-Refused.is)) c.if-out-lt2.false
+pub returns-in-Err : goal.returns-in-Err
+returns-in-Err c =
+    answered 2 _ _ c.args.out.now (ap characters_reply (sym c.characters_answer.ensures ∙ c.in-Err.is)) c.if-out-lt2.false

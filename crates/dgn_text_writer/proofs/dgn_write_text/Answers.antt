@@ -13,12 +13,12 @@ returns-then-not-text_given c = not_given _ _ _ _ _ (no_text _ _ _ _ _ _ _ (sym 
 pub text_of-numbers-requires : goal.text_of-numbers-requires
 text_of-numbers-requires c = sym c.text_given.ensures ∙ c.if-not-text_given.false
 
-pub returns-in-Header : goal.returns-in-Header
-returns-in-Header c =
-    let g = given_is _ _ (sym c.fields_in.ensures ∙ c.in-Header.is) in
+pub returns-in-Some : goal.returns-in-Some
+returns-in-Some c =
+    let g = given_is _ _ (sym c.fields_in.ensures ∙ c.in-Some.is) in
     let k = sym c.text_given.ensures ∙ c.if-not-text_given.false in
     written _ _ _ _ _ _ _ _ _ _ (fault_given _ _ _ _ _ _ _ k g.0) (fault_table _ _ _ _ _ _ _) c.if-out-lt1.false (rw (g.1, c.text_of-numbers.ensures) at c.write_text.ensures) c.put_written.ensures
 
-pub returns-in-Nothing : goal.returns-in-Nothing
-returns-in-Nothing c =
-    not_given _ _ _ _ _ (no_fields _ _ _ _ _ _ _ (sym c.text_given.ensures ∙ c.if-not-text_given.false) (given_not _ (sym c.fields_in.ensures ∙ c.in-Nothing.is))) c.if-out-lt1.false
+pub returns-in-None : goal.returns-in-None
+returns-in-None c =
+    not_given _ _ _ _ _ (no_fields _ _ _ _ _ _ _ (sym c.text_given.ensures ∙ c.if-not-text_given.false) (given_not _ (sym c.fields_in.ensures ∙ c.in-None.is))) c.if-out-lt1.false

@@ -5,32 +5,32 @@ use lib.ListN.{length, length-set}
 use Rattle.order.proofs.Calls.{GoesOn, goes_on}
 use Rattle.dgn_texts.proofs.Replies.{texts_refused, texts_full, texts_done, texts_walk}
 use Rattle.dgn_texts.proofs.dgn_texts.Goals as goal
-use Rattle.dgn_texts.proofs.dgn_texts.Goals.{In-Elements}
+use Rattle.dgn_texts.proofs.dgn_texts.Goals.{In-Ok}
 
 -- the file is accepted, and the slice has room for the answer
-goes : (c : In-Elements) → GoesOn c.args.dim c.args.file.now 2 (length c.args.out.now) c.in-Elements.elements
-goes c = goes_on _ _ _ _ _ (sym c.begin.ensures ∙ c.in-Elements.is)
+goes : (c : In-Ok) → GoesOn c.args.dim c.args.file.now 2 (length c.args.out.now) c.in-Ok.elements
+goes c = goes_on _ _ _ _ _ (sym c.begin.ensures ∙ c.in-Ok.is)
 
-pub put_texts-part-requires : goal.put_texts-part-requires
-put_texts-part-requires c = texts_walk _ _ _ _ (goes (goal.at.put_texts-part-requires c).In-Elements)
+pub put_texts-next-requires : goal.put_texts-next-requires
+put_texts-next-requires c = texts_walk _ _ _ _ (goes (goal.at.put_texts-next-requires c).In-Ok)
 
 pub returns-then-none_fits : goal.returns-then-none_fits
 returns-then-none_fits c =
-    texts_full _ _ _ _ _ _ (goes (goal.at.returns-then-none_fits c).In-Elements) _ _ c.put_texts-part.ensures
+    texts_full _ _ _ _ _ _ (goes (goal.at.returns-then-none_fits c).In-Ok) _ _ c.put_texts-next.ensures
     (sym c.if-none_fits.true ∙ c.none_fits.ensures)
 
 pub bounds-out-0 : goal.bounds-out-0
 bounds-out-0 c =
-    omega (arith, (goes (goal.at.bounds-out-0 c).In-Elements).room)
+    omega (arith, (goes (goal.at.bounds-out-0 c).In-Ok).room)
 
 pub bounds-out-1 : goal.bounds-out-1
 bounds-out-1 c =
-    simp length-set (omega (arith, (goes (goal.at.bounds-out-1 c).In-Elements).room))
+    simp length-set (omega (arith, (goes (goal.at.bounds-out-1 c).In-Ok).room))
 
-pub returns-in-Refused : goal.returns-in-Refused
-returns-in-Refused c = texts_refused _ _ _ _ _ _ (sym c.begin.ensures ∙ c.in-Refused.is)
+pub returns-in-Err : goal.returns-in-Err
+returns-in-Err c = texts_refused _ _ _ _ _ _ (sym c.begin.ensures ∙ c.in-Err.is)
 
-pub returns-else-none_fits : goal.returns-else-none_fits
-returns-else-none_fits c =
-    texts_done _ _ _ _ _ _ (goes (goal.at.returns-else-none_fits c).In-Elements) _ _ c.put_texts-part.ensures
+pub returns : goal.returns
+returns c =
+    texts_done _ _ _ _ _ _ (goes (goal.at.returns c).In-Ok) _ _ c.put_texts-next.ensures
     (sym c.if-none_fits.false ∙ c.none_fits.ensures) _ c.entries-texts.ensures

@@ -11,7 +11,7 @@ use Rattle.kinds.specs.FirstWord.{deleted_of}
 use Rattle.texts.proofs.Laws.{counts_early}
 use Rattle.dgn_texts.proofs.Puts.{entry_put}
 use Rattle.dgn_texts.proofs.put_entry.Goals as goal
-use Rattle.dgn_texts.proofs.put_entry.Goals.{After-counts_word, Start}
+use Rattle.dgn_texts.proofs.put_entry.Goals.{After-counts_word}
 
 near : (c : After-counts_word) → c.counts_word.result ≤ 37
 near c = let early = counts_early c.args.dim in let is = c.counts_word.ensures in omega arith

@@ -13,14 +13,14 @@ returns-then-i-k c =
 pub returns-then-numbers-used-lt18 : goal.returns-then-numbers-used-lt18
 returns-then-numbers-used-lt18 c =
     let a = c.args in
-    put_full a.dim (words a.file.now) a.k a.i a.place a.depth a.numbers.now a.used c.if-i-k.false _ _ (sym c.text_in.ensures ∙ c.in-Read.is) c.if-numbers-used-lt18.true
+    put_full a.dim (words a.file.now) a.k a.i a.place a.depth a.numbers.now a.used c.if-i-k.false _ _ (sym c.text_in.ensures ∙ c.in-Ok.is) c.if-numbers-used-lt18.true
 
-pub returns-in-Refused : goal.returns-in-Refused
-returns-in-Refused c =
+pub returns-in_default : goal.returns-in_default
+returns-in_default c =
     let a = c.args in
-    put_none a.dim (words a.file.now) a.k a.i a.place a.depth a.numbers.now a.used c.if-i-k.false _ _ _ (sym c.text_in.ensures ∙ c.in-Refused.is)
+    put_none a.dim (words a.file.now) a.k a.i a.place a.depth a.numbers.now a.used c.if-i-k.false _ _ (sym c.text_in.ensures ∙ c.in_default.is)
 
-pub returns-else-numbers-used-lt18 : goal.returns-else-numbers-used-lt18
-returns-else-numbers-used-lt18 c =
+pub returns : goal.returns
+returns c =
     let a = c.args in
-    put_text_lem a.dim (words a.file.now) a.k a.i a.place a.depth a.numbers.now a.used c.if-i-k.false _ _ (sym c.text_in.ensures ∙ c.in-Read.is) c.if-numbers-used-lt18.false _ c.put_entry.ensures
+    put_text_lem a.dim (words a.file.now) a.k a.i a.place a.depth a.numbers.now a.used c.if-i-k.false _ _ (sym c.text_in.ensures ∙ c.in-Ok.is) c.if-numbers-used-lt18.false _ c.put_entry.ensures

@@ -1,28 +1,26 @@
 -- The loop's invariant: the walk stands at element number i, and what was put so far stands before what the rest of the room takes.
-use Prim.Native.Nat.{ℕ, ◌+◌, ◌-◌, ◌≤◌, ◌<◌}
+use Prim.Native.Nat.{◌+◌, ◌≤◌, ◌<◌}
 use mathlib.Core.Path.{◌≡◌, sym, ap, ◌∙◌, subst}
-use mathlib.Core.List.{List}
 use native.Mathlib.Omega.{arith}
-use lib.IntN.{ℤ}
 use lib.ListN.{length}
 use Rattle.words.specs.Words.{words}
 use Rattle.words.proofs.Laws.{lent_below, length_words}
 use Rattle.headers.specs.Header.{size_at}
 use Rattle.headers.proofs.Laws.{size_small, words_small}
 use Rattle.walking.proofs.Steps.{opens_shallow}
-use Rattle.order.specs.Fitting.{in_numbers, part_of}
+use Rattle.order.specs.Fitting.{in_numbers}
 use Rattle.order.proofs.Fitting.{lays_numbers, Going, going_start, going_done, now_room, turn_full, turn_more}
-use Rattle.dgn_texts.specs.Texts.{walk_of, entry_at, texts_from, from_number}
+use Rattle.dgn_texts.specs.Texts.{walk_of, entry_at, from_number}
 use Rattle.dgn_texts.proofs.Walks.{walking_start, walk_in, walk_out, walk_on}
 use Rattle.dgn_texts.proofs.Places.{numbers_of, from_first}
 use Rattle.dgn_texts.proofs.put_texts.Goals as goal
-use Rattle.dgn_texts.proofs.put_texts.Goals.{After-size_at, In-loop-i, Then-opens_list}
+use Rattle.dgn_texts.proofs.put_texts.Goals.{After-size_at, In-loop-i, Then-opens_list, then-opens_list, else-opens_list+then-next-end, else-opens_list+else-next-end}
 
 -- the element lies in the file
 inside : (c : In-loop-i) → (c.loop-i.place < length (words c.args.file.now)) × (length (words c.args.file.now) ≤ 524288) × (c.loop-i.place < length c.args.file.now)
 inside c =
     let i = c.requires.1 c.loop-i.i c.loop-i-test.true in
-    let p = ap (λ w. w.place) c.loop-i.invariant.1.is in
+    let p = ap (λ w. w.place) c.loop-i.invariant.0.is in
     let l = length_words c.args.file.now in
     (omega arith, c.requires.0, omega arith)
 
@@ -30,7 +28,7 @@ inside c =
 here : (c : In-loop-i) → let a = c.args in let l = c.loop-i in from_number a.k l.i (entry_at a.dim (words a.file.now) (record { place = l.place; depth = l.depth; ends = l.ends })) ≡ numbers_of a.dim a.file.now a.k l.i
 here c =
     let a = c.args in
-    ap (λ w. from_number a.k c.loop-i.i (entry_at a.dim (words a.file.now) w)) c.loop-i.invariant.1.is
+    ap (λ w. from_number a.k c.loop-i.i (entry_at a.dim (words a.file.now) w)) c.loop-i.invariant.0.is
 
 -- the next element begins behind it
 next_is : (c : After-size_at) → c.loop-i.place + c.size_at.result ≡ c.loop-i.place + size_at (words c.args.file.now) c.loop-i.place
@@ -49,26 +47,22 @@ loop-i-init c =
     let numbers = a.numbers.now in
     let from = numbers_of a.dim a.file.now a.k in
     let first = from_first a.k (length numbers) (λ i. entry_at a.dim ws (walk_of ws i)) a.elements (omega (arith, c.if-elements-k.false)) in
-    (omega arith, walking_start ws, subst (λ p. Going in_numbers lays_numbers p numbers from a.elements 0 0 numbers) first (going_start in_numbers lays_numbers numbers from a.elements 0))
+    (walking_start ws, subst (λ p. Going in_numbers lays_numbers p numbers from a.elements 0 0 numbers) first (going_start in_numbers lays_numbers numbers from a.elements 0))
 
 pub put_from-requires : goal.put_from-requires
 put_from-requires c =
     let in_file = inside (goal.at.put_from-requires c).In-loop-i in
-    let deep = c.loop-i.invariant.1.deep in
-    let l = now_room in_numbers lays_numbers c.loop-i.invariant.2 in
-    (omega arith, (omega arith, omega (arith, c.loop-i.invariant.2.room)))
+    let deep = c.loop-i.invariant.0.deep in
+    let l = now_room in_numbers lays_numbers c.loop-i.invariant.1 in
+    (omega arith, (omega arith, omega (arith, c.loop-i.invariant.1.room)))
 
-pub shape_of-numbers-in-Full : goal.shape_of-numbers-in-Full
-shape_of-numbers-in-Full c =
-    c.put_from.auto.numbers ∙ now_room in_numbers lays_numbers c.loop-i.invariant.2
+pub shape_of-numbers-in_default : goal.shape_of-numbers-in_default
+shape_of-numbers-in_default c =
+    c.put_from.auto.numbers ∙ now_room in_numbers lays_numbers c.loop-i.invariant.1
 
-pub returns-in-Full : goal.returns-in-Full
-returns-in-Full c =
-    turn_full in_numbers lays_numbers c.loop-i.invariant.2 _ (here (goal.at.returns-in-Full c).In-loop-i) c.loop-i-test.true _ _ c.in-Full.is c.put_from.ensures
-
-pub overflow_add-i : goal.overflow_add-i
-overflow_add-i c =
-    omega (arith, c.loop-i-test.true, c.ranges)
+pub returns-in_default : goal.returns-in_default
+returns-in_default c =
+    turn_full in_numbers lays_numbers c.loop-i.invariant.1 _ (here (goal.at.returns-in_default c).In-loop-i) c.loop-i-test.true _ _ c.in_default.is c.put_from.ensures
 
 pub overflow_add-next : goal.overflow_add-next
 overflow_add-next c =
@@ -93,32 +87,26 @@ offset_bounds-ends-depth c = omega (arith, shallow (goal.at.offset_bounds-ends-d
 pub bounds-ends-depth : goal.bounds-ends-depth
 bounds-ends-depth c = omega (arith, shallow (goal.at.bounds-ends-depth c).Then-opens_list)
 
-pub loop-i-smaller-then-opens_list : goal.loop-i-smaller-then-opens_list
-loop-i-smaller-then-opens_list c =
-    omega (arith, c.loop-i-test.true)
-
-pub loop-i-preserved-then-opens_list : goal.loop-i-preserved-then-opens_list
-loop-i-preserved-then-opens_list c =
-    (omega (arith, c.loop-i-test.true), walk_in c.loop-i.invariant.1 (inside (goal.at.loop-i-preserved-then-opens_list c).In-loop-i).0 _ (next_is (goal.at.loop-i-preserved-then-opens_list c).After-size_at) (sym c.opens_list.ensures ∙ c.if-opens_list.true) _ c.extent_words.ensures, turn_more in_numbers lays_numbers c.loop-i.invariant.2 _ (here (goal.at.loop-i-preserved-then-opens_list c).In-loop-i) c.loop-i-test.true _ _ _ c.in-Used.is c.put_from.ensures)
-
-pub loop-i-smaller-then-next-end : goal.loop-i-smaller-then-next-end
-loop-i-smaller-then-next-end c =
-    omega (arith, c.loop-i-test.true)
-
-pub loop-i-preserved-then-next-end : goal.loop-i-preserved-then-next-end
-loop-i-preserved-then-next-end c =
-    (omega (arith, c.loop-i-test.true), walk_out c.loop-i.invariant.1 (inside (goal.at.loop-i-preserved-then-next-end c).In-loop-i).0 _ (next_is (goal.at.loop-i-preserved-then-next-end c).After-size_at) (sym c.opens_list.ensures ∙ c.if-opens_list.false) _ c.closed_to-depth.ensures _ c.end_in-end.ensures, turn_more in_numbers lays_numbers c.loop-i.invariant.2 _ (here (goal.at.loop-i-preserved-then-next-end c).In-loop-i) c.loop-i-test.true _ _ _ c.in-Used.is c.put_from.ensures)
-
-pub loop-i-smaller : goal.loop-i-smaller
-loop-i-smaller c =
-    omega (arith, c.loop-i-test.true)
-
 pub loop-i-preserved : goal.loop-i-preserved
 loop-i-preserved c =
-    (omega (arith, c.loop-i-test.true), walk_on c.loop-i.invariant.1 (inside (goal.at.loop-i-preserved c).In-loop-i).0 _ (next_is (goal.at.loop-i-preserved c).After-size_at) (sym c.opens_list.ensures ∙ c.if-opens_list.false) c.if-next-end.false, turn_more in_numbers lays_numbers c.loop-i.invariant.2 _ (here (goal.at.loop-i-preserved c).In-loop-i) c.loop-i-test.true _ _ _ c.in-Used.is c.put_from.ensures)
+    let on = c.loop-i.invariant.0 in
+    let in_file = (inside (goal.at.loop-i-preserved c).In-loop-i).0 in
+    let next = next_is (goal.at.loop-i-preserved c).After-size_at in (
+      elim c.if-opens_list.branch [
+        | then-opens_list w ↦ rw (w.place-is, w.depth-is, w.ends-is, w.end-is)
+            (walk_in on in_file _ next (sym c.opens_list.ensures ∙ w.if-opens_list.true) _ w.extent_words.ensures)
+        | else-opens_list+then-next-end w ↦ rw (w.place-is, w.depth-is, w.ends-is, w.end-is)
+            (walk_out on in_file _ next (sym c.opens_list.ensures ∙ w.if-opens_list.false) _ w.closed_to-depth.ensures _ w.end_in-end.ensures)
+        | else-opens_list+else-next-end w ↦ rw (w.place-is, w.depth-is, w.ends-is, w.end-is)
+            (walk_on on in_file _ next (sym c.opens_list.ensures ∙ w.if-opens_list.false) w.if-next-end.false)
+      ],
+      turn_more in_numbers lays_numbers c.loop-i.invariant.1 _ (here (goal.at.loop-i-preserved c).In-loop-i) c.loop-i-test.true _ _ _ c.in-Some.is c.put_from.ensures,
+    )
 
 pub shape_of-numbers : goal.shape_of-numbers
-shape_of-numbers c = now_room in_numbers lays_numbers c.loop-i.invariant.2
+shape_of-numbers c = now_room in_numbers lays_numbers c.loop-i.invariant.1
 
 pub returns : goal.returns
-returns c = going_done in_numbers lays_numbers c.loop-i.invariant.2 c.loop-i-test.false
+returns c =
+    let z : c.loop-i.i ≡ c.args.elements = omega (arith, c.loop-i-test.false) in
+    rw z at (going_done in_numbers lays_numbers c.loop-i.invariant.1 c.loop-i-test.false)

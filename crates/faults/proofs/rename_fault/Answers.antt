@@ -1,33 +1,31 @@
 -- The checks are the definition's, in its order: 13, 18, 12.
-use mathlib.Core.Path.{◌≡◌, sym, ◌∙◌}
-use mathlib.Core.Bool.{Bool, true, false}
-use mathlib.Core.List.{[], ◌∷◌}
-use Rattle.words.specs.Words.{words}
-use Rattle.headers.specs.Checks.{check, first_fault}
+use mathlib.Core.Path.{sym, ap, ◌∙◌}
+use mathlib.Core.Bool.{not}
 use Rattle.faults.specs.Faults.{rename_number}
 use Rattle.faults.proofs.rename_fault.Goals as goal
-use Rattle.faults.proofs.rename_fault.Goals.{Else-not-cell}
 
-pub returns-then-not-there : goal.returns-then-not-there
+pub returns-then-is_err : goal.returns-then-is_err
 unfolding rename_number
-returns-then-not-there c = rw (sym c.is_at-there.ensures ∙ c.if-not-there.true)
+returns-then-is_err c = rw (c.is_err.ensures.negation ∙ ap not c.if-is_err.true)
 
-pub returns-then-not-cell : goal.returns-then-not-cell
+pub returns-then-not-is_cell : goal.returns-then-not-is_cell
 unfolding rename_number
-returns-then-not-cell c = rw (sym c.is_at-there.ensures ∙ c.if-not-there.false, sym c.is_cell-cell.ensures ∙ c.if-not-cell.true)
-
--- at a cell, by whether the text is a name
-by : (c : Else-not-cell) (b : Bool) → c.args.named ≡ b → first_fault (check b 12 ∷ []) ≡ rename_number (words c.args.used.now) c.args.found c.args.place c.args.named
-unfolding rename_number
-by c b e =
-    rw (
-      sym c.is_at-there.ensures ∙ c.if-not-there.false,
-      sym c.is_cell-cell.ensures ∙ c.if-not-cell.false,
-      e,
-    )
+returns-then-not-is_cell c = rw (c.is_err.ensures.negation ∙ ap not c.if-is_err.false, sym c.is_cell.ensures ∙ c.if-not-is_cell.true)
 
 pub returns-then-not-named : goal.returns-then-not-named
-returns-then-not-named c = by (goal.at.returns-then-not-named c).Else-not-cell false (c.if-not-named.true)
+unfolding rename_number
+returns-then-not-named c =
+    rw (
+      c.is_err.ensures.negation ∙ ap not c.if-is_err.false,
+      sym c.is_cell.ensures ∙ c.if-not-is_cell.false,
+      c.if-not-named.true,
+    )
 
 pub returns : goal.returns
-returns c = by (goal.at.returns c).Else-not-cell true (c.if-not-named.false)
+unfolding rename_number
+returns c =
+    rw (
+      c.is_err.ensures.negation ∙ ap not c.if-is_err.false,
+      sym c.is_cell.ensures ∙ c.if-not-is_cell.false,
+      c.if-not-named.false,
+    )

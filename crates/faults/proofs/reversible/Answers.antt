@@ -1,8 +1,9 @@
 -- The kinds are tested in the definition's order, and each reversal has its own call.
-use mathlib.Core.Path.{sym, ◌∙◌}
+use mathlib.Core.Path.{ap, ◌∙◌}
+use Rattle.std.specs.Prelude.{is_ok}
 use borrow.Author.Tests.{eq-eqb, ne_eqb}
 use Rattle.faults.specs.Reversing.{reverses_at}
-use Rattle.faults.proofs.Inserting.{insert_fine, insert_refused}
+use Rattle.faults.proofs.Inserting.{given_fine}
 use Rattle.faults.proofs.reversible.Goals as goal
 
 pub returns-then-kind-eq1 : goal.returns-then-kind-eq1
@@ -25,14 +26,8 @@ pub returns-then-kind-eq3 : goal.returns-then-kind-eq3
 unfolding reverses_at
 returns-then-kind-eq3 c = rw (ne_eqb _ _ c.if-kind-eq1.false, ne_eqb _ _ c.if-kind-eq2.false, eq-eqb _ _ c.if-kind-eq3.true) c.stands_under.ensures
 
-pub returns-in-Allowed : goal.returns-in-Allowed
+pub returns : goal.returns
 unfolding reverses_at
-returns-in-Allowed c =
+returns c =
     rw (ne_eqb _ _ c.if-kind-eq1.false, ne_eqb _ _ c.if-kind-eq2.false, ne_eqb _ _ c.if-kind-eq3.false)
-    (insert_fine _ _ _ _ _ _ _ (sym c.insert_fault.ensures ∙ c.in-Allowed.is))
-
-pub returns-in-Refused : goal.returns-in-Refused
-unfolding reverses_at
-returns-in-Refused c =
-    rw (ne_eqb _ _ c.if-kind-eq1.false, ne_eqb _ _ c.if-kind-eq2.false, ne_eqb _ _ c.if-kind-eq3.false)
-    (insert_refused _ _ _ _ _ _ _ _ _ (sym c.insert_fault.ensures ∙ c.in-Refused.is))
+    (c.is_ok.ensures.value ∙ ap is_ok c.insert_fault.ensures ∙ given_fine _)

@@ -9,13 +9,13 @@ pub judge_list-requires : goal.judge_list-requires
 judge_list-requires c = omega arith
 
 pub overflow_sub-result : goal.overflow_sub-result
-overflow_sub-result c = let x = rw (c.in-Stopped.is) at (c.judge_list.ensures) in omega (arith, x.counted)
+overflow_sub-result c = let x = rw c.in-Stopped.is at c.judge_list.ensures in omega (arith, x.counted)
 
 pub returns-in-Stopped : goal.returns-in-Stopped
-returns-in-Stopped c = reach_stopped (rw (c.in-Stopped.is) at (c.judge_list.ensures))
+returns-in-Stopped c = reach_stopped (rw c.in-Stopped.is at c.judge_list.ensures)
 
 pub returns-in-Broken : goal.returns-in-Broken
-returns-in-Broken c = reach_broken (rw (c.in-Broken.is) at (c.judge_list.ensures))
+returns-in-Broken c = reach_broken (rw c.in-Broken.is at c.judge_list.ensures)
 
 pub returns-in-Done : goal.returns-in-Done
 returns-in-Done c =

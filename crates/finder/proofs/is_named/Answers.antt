@@ -7,10 +7,10 @@ use Rattle.finder.proofs.is_named.Goals as goal
 
 pub returns-then-has_words : goal.returns-then-has_words
 returns-then-has_words c =
-    words_first (words c.args.s.now) c.args.at c.args.t c.args.k c.args.first
-    c.args.second c.has_words.ensures c.if-has_words.true c.type_at.ensures refl
+    words_first (words c.args.s.now) c.args.at c.args.t c.args.k c.args.name.first
+    c.args.name.second c.has_words.ensures c.if-has_words.true c.type_at.ensures refl
 
 pub returns : goal.returns
 returns c =
-    words_fail (words c.args.s.now) c.args.at c.args.t c.args.k c.args.first
-    c.args.second c.has_words.ensures c.if-has_words.false
+    words_fail (words c.args.s.now) c.args.at c.args.t c.args.k c.args.name.first
+    c.args.name.second c.has_words.ensures c.if-has_words.false

@@ -37,4 +37,4 @@ loop-at-preserved c =
     (omega (arith, c.size_at-at.ensures, c.loop-at.invariant.0), λ r f. c.loop-at.invariant.1 r (look_next _ _ _ _ _ _ _ c.loop-at-test.true (sym c.is_hit.ensures ∙ c.if-is_hit.false) r (rw c.size_at-at.ensures at f)))
 
 pub returns : goal.returns
-returns c = c.loop-at.invariant.1 _ (look_none _ _ _ _ _ _ _ (c.loop-at-test.false))
+returns c = rw c.none_named.ensures (c.loop-at.invariant.1 _ (look_none _ _ _ _ _ _ _ (c.loop-at-test.false)))

@@ -5,8 +5,8 @@ use Prim.Native.Nat.{◌-◌, ◌/◌}
 use lib.ListN.{length}
 use Rattle.finder.proofs.search.Given as goal
 
-abbrev pub invariant-loop-number : goal.invariant-loop-number
-invariant-loop-number l = Searched l.wanted l.dim l.file l.first l.second l.here l.answer
+abbrev pub invariant-loop-before : goal.invariant-loop-before
+invariant-loop-before l = Searched l.wanted l.dim l.file l.name.first l.name.second l.here l.answer
 
-abbrev pub decreases-loop-number : goal.decreases-loop-number
-decreases-loop-number l = length l.file / 2 - l.here
+abbrev pub decreases-loop-before : goal.decreases-loop-before
+decreases-loop-before l = length l.file / 2 - l.here

@@ -1,5 +1,5 @@
 -- The loop's invariant is a continuation: so many elements from `here` on are so many more from `at` on. The measure is the words left.
-use Prim.Native.Nat.{suc, ◌+◌, ◌-◌}
+use Prim.Native.Nat.{suc, ◌+◌}
 use mathlib.Core.Path.{◌≡◌, subst}
 use native.Mathlib.Omega.{arith}
 use Rattle.words.specs.Words.{words}

@@ -1,10 +1,7 @@
--- The invariant `Exchanges`: what is read and put from `here` on, behind the bits so far, is all of it. The measure is how many are left.
+-- The invariant `Exchanges`: what is read and put from `here` on, behind the bits so far, is all of it.
 use Prim.Native.Nat.{◌-◌}
 use Rattle.flags.proofs.Turns.{Exchanges}
 use Rattle.flags.proofs.exchange.Given as goal
 
-abbrev pub invariant-loop-left : goal.invariant-loop-left
-invariant-loop-left l = Exchanges l.initial.used l.at l.end l.new l.used l.here l.rest l.bits l.weight l.left
-
-abbrev pub decreases-loop-left : goal.decreases-loop-left
-decreases-loop-left l = l.left
+abbrev pub invariant-loop : goal.invariant-loop
+invariant-loop l = Exchanges l.initial.used l.at l.end l.new l.used l.here l.rest l.bits l.weight (16 - l.counter)

@@ -1,5 +1,4 @@
 -- The invariant `Marks`: what is put and packed from `here` on, behind the words so far, is all of it. The measure is the words left.
-use Prim.Native.Nat.{◌-◌}
 use mathlib.Core.Path.{ap}
 use mathlib.Core.List.{[]}
 use native.Mathlib.Omega.{arith}

@@ -1,5 +1,4 @@
--- The invariant `Restores`: the flags of the payload's words from i on, put from `here` on, are all of them put. The measure is the words left.
-use Prim.Native.Nat.{◌-◌}
+-- The invariant `Restores`: the flags of the payload's words from i on, put from `here` on, are all of them put.
 use native.Mathlib.Omega.{arith}
 use Rattle.words.proofs.Laws.{length_words}
 use Rattle.flags.proofs.Sixteens.{restores_begin, restores_turn, restores_end, restores_none}
@@ -13,14 +12,6 @@ loop-i-init c = restores_begin _ _ _ _
 
 pub exchange-old-requires : goal.exchange-old-requires
 exchange-old-requires c = omega (arith, c.if-used-end.false, c.loop-i.invariant.long)
-
-pub overflow_add-i : goal.overflow_add-i
-overflow_add-i c =
-    omega (arith, c.loop-i-test.true)
-
-pub loop-i-smaller : goal.loop-i-smaller
-loop-i-smaller c =
-    omega (arith, c.loop-i-test.true)
 
 pub loop-i-preserved : goal.loop-i-preserved
 loop-i-preserved c =

@@ -48,5 +48,5 @@ finish-requires c =
 
 pub returns : goal.returns
 returns c =
-    remove_done (lent (goal.at.returns c).Else-not-lent_ok) (c.less-fewer.result) (c.is_full-full.result) (c.is_full-full.ensures) (c.pick-room.result) (c.pick-room.ensures) _ _ _ _ _ (c.finish.ensures) _ _ _
-    (c.cells_used.ensures) (c.cells_under.ensures) (c.less-fewer.ensures) (c.remove-answer.ensures)
+    remove_done (lent (goal.at.returns c).Else-not-lent_ok) (c.saturating_sub-fewer.result) (c.is_full-full.result) (c.is_full-full.ensures) (c.pick-room.result) (c.pick-room.ensures) _ _ _ _ _ (c.finish.ensures) _ _ _
+    (c.cells_used.ensures) (c.cells_under.ensures) (c.saturating_sub-fewer.ensures) (c.remove-answer.ensures)

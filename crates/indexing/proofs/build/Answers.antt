@@ -1,16 +1,14 @@
--- The file's refusal, or the index of the cells up to its marker, which are the file's (`judged-put`).
+-- The file's refusal, or the index of the cells up to its marker, which are the file's (`judged_put`).
 use mathlib.Core.Path.{sym, ◌∙◌}
-use Rattle.indexing.proofs.Puts.{judged_refused, judged_index, judged_short}
+use Rattle.std.proofs.lemmas.Result.{err_from_is_err_and}
+use Rattle.indexing.proofs.Puts.{judged_refused, judged_put}
 use Rattle.indexing.proofs.build.Goals as goal
 
-pub returns-in-Refused : goal.returns-in-Refused
-returns-in-Refused c =
-    judged_refused _ _ _ _ _ (sym (c.judge.ensures) ∙ c.in-Refused.is)
+pub returns-in_err-accepted : goal.returns-in_err-accepted
+returns-in_err-accepted c =
+    let p = err_from_is_err_and c.from_residual.result c.from_residual.ensures.1 in
+    rw (p.1, p.2) (judged_refused _ _ _ _ (sym c.judge.ensures ∙ c.in_err-accepted.was))
 
-pub returns-in-Index : goal.returns-in-Index
-returns-in-Index c =
-    judged_index _ _ _ _ _ _ _ _ (sym (c.judge.ensures) ∙ c.in-Accepted.is) (c.put_index.ensures) _ (c.in-Index.is)
-
-pub returns-in-Short : goal.returns-in-Short
-returns-in-Short c =
-    judged_short _ _ _ _ _ _ _ _ (sym (c.judge.ensures) ∙ c.in-Accepted.is) (c.put_index.ensures) (c.in-Short.is)
+pub returns : goal.returns
+returns c =
+    judged_put _ _ _ _ _ _ _ _ (sym c.judge.ensures ∙ c.in_ok-accepted.was) c.put_index.ensures _ c.ok_or.ensures.value

@@ -1,30 +1,36 @@
--- The loop's invariant is a continuation: every answer of the walk from `here` on with `left` still to pass is the answer of the
--- walk from `at` on to linkage k. The measure is the words left.
-use mathlib.Core.Path.{◌∙◌}
+-- The loop's invariant is a continuation: every answer of the walk from `here` on, with the linkages not yet passed, is the answer
+-- of the walk from `at` on to linkage k.
+use Prim.Native.Nat.{◌+◌, ◌-◌}
+use mathlib.Core.Path.{◌≡◌, ◌∙◌}
 use native.Mathlib.Omega.{arith}
 use Rattle.linkages.specs.Linkages.{linkage_in}
 use Rattle.linkages.proofs.Laws.{fitting_none, fitting_some, walk_stops, walk_here, walk_on}
 use Rattle.linkages.proofs.linkage_in.Goals as goal
 
-pub loop-at-init : goal.loop-at-init
-loop-at-init c = λ r i. i
+pub loop-init : goal.loop-init
+loop-init c = λ r i. let e : c.args.k - 0 ≡ c.args.k = omega arith in rw e at i
 
 pub returns-then-n-eq0 : goal.returns-then-n-eq0
 unfolding linkage_in
-returns-then-n-eq0 c = c.loop-at.invariant _ (walk_stops _ _ _ _ (fitting_none _ _ _ _ c.fitting_words-n.ensures c.if-n-eq0.true)) _ (omega arith)
-
-pub linkage_at-requires : goal.linkage_at-requires
-linkage_at-requires c = omega (arith, fitting_some _ _ _ _ c.fitting_words-n.ensures c.if-n-eq0.false)
-
-pub returns-then-left-eq0 : goal.returns-then-left-eq0
-unfolding linkage_in
-returns-then-left-eq0 c = c.linkage_at.ensures ∙ c.loop-at.invariant _ (walk_here _ _ _ _ _ c.if-left-eq0.true (fitting_some _ _ _ _ c.fitting_words-n.ensures c.if-n-eq0.false)) _ (omega arith)
+returns-then-n-eq0 c = c.loop.invariant _ (walk_stops _ _ _ _ (fitting_none _ _ _ _ c.fitting_words-n.ensures c.if-n-eq0.true)) _ (omega arith)
 
 pub overflow_add-here : goal.overflow_add-here
 overflow_add-here c = omega (arith, fitting_some _ _ _ _ c.fitting_words-n.ensures c.if-n-eq0.false)
 
-pub loop-at-smaller : goal.loop-at-smaller
-loop-at-smaller c = omega (arith, fitting_some _ _ _ _ c.fitting_words-n.ensures c.if-n-eq0.false)
+pub loop-preserved : goal.loop-preserved
+loop-preserved c =
+    let e : c.args.k - c.loop.counter - 1 ≡ c.args.k - (c.loop.counter + 1) = omega arith in
+    λ r i. c.loop.invariant r (walk_on _ _ _ _ _ r (λ z. omega arith) (fitting_some _ _ _ _ c.fitting_words-n.ensures c.if-n-eq0.false) (rw e i))
 
-pub loop-at-preserved : goal.loop-at-preserved
-loop-at-preserved c = λ r i. c.loop-at.invariant r (walk_on _ _ _ _ _ r c.if-left-eq0.false (fitting_some _ _ _ _ c.fitting_words-n.ensures c.if-n-eq0.false) i)
+pub returns-then-fitting_words-eq0 : goal.returns-then-fitting_words-eq0
+unfolding linkage_in
+returns-then-fitting_words-eq0 c = c.loop.invariant _ (walk_stops _ _ _ _ (fitting_none _ _ _ _ c.fitting_words.ensures c.if-fitting_words-eq0.true)) _ (omega arith)
+
+pub linkage_at-requires : goal.linkage_at-requires
+linkage_at-requires c = omega (arith, fitting_some _ _ _ _ c.fitting_words.ensures c.if-fitting_words-eq0.false)
+
+pub returns : goal.returns
+unfolding linkage_in
+returns c =
+    c.linkage_at.ensures
+    ∙ c.loop.invariant _ (walk_here _ _ _ _ _ (omega arith) (fitting_some _ _ _ _ c.fitting_words.ensures c.if-fitting_words-eq0.false)) _ (omega arith)

@@ -1,34 +1,22 @@
--- `listing::put_characters` meets its contract. The loop's invariant: the first k characters are put. The measure is what is left of
--- them.
-use Prim.Native.Nat.{◌-◌}
+-- The invariant: the characters so far are put (`escaped_more`).
 use mathlib.Core.Path.{refl}
 use native.Mathlib.Omega.{arith}
 use native.Mathlib.Numerals.{add-one}
 use lib.Seq.{take_all}
-use borrow.Author.Rules.{rules}
 use Rattle.listing.proofs.Laws.{puts_then}
 use Rattle.listing.proofs.Escapes.{escaped_more}
 use Rattle.listing.proofs.put_characters.Goals as goal
 
-pub loop-k-init : goal.loop-k-init
-loop-k-init c = (omega arith, refl, omega arith, record { bytes = refl; next = omega arith })
+pub loop-c-init : goal.loop-c-init
+loop-c-init c = record { room = omega arith; put = record { bytes = refl; next = omega arith } }
 
-pub put_character-next-requires : goal.put_character-next-requires
-put_character-next-requires c = omega arith
-
-pub loop-k-preserved : goal.loop-k-preserved
-loop-k-preserved c =
-    let all = c.args.characters.now in (
-      omega arith,
-      search rules,
-      omega arith,
-      rw (add-one, escaped_more all _ c.loop-k-test.true) (puts_then c.loop-k.invariant.3 c.put_character-next.ensures.puts),
-    )
-
-pub shape_of-buf : goal.shape_of-buf
-shape_of-buf c = c.loop-k.invariant.1
+pub loop-c-preserved : goal.loop-c-preserved
+loop-c-preserved c =
+    record {
+      room = omega arith;
+      put = rw (add-one, escaped_more c.args.characters.now _ c.loop-c-test.true) (puts_then c.loop-c.invariant.put c.put_character-next.ensures.puts);
+    }
 
 pub returns : goal.returns
 returns c =
-    let all = c.args.characters.now in
-    record { puts = rw (take_all _ all c.loop-k-test.false) at c.loop-k.invariant.3; upper_bound = omega arith }
+    record { puts = rw (take_all _ c.args.characters.now c.loop-c-test.false) at c.loop-c.invariant.put; upper_bound = omega arith }

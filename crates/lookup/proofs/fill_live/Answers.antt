@@ -1,5 +1,4 @@
 -- The loop's invariant: the live cells before the place are marked (Table), in a table as long as it was.
-use Prim.Native.Nat.{◌-◌}
 use mathlib.Core.Path.{refl, ◌∙◌}
 use native.Mathlib.Omega.{arith}
 use Rattle.words.proofs.Laws.{lent_below}

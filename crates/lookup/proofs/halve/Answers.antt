@@ -1,5 +1,4 @@
 -- The invariant is `Going`: what is left to do from here is what is left of the whole.
-use Prim.Native.Nat.{◌-◌}
 use native.Mathlib.Omega.{arith}
 use Rattle.entries.proofs.Laws.{length_entries}
 use Rattle.lookup.proofs.Turns.{start, past, to, end}

@@ -5,7 +5,6 @@ use lib.Seq.{length-take-le}
 use Rattle.words.proofs.Laws.{lent_below}
 use Rattle.edits.specs.Bits.{flag_size}
 use Rattle.opening.proofs.OpenSession.{used_within, jused_within}
-use Rattle.opening.proofs.Steps.{answered}
 use Rattle.marking.proofs.Ways.{mark_refused, mark_full, mark_done}
 use Rattle.marking.proofs.mark_opened.Goals as goal
 
@@ -17,7 +16,7 @@ slice_bounds-mark_fault-end-2 c = sym (length-take-le _ _ (used_within c.require
 
 pub returns-then-number-ne0 : goal.returns-then-number-ne0
 returns-then-number-ne0 c =
-    answered c.refused.ensures
+    rw c.refused.ensures
     (mark_refused _ _ _ _ _ _ _ c.requires (lent_below c.args.file.now c.slice_known-1.given) _
     _ c.mark_fault-number.ensures c.if-number-ne0.true)
 
@@ -35,7 +34,7 @@ overflow_sub-journal c =
 
 pub returns-then-journal-jused : goal.returns-then-journal-jused
 returns-then-journal-jused c =
-    answered c.refused-then-journal-jused.ensures
+    rw c.refused-then-journal-jused.ensures
     (mark_full _ _ _ _ _ _ _ c.requires (lent_below c.args.file.now c.slice_known-1.given) _ _
     c.mark_fault-number.ensures c.if-number-ne0.false _ _ c.end_of-end.ensures
     (c.flag_size-n.ensures ∙ ap flag_size c.count.ensures) c.if-journal-jused.true)

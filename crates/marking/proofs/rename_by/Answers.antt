@@ -5,22 +5,22 @@ use Rattle.names.proofs.OneToOne.{pack_stored}
 use Rattle.marking.proofs.Ways.{text_named, text_unnamed}
 use Rattle.marking.proofs.rename_by.Goals as goal
 
-pub overflow_cast-first : goal.overflow_cast-first
-overflow_cast-first c =
+pub overflow_cast-name : goal.overflow_cast-name
+overflow_cast-name c =
     record
-    { fits = (pack_stored c.args.text.now _ _ (sym c.pack.ensures ∙ c.in-Words.is)).first }
+    { fits = (pack_stored c.args.text.now _ _ (sym c.pack.ensures ∙ c.in-Ok.is)).first }
 
-pub overflow_cast-second : goal.overflow_cast-second
-overflow_cast-second c =
+pub overflow_cast-name-in-Ok : goal.overflow_cast-name-in-Ok
+overflow_cast-name-in-Ok c =
     record
-    { fits = (pack_stored c.args.text.now _ _ (sym c.pack.ensures ∙ c.in-Words.is)).second }
+    { fits = (pack_stored c.args.text.now _ _ (sym c.pack.ensures ∙ c.in-Ok.is)).second }
 
-pub returns-in-Words : goal.returns-in-Words
-returns-in-Words c =
-    text_named _ _ _ _ c.requires.ready _ _ (sym c.pack.ensures ∙ c.in-Words.is)
+pub returns-in-Ok : goal.returns-in-Ok
+returns-in-Ok c =
+    text_named _ _ _ _ c.requires.ready _ (sym c.pack.ensures ∙ c.in-Ok.is)
     c.rename_opened.ensures
 
-pub returns-in-Refused : goal.returns-in-Refused
-returns-in-Refused c =
-    text_unnamed _ _ _ _ c.requires.ready _ _ (sym c.pack.ensures ∙ c.in-Refused.is)
-    c.rename_opened-in-Refused.ensures
+pub returns-in-Err : goal.returns-in-Err
+returns-in-Err c =
+    text_unnamed _ _ _ _ c.requires.ready _ (sym c.pack.ensures ∙ c.in-Err.is)
+    c.rename_opened-in-Err.ensures

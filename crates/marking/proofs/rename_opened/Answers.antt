@@ -4,7 +4,6 @@ use mathlib.Core.Path.{sym}
 use lib.Seq.{length-take-le}
 use Rattle.words.proofs.Laws.{lent_below}
 use Rattle.opening.proofs.OpenSession.{used_within, jused_within}
-use Rattle.opening.proofs.Steps.{answered}
 use Rattle.marking.proofs.Ways.{rename_refused, rename_full, rename_done}
 use Rattle.marking.proofs.rename_opened.Goals as goal
 
@@ -16,7 +15,7 @@ slice_bounds-rename_fault-end-2 c = sym (length-take-le _ _ (used_within (c.requ
 
 pub returns-then-number-ne0 : goal.returns-then-number-ne0
 returns-then-number-ne0 c =
-    answered c.refused.ensures
+    rw c.refused.ensures
     (rename_refused _ _ _ _ _ _ _ c.requires (lent_below c.args.file.now c.slice_known-1.given)
     _ _ _ _ c.rename_fault-number.ensures c.if-number-ne0.true)
 
@@ -26,7 +25,7 @@ overflow_sub-journal c =
 
 pub returns-then-journal-jused-lt16 : goal.returns-then-journal-jused-lt16
 returns-then-journal-jused-lt16 c =
-    answered c.refused-then-journal-jused-lt16.ensures
+    rw c.refused-then-journal-jused-lt16.ensures
     (rename_full _ _ _ _ _ _ _ c.requires (lent_below c.args.file.now c.slice_known-1.given) _
     _ _ _ c.rename_fault-number.ensures c.if-number-ne0.false c.if-journal-jused-lt16.true)
 

@@ -7,7 +7,6 @@ use lib.ListN.{length}
 use Rattle.words.specs.Words.{Below}
 use Rattle.words.proofs.Laws.{lent_below}
 use Rattle.opening.proofs.OpenSession.{used_within, jused_within, used_most}
-use Rattle.opening.proofs.Steps.{answered}
 use Rattle.moving.proofs.Ways.{remove_inside, remove_full, remove_done}
 use Rattle.moving.proofs.remove_found.Goals as goal
 use Rattle.moving.proofs.remove_found.Goals.{After-slice_known-1}
@@ -34,7 +33,7 @@ overflow_add-n c = omega (arith, bounds (goal.at.overflow_add-n c).After-slice_k
 
 pub returns-then-journal-jused : goal.returns-then-journal-jused
 returns-then-journal-jused c =
-    answered c.refused.ensures
+    rw c.refused.ensures
     (remove_full _ _ _ _ _ _ _ c.requires.opened (below (goal.at.returns-then-journal-jused c).After-slice_known-1) _ _ _ refl c.if-journal-jused.true)
 
 pub overflow_mul-place : goal.overflow_mul-place

@@ -1,38 +1,25 @@
--- `names::all_letters` meets its contract. The loop's invariant: the answer for the text is that for what is not yet passed.
-use mathlib.Core.Path.{refl, sym, ap, ◌∙◌}
-use native.Mathlib.Omega.{arith}
-use borrow.Author.Tests.{eq-eqb, ne_eqb}
-use lib.ListN.{drop_of_length-le}
-use Rattle.names.specs.Names.{all_letters}
-use Rattle.names.proofs.Texts.{letters_from}
+-- All bytes pass the test of one byte.
+use Prim.Native.Nat.{ℕ}
+use mathlib.Core.Path.{◌≡◌, refl, ap, ◌∙◌}
+use mathlib.Core.Bool.{Bool, not, ◌&&◌}
+use mathlib.Core.List.{List, [], ◌∷◌}
+use borrow.Author.Rules.{rules}
+use Rattle.std.proofs.Common.{tests, eqb}
+use Rattle.std.specs.List.{list_all}
+use Rattle.std.proofs.lemmas.Iterator.{YieldsList-from_slice}
+use Rattle.std.proofs.lemmas.Iterator.Search.{all_from_yields_List}
+use Rattle.names.specs.Names.{code_of, all_letters}
 use Rattle.names.proofs.all_letters.Goals as goal
 
-pub loop-i-init : goal.loop-i-init
-loop-i-init c = (omega arith, refl)
+is_letter : ℕ → Bool
+is_letter b = not (eqb (code_of b) 29)
 
-pub bounds-text-i : goal.bounds-text-i
-bounds-text-i c = omega arith
-
-pub code_of-requires : goal.code_of-requires
-code_of-requires c = tt
-
-pub returns-then-code_of-eq29 : goal.returns-then-code_of-eq29
-returns-then-code_of-eq29 c =
-    sym (c.loop-i.invariant.1 ∙ letters_from _ _ c.loop-i-test.true ∙
-    simp (sym c.code_of.ensures, eq-eqb _ _ c.if-code_of-eq29.true))
-
-pub overflow_add-i : goal.overflow_add-i
-overflow_add-i c = omega arith
-
-pub loop-i-smaller : goal.loop-i-smaller
-loop-i-smaller c = omega arith
-
-pub loop-i-preserved : goal.loop-i-preserved
-loop-i-preserved c = (
-  omega arith,
-  c.loop-i.invariant.1 ∙ letters_from _ _ c.loop-i-test.true ∙
-      simp (sym c.code_of.ensures, ne_eqb _ _ c.if-code_of-eq29.false),
-)
+each_letter : (t : List ℕ) → list_all is_letter t ≡ all_letters t
+unfolding is_letter
+each_letter [] = refl
+each_letter (b ∷ t) = ap (λ (r : Bool). is_letter b && r) (each_letter t)
 
 pub returns : goal.returns
-returns c = sym (c.loop-i.invariant.1 ∙ ap all_letters (drop_of_length-le _ c.loop-i-test.false))
+unfolding is_letter
+returns c =
+    all_from_yields_List is_letter _ _ _ c.all.ensures.ran (YieldsList-from_slice c.args.text.now cc) (λ x b q k. search (rules, tests)) ∙ each_letter c.args.text.now

@@ -4,6 +4,6 @@ use Rattle.names.proofs.text_of.Goals as goal
 
 pub returns : goal.returns
 returns c =
-    text_answer_lem _ _ _ _ _ _ _ _ _ c.text_length-n.ensures c.shown.ensures
+    text_answer_lem _ _ _ _ _ _ _ _ _ c.text_length-length.ensures c.shown.ensures
     c.shown-2.ensures c.shown-3.ensures c.shown-4.ensures
     c.shown-5.ensures c.shown-6.ensures

@@ -1,5 +1,6 @@
 -- `names::unpack` meets its contract: the test is that of `unpacked`, and the words of a stored name are small enough to be taken apart.
-use mathlib.Core.Path.{sym, ◌∙◌}
+use mathlib.Core.Path.{sym, ap, ◌∙◌}
+use Rattle.std.specs.Prelude.{Ok}
 use Rattle.names.specs.Names.{unpacked}
 use Rattle.names.proofs.Stored.{both_ok, word_small}
 use Rattle.names.proofs.unpack.Goals as goal
@@ -10,7 +11,7 @@ name_text-requires c =
 
 pub returns-then-name_ok : goal.returns-then-name_ok
 unfolding unpacked
-returns-then-name_ok c = simp (sym c.name_ok.ensures, c.if-name_ok.true) c.name_text.ensures
+returns-then-name_ok c = simp (sym c.name_ok.ensures, c.if-name_ok.true) (ap Ok c.name_text.ensures)
 
 pub returns-else-name_ok : goal.returns-else-name_ok
 unfolding unpacked

@@ -1,19 +1,20 @@
 -- Judging the used file answers 1 for the dimension, then the file's own; the marker's place is compared last.
 use mathlib.Core.Path.{sym, ◌∙◌}
+use Rattle.std.proofs.lemmas.Result.{err_from_is_err_and}
 use Rattle.opening.proofs.Opening.{opened_ready, opened_early, opened_refused}
 use Rattle.opening.proofs.open_file.Goals as goal
 
-pub returns-then-marker-last : goal.returns-then-marker-last
-returns-then-marker-last c =
-    opened_ready _ _ c.requires.0 c.requires.1.1 _ _ _
-    (sym c.placed_at.ensures ∙ c.in-Accepted.is) c.if-marker-last.true
+pub returns-in_err-opened : goal.returns-in_err-opened
+returns-in_err-opened c =
+    let p = err_from_is_err_and c.from_residual.result c.from_residual.ensures.1 in
+    rw (p.1, p.2) (opened_refused _ _ c.requires.0 c.requires.1.1 _ _ (sym c.placed_at.ensures ∙ c.in_err-opened.was))
 
-pub returns-in-Refused : goal.returns-in-Refused
-returns-in-Refused c =
-    opened_refused _ _ c.requires.0 c.requires.1.1 _ _ _
-    (sym c.placed_at.ensures ∙ c.in-Refused.is)
+pub returns-then-opened-last : goal.returns-then-opened-last
+returns-then-opened-last c =
+    rw c.refused.ensures (opened_early _ _ c.requires.0 c.requires.1.1 _ _
+    (sym c.placed_at.ensures ∙ c.in_ok-opened.was) c.if-opened-last.true)
 
-pub returns-else-marker-last : goal.returns-else-marker-last
-returns-else-marker-last c =
-    opened_early _ _ c.requires.0 c.requires.1.1 _ _ _
-    (sym c.placed_at.ensures ∙ c.in-Accepted.is) c.if-marker-last.false
+pub returns : goal.returns
+returns c =
+    opened_ready _ _ c.requires.0 c.requires.1.1 _ _
+    (sym c.placed_at.ensures ∙ c.in_ok-opened.was) c.if-opened-last.false

@@ -1,9 +1,9 @@
 -- No cell, or its plate: where a cell is, words stand.
 use mathlib.Core.Path.{refl, sym, ap, ◌∙◌}
 use native.Mathlib.Omega.{arith}
+use Rattle.std.specs.Prelude.{Ok}
 use Rattle.words.specs.Words.{words}
 use Rattle.promises.proofs.Promises.{words_length}
-use Rattle.plates.specs.declared.Plated.TheVariants.{Counted}
 use Rattle.plates.specs.Hops.{plate_in}
 use Rattle.plates.proofs.Fixed.{cell_there}
 use Rattle.plates.proofs.plate_in.Goals as goal
@@ -21,4 +21,4 @@ plate_here-requires c =
 pub returns : goal.returns
 unfolding plate_in
 returns c =
-    rw (sym c.is_cell.ensures ∙ c.if-not-is_cell.false) (ap Counted c.plate_here.ensures)
+    rw (sym c.is_cell.ensures ∙ c.if-not-is_cell.false) (ap Ok c.plate_here.ensures)

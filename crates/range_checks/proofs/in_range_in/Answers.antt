@@ -1,4 +1,4 @@
--- Another type is refused (`other_type`); else its points, which are few, decide (`all_lie`, `not_all`).
+-- Another type is refused (`other_type`); else its points, which are few, decide (`answer_is`).
 use Prim.Native.Nat.{◌/◌, ◌<◌}
 use mathlib.Core.Path.{◌≡◌, refl, sym, ap, ◌∙◌}
 use mathlib.Core.Bool.{true}
@@ -10,7 +10,7 @@ use Rattle.headers.specs.Header.{type_at}
 use Rattle.places.proofs.OfType.{type_inside}
 use Rattle.points_linkages.proofs.Numbered.{count_small, before_few}
 use Rattle.range_checks.specs.InRange.{is_range_checked}
-use Rattle.range_checks.proofs.Laws.{other_type, all_lie, not_all}
+use Rattle.range_checks.proofs.Laws.{other_type, answer_is}
 use Rattle.range_checks.proofs.in_range_in.Goals as goal
 use Rattle.range_checks.proofs.in_range_in.Goals.{After-is_range_checked, Else-not-is_range_checked}
 
@@ -38,14 +38,8 @@ each_lies-requires c =
     let few = count_small a.file.now (lent_below a.file.now c.type_inv.file) a.at in
     omega (arith, c.before_points.ensures, before_few (words a.file.now) a.at, c.point_count-n.ensures, inside (goal.at.each_lies-requires c).Else-not-is_range_checked)
 
-pub returns-then-each_lies : goal.returns-then-each_lies
-returns-then-each_lies c =
-    let a = c.args in
-    all_lie a.dim (words a.file.now) a.at (asked (goal.at.returns-then-each_lies c).Else-not-is_range_checked) _ _ _ c.point_count-n.ensures c.before_points.ensures c.range_at.ensures
-    c.each_lies.ensures c.if-each_lies.true
-
 pub returns : goal.returns
 returns c =
     let a = c.args in
-    not_all a.dim (words a.file.now) a.at (asked (goal.at.returns c).Else-not-is_range_checked) _ _ _ c.point_count-n.ensures c.before_points.ensures c.range_at.ensures
-    c.each_lies.ensures c.if-each_lies.false
+    answer_is a.dim (words a.file.now) a.at (asked (goal.at.returns c).Else-not-is_range_checked) _ _ _ c.point_count-n.ensures c.before_points.ensures c.range_at.ensures
+    c.each_lies.ensures

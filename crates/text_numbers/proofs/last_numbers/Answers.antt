@@ -11,6 +11,6 @@ returns c =
       to_z_pos w64 t.characters (omega arith),
       to_z_pos w64 t.fields (omega arith),
       to_z_pos w64 c.args.start (omega arith),
-      to_z-of_z w64 _ (record { sfits = c.odd_number-odd.type_inv }),
-      c.odd_number-odd.ensures,
+      to_z-of_z w64 _ (record { sfits = c.odd_number.type_inv }),
+      c.odd_number.ensures,
     )

@@ -6,8 +6,8 @@ use mir.ValLaws.{to_z_pos}
 use Rattle.text_numbers.specs.Numbers.{odd_number}
 use Rattle.text_numbers.proofs.odd_number.Goals as goal
 
-pub returns-in-Absent : goal.returns-in-Absent
-returns-in-Absent c = ap odd_number (sym c.in-Absent.is)
+pub returns-in-None : goal.returns-in-None
+returns-in-None c = ap odd_number (sym c.in-None.is)
 
-pub returns-in-Byte : goal.returns-in-Byte
-returns-in-Byte c = to_z_pos w64 _ (omega arith) ∙ ap odd_number (sym c.in-Byte.is)
+pub returns-in-Some : goal.returns-in-Some
+returns-in-Some c = to_z_pos w64 _ (omega arith) ∙ ap odd_number (sym c.in-Some.is)

@@ -1,12 +1,15 @@
 -- What is found at the place, then what stands there.
-use mathlib.Core.Path.{sym, ◌∙◌}
+use mathlib.Core.Path.{refl, sym, ◌∙◌}
+use Rattle.std.proofs.lemmas.Result.{err_from_is_err_and}
 use Rattle.text_views.specs.TextViews.{characters_of}
 use Rattle.text_views.proofs.characters_answer.Goals as goal
 
-pub returns-in-At : goal.returns-in-At
+pub returns-in_err-spotted_at : goal.returns-in_err-spotted_at
 unfolding characters_of
-returns-in-At c = rw (sym c.spotted_at.ensures ∙ c.in-At.is) c.characters_in.ensures
+returns-in_err-spotted_at c =
+    let p = err_from_is_err_and c.from_residual.result c.from_residual.ensures.1 in
+    rw (p.1, p.2, sym c.spotted_at.ensures ∙ c.in_err-spotted_at.was) refl
 
-pub returns-in-Refused : goal.returns-in-Refused
+pub returns : goal.returns
 unfolding characters_of
-returns-in-Refused c = rw (sym c.spotted_at.ensures ∙ c.in-Refused.is)
+returns c = rw (sym c.spotted_at.ensures ∙ c.in_ok-spotted_at.was) c.characters_in.ensures

@@ -6,7 +6,6 @@ use Rattle.words.specs.Words.{words, word_at}
 use Rattle.texts.proofs.Laws.{counts_early}
 use Rattle.text_views.specs.TextViews.{text_at}
 use Rattle.text_views.proofs.text_from.Goals as goal
-use Rattle.text_views.proofs.text_from.Goals.{Start}
 
 pub overflow_add-at-2 : goal.overflow_add-at-2
 overflow_add-at-2 c = omega (arith, counts_early c.args.dim, c.counts_word.ensures)

@@ -9,4 +9,4 @@ returns-then-fault-ne0 c = writes_refused _ _ _ _ _ c.text_fault-fault.ensures c
 
 pub returns : goal.returns
 returns c =
-    writes_made _ _ _ _ _ _ (sym c.text_fault-fault.ensures ∙ c.if-fault-ne0.false) c.put_text-words.ensures.size c.put_text-words.ensures.bytes
+    writes_made _ _ _ _ _ _ (sym c.text_fault-fault.ensures ∙ c.if-fault-ne0.false) c.put_text.ensures.size c.put_text.ensures.bytes

@@ -1,5 +1,5 @@
--- All fields are right where those from here on are; one field is judged at each turn (`first_field`).
-use Prim.Native.Nat.{◌+◌, ◌-◌}
+-- All fields are right where those from number k on are; one field is judged at each turn (`first_field`).
+use Prim.Native.Nat.{◌+◌, ◌-◌, ◌*◌}
 use mathlib.Core.Bool.{Bool, true, false, ◌&&◌}
 use mathlib.Core.Path.{◌≡◌, refl, sym, ap, ◌∙◌}
 use native.Mathlib.Omega.{arith}
@@ -15,55 +15,39 @@ abbrev all : After-field_ok → Bool
 all c = let a = c.args in each_field_ok a.n a.c (words a.s.now) 0 a.j
 
 abbrev others : After-field_ok → Bool
-others c = each_field_ok (c.loop-left.left - 1) c.args.c (words c.args.s.now) 0 (c.loop-left.here + 3)
+others c = each_field_ok (c.args.n - (c.loop-k.k + 1)) c.args.c (words c.args.s.now) 0 (c.args.j + 3 * (c.loop-k.k + 1))
 
 -- all fields are right where the field here and those behind it are
 judged : (c : After-field_ok) (b : Bool) → c.field_ok.result ≡ b → all c ≡ (b && others c)
 judged c b e =
-    c.loop-left.invariant.1.0
-    ∙ first_field _ c.args.c (words c.args.s.now) 0 _ c.loop-left-test.true
-    ∙ ap (λ (t : Bool). t && others c)
-    (sym (rw (c.known_byte-first.ensures, c.known_byte-size.ensures, c.known_byte-justification.ensures) at c.field_ok.ensures) ∙ e)
+    let m : c.args.n - c.loop-k.k - 1 ≡ c.args.n - (c.loop-k.k + 1) = omega arith in
+    let i : c.args.j + 3 * c.loop-k.k + 3 ≡ c.args.j + 3 * (c.loop-k.k + 1) = omega arith in
+    c.loop-k.invariant.rest
+    ∙ first_field _ c.args.c (words c.args.s.now) 0 _ (λ z. omega arith)
+    ∙ rw (m, i) (ap (λ (t : Bool). t && others c)
+    (sym (rw (c.known_byte-first.ensures, c.known_byte-size.ensures, c.known_byte-justification.ensures) at c.field_ok.ensures) ∙ e))
 
-pub overflow_mul-known : goal.overflow_mul-known
-overflow_mul-known c = omega arith
-
-pub overflow_add-known : goal.overflow_add-known
-overflow_add-known c = omega arith
-
-pub loop-left-init : goal.loop-left-init
-loop-left-init c = (refl, (refl, leb-true _ _))
+pub loop-k-init : goal.loop-k-init
+loop-k-init c =
+    let m : c.args.n - 0 ≡ c.args.n = omega arith in
+    let i : c.args.j + 0 ≡ c.args.j = omega arith in
+    record { rest = rw (m, i) refl; there = leb-true _ _ }
 
 pub known_byte-first-requires : goal.known_byte-first-requires
-known_byte-first-requires c = λ e. let all = c.loop-left.invariant.1.1 e in omega arith
-
-pub overflow_add-here : goal.overflow_add-here
-overflow_add-here c = omega arith
+known_byte-first-requires c = λ e. let all = c.loop-k.invariant.there e in omega arith
 
 pub known_byte-size-requires : goal.known_byte-size-requires
-known_byte-size-requires c = λ e. let all = c.loop-left.invariant.1.1 e in omega arith
-
-pub overflow_add-here-in-loop-left : goal.overflow_add-here-in-loop-left
-overflow_add-here-in-loop-left c = omega arith
+known_byte-size-requires c = λ e. let all = c.loop-k.invariant.there e in omega arith
 
 pub known_byte-justification-requires : goal.known_byte-justification-requires
-known_byte-justification-requires c = λ e. let all = c.loop-left.invariant.1.1 e in omega arith
+known_byte-justification-requires c = λ e. let all = c.loop-k.invariant.there e in omega arith
 
 pub returns-then-not-field_ok : goal.returns-then-not-field_ok
 returns-then-not-field_ok c = sym (judged (goal.at.returns-then-not-field_ok c).After-field_ok false (c.if-not-field_ok.true))
 
-pub overflow_add-here-in-loop-left-2 : goal.overflow_add-here-in-loop-left-2
-overflow_add-here-in-loop-left-2 c = omega arith
-
-pub overflow_sub-left : goal.overflow_sub-left
-overflow_sub-left c = omega arith
-
-pub loop-left-smaller : goal.loop-left-smaller
-loop-left-smaller c = omega arith
-
-pub loop-left-preserved : goal.loop-left-preserved
-loop-left-preserved c = (omega arith, (judged (goal.at.loop-left-preserved c).After-field_ok true (c.if-not-field_ok.false), c.loop-left.invariant.1.1))
+pub loop-k-preserved : goal.loop-k-preserved
+loop-k-preserved c = record { rest = judged (goal.at.loop-k-preserved c).After-field_ok true (c.if-not-field_ok.false); there = c.loop-k.invariant.there }
 
 pub returns : goal.returns
 unfolding each_field_ok
-returns c = sym (c.loop-left.invariant.1.0 ∙ rw c.loop-left-test.false)
+returns c = let z : c.args.n - c.loop-k.k ≡ 0 = omega arith in sym (c.loop-k.invariant.rest ∙ rw z)

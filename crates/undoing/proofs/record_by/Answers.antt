@@ -1,4 +1,4 @@
--- A used length inside the journal has its last record read; one beyond it answers a bad record.
+-- A used length inside the journal has its last record read; one beyond it answers none.
 use mathlib.Core.Path.{refl, sym}
 use native.Mathlib.Omega.{arith}
 use lib.Seq.{length-take-le}

@@ -2,15 +2,14 @@
 -- (`in_inside`), goes out (Reversals).
 use native.Mathlib.Omega.{arith}
 use Rattle.words.proofs.Laws.{lent_below}
-use Rattle.undoing.proofs.Ways.{answered_back}
 use Rattle.undoing.proofs.Reversals.{in_absent, in_refused, in_inside, in_done}
 use Rattle.undoing.proofs.undo_inserted.Goals as goal
 
 pub returns-then-number-ne0 : goal.returns-then-number-ne0
 returns-then-number-ne0 c =
-    answered_back c.refused-then-number-ne0.ensures
+    rw c.refused-then-number-ne0.ensures
     (in_refused _ _ _ _ _ c.requires (lent_below c.args.file.now c.type_inv.file) _ _
-    c.args.header _ _ _ _ c.in-At.is c.header_at.ensures _
+    c.args.header _ _ _ _ c.in-Ok.is c.header_at.ensures _
     c.same_above-reverses.ensures _ c.back_fault-number.ensures c.if-number-ne0.true)
 
 pub overflow_sub-n : goal.overflow_sub-n
@@ -18,7 +17,7 @@ overflow_sub-n c =
     omega (
       arith,
       (in_inside _ _ _ _ _ c.requires (lent_below c.args.file.now c.type_inv.file)
-          c.args.full c.args.before _ _ _ c.in-At.is).0,
+          c.args.full c.args.before _ _ _ c.in-Ok.is).0,
     )
 
 pub overflow_mul-result : goal.overflow_mul-result
@@ -27,7 +26,7 @@ overflow_mul-result c =
       arith,
       (in_inside _ _ _ _ _ c.requires
           (lent_below c.args.file.now c.slice_known-1.given) c.args.full c.args.before _ _ _
-          c.in-At.is).1,
+          c.in-Ok.is).1,
       c.ranges.used.fits,
     )
 
@@ -36,17 +35,17 @@ overflow_sub-result c =
     omega (
       arith,
       (in_inside _ _ _ _ _ c.requires (lent_below c.args.file.now c.slice_known-1.given)
-          c.args.full c.args.before _ _ _ c.in-At.is).1,
+          c.args.full c.args.before _ _ _ c.in-Ok.is).1,
     )
 
-pub returns-in-Refused : goal.returns-in-Refused
-returns-in-Refused c =
-    answered_back c.refused.ensures
+pub returns-in_default : goal.returns-in_default
+returns-in_default c =
+    rw c.refused.ensures
     (in_absent _ _ _ _ _ c.requires (lent_below c.args.file.now c.type_inv.file) _ _
-    c.args.header _ _ c.in-Refused.is)
+    c.args.header c.in_default.not-Ok)
 
-pub returns-else-number-ne0 : goal.returns-else-number-ne0
-returns-else-number-ne0 c =
+pub returns : goal.returns
+returns c =
     in_done _ _ _ _ _ c.requires (lent_below c.args.file.now c.slice_known-1.given) _ _
-    c.args.header _ _ _ _ c.in-At.is c.header_at.ensures _
+    c.args.header _ _ _ _ c.in-Ok.is c.header_at.ensures _
     c.same_above-reverses.ensures _ c.back_fault-number.ensures c.if-number-ne0.false _ c.remove_extent.ensures

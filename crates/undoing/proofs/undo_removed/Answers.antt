@@ -5,7 +5,6 @@ use lib.Seq.{length-take-le}
 use Rattle.words.specs.Words.{Below}
 use Rattle.words.proofs.Laws.{lent_below}
 use Rattle.undoing.specs.Undoing.{back_number}
-use Rattle.undoing.proofs.Ways.{answered_back}
 use Rattle.undoing.proofs.Reversals.{out_refused, out_room, out_done}
 use Rattle.undoing.proofs.undo_removed.Goals as goal
 use Rattle.undoing.proofs.undo_removed.Goals.{After-header_at-above}
@@ -19,7 +18,7 @@ below c = lent_below c.args.file.now c.slice_known-1.given
 
 pub returns-then-number-ne0 : goal.returns-then-number-ne0
 returns-then-number-ne0 c =
-    answered_back c.refused.ensures
+    rw c.refused.ensures
     (out_refused _ _ _ _ _ c.requires.open_file (below (goal.at.returns-then-number-ne0 c).After-header_at-above) _ _ _ c.requires.marker_value
     c.args.header c.args.piece.now c.requires.piece_len _
     c.header_at-above.ensures _
@@ -27,7 +26,7 @@ returns-then-number-ne0 c =
 
 pub returns-then-file-used : goal.returns-then-file-used
 returns-then-file-used c =
-    answered_back c.refused-then-file-used.ensures
+    rw c.refused-then-file-used.ensures
     (out_room _ _ _ _ _ c.requires.open_file (below (goal.at.returns-then-file-used c).After-header_at-above) _ _ _ c.requires.marker_value
     c.args.header c.args.piece.now c.requires.piece_len _
     c.header_at-above.ensures _

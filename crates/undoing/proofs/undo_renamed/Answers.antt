@@ -3,7 +3,6 @@ use mathlib.Core.Path.{sym, ap, ◌∙◌}
 use lib.Seq.{length-take-le}
 use Rattle.words.proofs.Laws.{lent_below}
 use Rattle.undoing.specs.Undoing.{back_number}
-use Rattle.undoing.proofs.Ways.{answered_back}
 use Rattle.undoing.proofs.Reversals.{name_refused, name_done}
 use Rattle.undoing.proofs.undo_renamed.Goals as goal
 
@@ -12,7 +11,7 @@ slice_bounds-reversible-end-2 c = sym (length-take-le _ _ (c.requires.open_file.
 
 pub returns-then-number-ne0 : goal.returns-then-number-ne0
 returns-then-number-ne0 c =
-    answered_back c.refused.ensures
+    rw c.refused.ensures
     (name_refused _ _ _ _ _ c.requires.open_file
     (lent_below c.args.file.now c.slice_known-1.given) _ _ _ c.requires.marker_value _ _
     c.ranges.first.fits c.ranges.second.fits _ c.name_bytes-payload.ensures _

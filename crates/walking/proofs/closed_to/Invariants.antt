@@ -5,6 +5,3 @@ use Rattle.walking.proofs.closed_to.Given as goal
 
 abbrev pub invariant-loop-d : goal.invariant-loop-d
 invariant-loop-d l = closed_to l.depth l.ends l.next ≡ closed_to l.d l.ends l.next
-
-abbrev pub decreases-loop-d : goal.decreases-loop-d
-decreases-loop-d l = l.d

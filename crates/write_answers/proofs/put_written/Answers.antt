@@ -7,10 +7,10 @@ use Rattle.write_answers.proofs.put_written.Goals as goal
 pub returns-then-out-lt1 : goal.returns-then-out-lt1
 returns-then-out-lt1 c = too_short 1 _ c.args.out.now c.if-out-lt1.true
 
-pub returns-in-Made : goal.returns-in-Made
-returns-in-Made c =
-    answered 1 _ _ c.args.out.now (ap cut_reply c.in-Made.is) c.if-out-lt1.false
+pub returns-in-Ok : goal.returns-in-Ok
+returns-in-Ok c =
+    answered 1 _ _ c.args.out.now (ap cut_reply c.in-Ok.is) c.if-out-lt1.false
 
-pub returns-in-Refused : goal.returns-in-Refused
-returns-in-Refused c =
-    answered 1 _ _ c.args.out.now (ap cut_reply c.in-Refused.is) c.if-out-lt1.false
+pub returns-in-Err : goal.returns-in-Err
+returns-in-Err c =
+    answered 1 _ _ c.args.out.now (ap cut_reply c.in-Err.is) c.if-out-lt1.false

@@ -10,4 +10,4 @@ returns-then-fault-ne0 c = writes_refused _ _ _ _ _ (c.write_fault-fault.ensures
 pub returns : goal.returns
 returns c =
     writes_made _ _ _ _ _ _ (sym c.write_fault-fault.ensures ∙ c.if-fault-ne0.false)
-    c.put_element-words.ensures.size c.put_element-words.ensures.bytes
+    c.put_element.ensures.size c.put_element.ensures.bytes
