@@ -1,7 +1,7 @@
 #!/usr/bin/env bash
 # The static library dgn_c: it exports just the functions of the crates whose names begin with dgn, each with the same arguments and the same
-# contract, word by word, and each does no more than to call that function. The patterns are tried on what they must find. The last line is
-# "N passed, M failed".
+# contract, word by word, and each does no more than to call that function; from outside it needs memcpy and memset alone. The patterns are
+# tried on what they must find. The last line is "N passed, M failed".
 set -u
 cd "$(dirname "$0")/.." || exit 1
 passed=0
@@ -70,6 +70,23 @@ for source in $sources; do
     heads "$source" | sed -E 's/^.* fn ([a-z_0-9]+)\(.*$/\1/' | while IFS= read -r name; do echo "$name $crate::$name alike"; done
 done | sort > "$work/wanted"
 check "an export (>) is no plain call of its function (<)" diff "$work/wanted" <(calls "$library")
+
+# what the archive needs from outside: a host without the C library's other names can link it
+archive=target/staticlib/libdgn.a
+
+# outside OBJECT: the names that an object or an archive needs and has not, a name to a line
+outside() {
+    nm "$1" | awk '/:$/ { next } $1 == "U" { needed[$2] } $2 ~ /^[A-Z]$/ { had[$3] } END { for (name in needed) if (!(name in had)) print name }' | sort
+}
+
+object() { gcc -x c -w -O0 -fno-builtin -c -o "$work/$1.o" -; }
+object needs <<< 'void *memmove(void *, const void *, unsigned long); void g(void); void f(char *p) { memmove(p + 1, p, 9); g(); }'
+object has <<< 'static void *memmove(void *p, const void *q, unsigned long n) { return p; } void g(void) { memmove(0, 0, 0); }'
+(cd "$work" && ar rcs needs.a needs.o has.o)
+check "a name from outside is not found" test "$(outside "$work/needs.a")" = memmove
+check "the archive is not built" ./archive
+check "a function of dgn_c does not begin at a multiple of 64 bytes" test "$(objdump -h "$archive" | awk '$2 ~ /^[.]text[.]/ { print $7 }' | sort -u)" = '2**6'
+check "the archive needs other names than memcpy and memset: $(outside "$archive" | xargs)" test "$(outside "$archive" | xargs)" = "memcpy memset"
 
 echo "$passed passed, $failed failed"
 [ "$failed" -eq 0 ]

@@ -1,6 +1,6 @@
 #!/usr/bin/env bash
 # No divide: the archive has no divide instruction and calls no routine that divides, and the sources of its crates divide by
-# powers of two alone, which are shifts. Each pattern is tried on what it must find. The last line is "N passed, M failed".
+# powers of two alone, which are shifts, and call no method of the library that divides by another size. Each pattern is tried on what it must find. The last line is "N passed, M failed".
 set -u
 cd "$(dirname "$0")/.." || exit 1
 passed=0
@@ -80,6 +80,16 @@ divisors() {
           } }'
 }
 
+# methods FILE: the lines that call what divides in the library, by the number that it is given, where that is no power of two
+methods() {
+    code "$1" | awk -v file="$1" '
+        function power(n) { while (n > 1 && n % 2 == 0) n /= 2; return n == 1 }
+        { for (rest = $0; match(rest, /as_r?chunks(_mut)?(::<)? *|([.]|::)(r|array_)?chunks(_exact)?(_mut)?(::<|[(]) *|([.]|::)step_by[(] *|([.]|::)([a-z]+_)?(div|rem)(_[a-z]+)?[(] *|([.]|::)((is|(checked_)?next)_multiple_of|(checked_)?ilog(10)?|isqrt)[(] */);) {
+              rest = substr(rest, RSTART + RLENGTH)
+              if (!match(rest, /^[0-9]+ *[>)]/) || !power(rest + 0)) { print file ": " $0; next }
+          } }'
+}
+
 # the crate of the archive and those that it names, at any depth
 library() {
     local crate
@@ -100,6 +110,14 @@ printf '%s\n' '// n / 3' 'ghost use Rattle.std.specs.Prelude.{◌/◌, ◌%◌};
     '    requires low { n / 3 < 2 ^ 8 }' '    ensures* kept { n / 7 };' '    rest /= 2;' '    w / 256 % 16 + n * 43691 / 131072' > "$work/source"
 check "a divisor is found where there is none" none divisors "$work/source"
 
+for text in 's.as_chunks::<3>()' 's.as_chunks_mut::<N>()' 's.as_chunks()' 's.chunks(6)' 's.chunks_exact(n)' '<[u8]>::chunks(s, 3)' 's.array_chunks()' '(0..n).step_by(5)' \
+    'n.div_ceil(10)' 'usize::div_ceil(n, 3)' 'n.checked_rem(3)' 'n.div(3)' 'n.next_multiple_of(6)' 'n.isqrt()' 'n.ilog10()'; do
+    echo "    let q = $text; // .chunks(2)" > "$work/source"
+    check "$text is not found" some methods "$work/source"
+done
+printf '%s\n' '// s.chunks(3)' '    let (a, b) = s.as_chunks::<2>();' '    for c in s.chunks_exact(512) {' '    let k = n.div_ceil(4) + chunks(3) + n.ilog2();' > "$work/source"
+check "a method that divides is found where there is none" none methods "$work/source"
+
 crates=$(library)
 for name in dgn_c names thirds fields text_writer dgn_texts; do
     check "$name is no crate of the library" grep -qx "$name" <<< "$crates"
@@ -108,6 +126,7 @@ check "a crate of the programs is one of the library" none grep -xE 'listing|pla
 for name in $crates; do
     for source in crates/"$name"/src/*.rt; do
         check "$(divisors "$source")" none divisors "$source"
+        check "$(methods "$source")" none methods "$source"
         check "$source has a contract on several lines" none grep -nwE 'requires|ensures' <<< "$(code "$source")"
     done
 done

@@ -15,7 +15,9 @@ pub fn copy_in(s: &mut [u8], at: usize, src: &[u8])
     if s.len() - at < src.len() {
         return;
     }
-    s[at..at + src.len()].copy_from_slice(src);
+    for k in 0..src.len() {
+        s[at + k] = src[k];
+    }
 }
 
 // The bytes from `at` to `end` become zero, where both stand in this order in the buffer.

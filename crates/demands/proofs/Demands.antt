@@ -5,7 +5,7 @@ use mathlib.Core.Logic.{◌↔◌, ◌≢◌, ◌⊎◌}
 use mathlib.Core.Bool.{true, false}
 use mathlib.Core.List.{List, [], ◌∷◌, ◌++◌}
 use mathlib.Core.Option.{Option, none, some}
-use lib.ListN.{length, take, drop}
+use lib.ListN.{length, take, drop, replicate}
 use lib.IntN.{ℤ}
 use lib.Signed.{mag}
 use lib.Ieee.{Float}
@@ -20,7 +20,7 @@ use Rattle.ranges.proofs.Ranges as spans
 use Rattle.names.specs.Names.{packed, unpacked, text_answer, text_of, name_ok}
 use Rattle.names.proofs.Refusals as texts
 use Rattle.names.proofs.OneToOne as names
-use Rattle.names.specs.Name.{packed_to}
+use Rattle.names.specs.Name.{packed_to, no_text_with}
 use Rattle.kinds.specs.FirstWord.{deleted_of}
 use Rattle.kinds.specs.Kinds.{one_of}
 use Rattle.limits.specs.Limits.{dim_ok, call_ok}
@@ -293,11 +293,11 @@ find_refused = finds.find_refused
 pub file_refused : (dim : ℕ) (s : List ℕ) (n p : ℕ) → judge_of dim s ≡ refused_with n p → FileRefused dim s n p
 file_refused = reads.file_refused
 
--- a text and a word pair with 12 at 0
+-- a text and a word pair with 12 at 0, the pair with six zeros
 pub pack_refused : (t : List ℕ) (n p : ℕ) → packed t ≡ refused_with n p → (n ≡ 12) × (p ≡ 0)
 pack_refused = texts.pack_refused
 
-pub unpack_refused : (a b n p : ℕ) → unpacked a b ≡ refused_with n p → (n ≡ 12) × (p ≡ 0)
+pub unpack_refused : (a b n p : ℕ) (letters : List ℕ) → unpacked a b ≡ no_text_with n p letters → (n ≡ 12) × (p ≡ 0) × (letters ≡ replicate 6 0)
 unpack_refused = texts.unpack_refused
 
 -- the writer with 1, 7, 8, 11 or 15 at 0, and its buffer stays as it was

@@ -8,6 +8,7 @@ use Rattle.words.specs.Words.{words, bytes, long_at, signed}
 use Rattle.names.specs.Names.{word_of, packed, packed_numbers, unpacked, unpacked_numbers}
 use Rattle.names.specs.declared.Name.{Name}
 use Rattle.names.specs.declared.Unpacked.{Unpacked}
+use Rattle.names.specs.declared.NoText.{NoText}
 use Rattle.kinds.specs.FirstWord.{bit}
 use Rattle.kinds.specs.Kinds.{fixed_part, may_stand}
 use Rattle.limits.specs.Limits.{size_ok, used_ok}
@@ -65,9 +66,9 @@ first_words [] = []
 first_words (c ∷ cs) = firstWord? (packed (c ∷ [])) ∷ first_words cs
 
 -- the numbers of an answer of unpacking, and of a text its letters behind them
-abbrev pub unpacked_shown : Result Unpacked Refusal → List ℕ
+abbrev pub unpacked_shown : Result Unpacked NoText → List ℕ
 unpacked_shown (Ok t) = unpacked_numbers (Ok t) ++ t.letters
-unpacked_shown (Err refusal) = unpacked_numbers (Err refusal)
+unpacked_shown (Err none) = unpacked_numbers (Err none)
 
 abbrev pub name_cases : List Case
 name_cases =

@@ -1,5 +1,5 @@
 -- The ways of the call: a slice is too short, a refusal, or the numbers and floats of an ellipse or an arc at the front of the slices.
-use Prim.Native.Nat.{◌≤◌, ◌<◌}
+use Prim.Native.Nat.{ℕ, ◌≤◌, ◌<◌}
 use mathlib.Core.Path.{◌≡◌, refl, sym, ap, ◌∙◌}
 use mathlib.Core.List.{List}
 use lib.IntN.{ℤ}
@@ -7,15 +7,21 @@ use lib.ListN.{length}
 use lib.Seq.{sets}
 use lib.Ieee.{Float}
 use borrow.Author.Tests.{le-leb, lt-leb}
-use Rattle.std.specs.Prelude.{Ok, Result}
-use Rattle.curve_numbers.specs.Numbers.{curve_numbers, put_numbers, put_floats}
+use Rattle.std.specs.Prelude.{Err, Ok, Result}
+use Rattle.curve_numbers.specs.Numbers.{curve_numbers, numbers_of, put_numbers, put_floats}
 use Rattle.answers.specs.Answers.{Reply, done, refuse, returned, slice_left}
 use Rattle.answers.specs.Besides.{besides}
 use Rattle.answers.proofs.Laws.{too_short, answered}
 use Rattle.answers.proofs.Besides.{besides_done, besides_short}
 use Rattle.curve_views.specs.declared.Curve.{Curve}
 use Rattle.refusals.specs.declared.Refusal.{Refusal}
+use Rattle.refusals.specs.Refusals.{refused_with}
 use Rattle.dgn_curve.specs.CurveReplies.{curve_reply, given_floats, with_floats, CurveReplied}
+
+-- an answer that is no refusal
+pub not_refused : (c : Result Curve Refusal) → ((n p : ℕ) → c ≡ refused_with n p → ⊥) → curve_reply c ≡ done (numbers_of c)
+not_refused (Ok curve) o = refl
+not_refused (Err refusal) o = absurd (o refusal.number refusal.place refl)
 
 module _ (c : Result Curve Refusal) (numbers : List ℤ) (floats : List Float) where
   pub few_numbers : length numbers < 7 → CurveReplied c numbers floats 1 numbers floats

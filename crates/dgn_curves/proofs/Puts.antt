@@ -9,14 +9,15 @@ use lib.Seq.{sets}
 use lib.Ieee.{Float}
 use borrow.Author.Tests.{le-leb, lt-leb}
 use Rattle.curve_views.specs.declared.Curve.TheVariants as curves
-use Rattle.curve_numbers.specs.Numbers.{curve_numbers, curve_floats, put_numbers, put_floats}
+use Rattle.curve_numbers.specs.Numbers.{curve_numbers, curve_floats, numbers_of, floats_of, put_numbers, put_floats}
 use Rattle.order.specs.Fitting.{ElementPut}
 use Rattle.order.proofs.Fitting.{nothing_put}
-use Rattle.dgn_curves.specs.Curves.{entry_of, entry_by, entry_numbers, entry_floats, both, in_both}
+use Rattle.dgn_curves.specs.Curves.{Entry, entry_of, entry_by, entry_numbers, entry_floats, both, in_both}
 use Rattle.dgn_curves.proofs.Slices.{lays_both}
 use Rattle.std.specs.Prelude.{Err, None, Ok, Result, Some}
 use Rattle.curve_views.specs.declared.Curve.{Curve}
 use Rattle.refusals.specs.declared.Refusal.{Refusal}
+use Rattle.refusals.specs.Refusals.{refused_with}
 
 -- the numbers and floats of an entry
 entry_longs : (c : Curve) (place deleted : ℕ) → entry_numbers (entry_of c place deleted) ≡ pos place ∷ pos deleted ∷ curve_numbers c
@@ -26,6 +27,17 @@ entry_longs (curves.Arc start sweep primary secondary turn origin) place deleted
 entry_reals : (c : Curve) (place deleted : ℕ) → entry_floats (entry_of c place deleted) ≡ curve_floats c
 entry_reals (curves.Ellipse primary secondary turn origin) place deleted = refl
 entry_reals (curves.Arc start sweep primary secondary turn origin) place deleted = refl
+
+-- an answer that is no refusal gives one
+record One (r : Result Curve Refusal) (place deleted : ℕ) : Type 0 where
+  entry : Entry
+  is : entry_by r place deleted ≡ entry ∷ []
+  numbers : entry_numbers entry ≡ pos place ∷ pos deleted ∷ numbers_of r
+  floats : entry_floats entry ≡ floats_of r
+
+one : (r : Result Curve Refusal) (place deleted : ℕ) → ((n p : ℕ) → r ≡ refused_with n p → ⊥) → One r place deleted
+one (Ok c) place deleted o = record { entry = entry_of c place deleted; is = refl; numbers = entry_longs c place deleted; floats = entry_reals c place deleted }
+one (Err refusal) place deleted o = absurd (o refusal.number refusal.place refl)
 
 module _ (r : Result Curve Refusal) (place deleted : ℕ) (numbers : List ℤ) (floats : List Float) (used : ℕ) where
   pub put_none : (x : Refusal) → r ≡ Err x → ElementPut in_both (entry_by r place deleted) (both numbers floats) used (Some used) (both numbers floats)

@@ -49,7 +49,7 @@ pub extern "C" fn dgn_unpack(first: usize, second: usize, text: &mut [u8]) -> us
     }
     let name = match names::unpack(first, second) {
         Ok(name) => name,
-        Err(refusal) => return refusal.number + 256 * refusal.place,
+        Err(none) => return none.refusal.number + 256 * none.refusal.place,
     };
     put_letters(text, name.letters);
     0

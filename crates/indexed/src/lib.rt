@@ -22,7 +22,7 @@ use journals::Last;
 use places::Above;
 use refusals::Refusal;
 
-// The used lengths of file, journal and index after a call that is made, or the refusal's number and place.
+// The used lengths of file, journal and index after a call that is made.
 #[derive(Clone, Copy)]
 pub struct AllLengths {
     pub used: usize,

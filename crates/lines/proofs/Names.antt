@@ -4,13 +4,13 @@ use mathlib.Core.Path.{◌≡◌, refl}
 use mathlib.Core.Bool.{Bool, true, false, cond}
 use mathlib.Core.List.{List, [], ◌∷◌}
 use native.Mathlib.Omega.{arith}
-use lib.ListN.{length, length-map}
+use lib.ListN.{length, replicate, length-map}
 use Rattle.std.specs.Prelude.{Result, Ok}
 use Rattle.names.specs.Names.{letters_of, text_in, text_of, text_answer, word_ok, name_ok, unpacked}
 use Rattle.names.specs.declared.Unpacked.{Unpacked}
+use Rattle.names.specs.declared.NoText.{NoText}
+use Rattle.names.specs.Name.{no_text_with}
 use Rattle.names.proofs.Texts.{length_kept}
-use Rattle.refusals.specs.declared.Refusal.{Refusal}
-use Rattle.refusals.specs.Refusals.{refused_with}
 use Rattle.lines.specs.Element.{text_length, unpacked_text, name_text, Named}
 
 text_short : (a b : ℕ) → length (text_of a b) ≤ 6
@@ -25,12 +25,12 @@ pub at_most_six : (a b : ℕ) → text_length (unpacked a b) ≤ 6
 unfolding unpacked text_answer
 at_most_six a b = go (name_ok a b)
   where
-    go : (t : Bool) → text_length (cond t (Ok (text_answer (text_of a b))) (refused_with 12 0)) ≤ 6
+    go : (t : Bool) → text_length (cond t (Ok (text_answer (text_of a b))) (no_text_with 12 0 (replicate 6 0))) ≤ 6
     go true = text_short a b
     go false = omega arith
 
 -- what two words unpack to, where it is the element's name
-pub named : (ws : List ℕ) (at a b : ℕ) (name : Result Unpacked Refusal) → name ≡ unpacked a b → unpacked_text (unpacked a b) ≡ name_text ws at → Named ws at name
+pub named : (ws : List ℕ) (at a b : ℕ) (name : Result Unpacked NoText) → name ≡ unpacked a b → unpacked_text (unpacked a b) ≡ name_text ws at → Named ws at name
 named ws at a b name e n = rw e (record { is = n; short = at_most_six a b })
 
 -- words that are no name

@@ -8,8 +8,7 @@ ghost use Rattle.headers.specs.Header.{type_at};
 ghost use Rattle.listing.specs.Lines.{WritesLine};
 ghost use Rattle.lines.specs.Element.{line_of, Named};
 
-use names::Unpacked;
-use refusals::Refusal;
+use names::{NoText, Unpacked};
 
 // Word k of the element at a place.
 fn word_of(file: &[u8], at: usize, k: usize) -> usize
@@ -25,7 +24,7 @@ fn word_of(file: &[u8], at: usize, k: usize) -> usize
 
 // The name of the element at a place, by its type; a type that has none answers as words that are no name, for which no table
 // is read.
-fn name_of(file: &[u8], at: usize, kind: usize) -> Result<Unpacked, Refusal>
+fn name_of(file: &[u8], at: usize, kind: usize) -> Result<Unpacked, NoText>
     requires { kind ≡ type_at (words file.now) at }
     ensures { Named (words file.now) at result }
 {

@@ -18,10 +18,10 @@ use borrow.Author.Tests.{leb-true, le-leb, not-true}
 use Rattle.names.specs.Names.{code_of, letter_of, all_letters, ends_in_space, good_text, code_at, word_from, packed, name_ok, kept, text_in, text_of, text_answer, unpacked}
 use Rattle.names.proofs.Texts.{IsCode, AreCodes, codes_at, kept_six, kept_codes, letters_codes, length_kept, are_kept, all_letters_lem, ends_kept, code_text}
 use Rattle.names.proofs.Stored.{letters_word, word_ok_lem, word_small, word_codes, both_ok}
-use Rattle.names.specs.Name.{packed_to}
+use Rattle.names.specs.Name.{packed_to, no_text_with}
 use Rattle.refusals.specs.Refusals.{refused_with}
 use Rattle.refusals.proofs.Laws.{given_is}
-use Rattle.std.specs.Prelude.{Ok}
+use Rattle.std.specs.Prelude.{replicate, Ok}
 use Rattle.names.specs.declared.Name.{Name}
 
 -- a good text, by its parts
@@ -133,7 +133,7 @@ unpacks_ok : (t : List ℕ) (a b : ℕ) → unpacked a b ≡ Ok (text_answer t) 
 unfolding unpacked
 unpacks_ok t a b = go (name_ok a b)
   where
-    go : (k : Bool) → cond k (Ok (text_answer (text_of a b))) (refused_with 12 0) ≡ Ok (text_answer t) → k ≡ true
+    go : (k : Bool) → cond k (Ok (text_answer (text_of a b))) (no_text_with 12 0 (replicate 6 0)) ≡ Ok (text_answer t) → k ≡ true
     go true e = refl
     go false e = absurd (cc)
 

@@ -3,7 +3,8 @@
 use Rattle.std.specs.Prelude.{ℕ, ◌+◌, ◌*◌, ◌-◌, ◌/◌, ◌%◌, List, [], ◌∷◌, ◌++◌, map, Bool, true, cond, not, ◌&&◌, length, get_or, replicate, leb, eqb, Err, Ok, Result}
 use Rattle.names.specs.declared.Codes.{Codes}
 use Rattle.names.specs.declared.Unpacked.{Unpacked}
-use Rattle.names.specs.Name.{packed_to}
+use Rattle.names.specs.declared.NoText.{NoText}
+use Rattle.names.specs.Name.{packed_to, no_text_with}
 use Rattle.names.specs.declared.Name.{Name}
 use Rattle.refusals.specs.Refusals.{refused_with}
 use Rattle.refusals.specs.declared.Refusal.{Refusal}
@@ -97,9 +98,9 @@ text_of first second = text_in (letters_of first) (letters_of second)
 unfoldable pub text_answer : List ℕ → Unpacked
 text_answer t = record { length = length t; letters = t ++ replicate (6 - length t) 0 }
 
--- what two words unpack to: their text, or 12 at place 0
-unfoldable pub unpacked : ℕ → ℕ → Result Unpacked Refusal
-unpacked first second = cond (name_ok first second) (Ok (text_answer (text_of first second))) (refused_with 12 0)
+-- what two words unpack to: their text, or 12 at place 0 with six zeros
+unfoldable pub unpacked : ℕ → ℕ → Result Unpacked NoText
+unpacked first second = cond (name_ok first second) (Ok (text_answer (text_of first second))) (no_text_with 12 0 (replicate 6 0))
 
 -- the numbers of each answer of packing: 0 and the two words, or the refusal's number and place
 abbrev pub packed_numbers : Result Name Refusal → List ℕ
@@ -107,6 +108,6 @@ packed_numbers (Ok name) = 0 ∷ name.first ∷ name.second ∷ []
 packed_numbers (Err refusal) = refusal.number ∷ refusal.place ∷ []
 
 -- the numbers of each answer of unpacking: 0 and the text's length, or the refusal's number and place
-abbrev pub unpacked_numbers : Result Unpacked Refusal → List ℕ
+abbrev pub unpacked_numbers : Result Unpacked NoText → List ℕ
 unpacked_numbers (Ok text) = 0 ∷ text.length ∷ []
-unpacked_numbers (Err refusal) = refusal.number ∷ refusal.place ∷ []
+unpacked_numbers (Err none) = none.refusal.number ∷ none.refusal.place ∷ []

@@ -24,6 +24,13 @@ pub struct Unpacked {
     pub letters: [u8; 6],
 }
 
+// Why two words have no text: the refusal, and six zeros where the letters would be.
+#[derive(Clone, Copy)]
+pub struct NoText {
+    pub refusal: Refusal,
+    pub letters: [u8; 6],
+}
+
 // The codes of the three letters of a word.
 #[derive(Clone, Copy)]
 struct Codes {
@@ -269,16 +276,19 @@ fn name_text(first: usize, second: usize) -> Unpacked
     text_of(l, m)
 }
 
-// The text of two words; 12 where they are no stored name.
-pub fn unpack(first: usize, second: usize) -> Result<Unpacked, Refusal>
+// The text of two words; 12 and six zeros where they are no stored name.
+pub fn unpack(first: usize, second: usize) -> Result<Unpacked, NoText>
     ensures { result ≡ unpacked first second }
 {
     if name_ok(first, second) {
         Ok(name_text(first, second))
     } else {
-        Err(Refusal {
-            number: 12,
-            place: 0,
+        Err(NoText {
+            refusal: Refusal {
+                number: 12,
+                place: 0,
+            },
+            letters: [0; 6],
         })
     }
 }

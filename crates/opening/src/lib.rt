@@ -15,7 +15,6 @@ ghost use Rattle.edits.specs.Allowed.{or_else, unless};
 ghost use Rattle.edits.specs.Calls.{ends_in_marker, used_words, file_fault};
 ghost use Rattle.opening.specs.Opening.{opened_by, OpenedAs};
 ghost use Rattle.opening.specs.Steps.{number_of, above_at};
-ghost use Rattle.refusals.specs.Refusals.{refusal_of};
 
 use journals::TOP;
 use places::{Above, Placed};
@@ -77,7 +76,7 @@ pub fn open_at(
 
 // A refusal at place 0.
 pub fn refused(number: usize) -> Refusal
-    ensures { result ≡ refusal_of number 0 }
+    ensures { result ≡ record { number = number; place = 0 } }
 {
     Refusal { number, place: 0 }
 }

@@ -1,11 +1,10 @@
--- What the tests of the code say: two tests are `between`, three are a point in a range, and points by their numbers are those one behind another.
+-- What the tests of the code say: two tests are `between`, three are a point in a range, and a turn of the loop is one point more.
 use Prim.Native.Nat.{ℕ, zero, suc, ◌+◌, ◌-◌, ◌*◌, ◌≤◌, ◌<◌}
-use mathlib.Core.Path.{◌≡◌, refl, sym, ap, ◌∙◌}
+use mathlib.Core.Path.{◌≡◌, refl, ap, ◌∙◌}
 use mathlib.Core.Logic.{◌≢◌}
 use mathlib.Core.Bool.{Bool, true, false, cond, not, ◌&&◌, ◌||◌}
 use mathlib.Core.List.{List}
 use native.Mathlib.Omega.{arith}
-use Rattle.std.specs.List.{list_all, range_with_len}
 use lib.Dec.{eqb, leb, ltb}
 use lib.IntN.{ℤ, pos, negsuc}
 use lib.Signed.{mag, le_z, lt_z}
@@ -123,19 +122,12 @@ words_more dim (suc n) h = go (eqb dim 2)
     go true = omega arith
     go false = omega arith
 
--- each of n points from number k on
-each_from : (n k : ℕ) (r : Option Range) (dim : ℕ) (ws : List ℕ) (q : ℕ) →
-    each_lies n r dim ws (q + point_words dim * k) ≡ list_all (λ j. lies_in r (point_at dim ws (q + point_words dim * j))) (range_with_len k n)
-each_from zero k r dim ws q = refl
-each_from (suc n) k r dim ws q =
-    let next : q + point_words dim * k + point_words dim ≡ q + point_words dim * (k + 1) = grind (arith, words_more dim (k + 1) (λ e. omega arith)) in
-    ap (λ m. lies_in r (point_at dim ws (q + point_words dim * k)) && m) (ap (each_lies n r dim ws) next ∙ each_from n (k + 1) r dim ws q)
-
-pub each_numbered : (n : ℕ) (r : Option Range) (dim : ℕ) (ws : List ℕ) (q : ℕ) →
-    list_all (λ j. lies_in r (point_at dim ws (q + point_words dim * j))) (range_with_len 0 n) ≡ each_lies n r dim ws q
-each_numbered n r dim ws q =
-    let first : q + point_words dim * 0 ≡ q = omega arith in
-    sym (each_from n 0 r dim ws q) ∙ ap (each_lies n r dim ws) first
+-- the first of them decides, or the others do
+pub each_first : (n : ℕ) (r : Option Range) (dim : ℕ) (ws : List ℕ) (q : ℕ) → n ≢ 0 →
+    each_lies n r dim ws q ≡ (lies_in r (point_at dim ws q) && each_lies (n - 1) r dim ws (q + point_words dim))
+each_first zero r dim ws q h = absurd (h refl)
+each_first (suc n) r dim ws q h =
+    let z : n ≡ suc n - 1 = omega arith in ap (λ m. lies_in r (point_at dim ws q) && each_lies m r dim ws (q + point_words dim)) z
 
 ---- an element
 

@@ -97,7 +97,12 @@ fn each_lies(file: &[u8], dim: usize, first: usize, n: usize, range: Option<Rang
 {
     let stride = point_words(dim);
     let known = first + stride * n <= file.len() / 2;
-    (0..n).all(|k| lies_at(file, dim, first + stride * k, known, range))
+    for k in 0..n {
+        if !lies_at(file, dim, first + stride * k, known, range) {
+            return false;
+        }
+    }
+    true
 }
 
 // Whether all points of the element at a place of a judged file lie in its range; 6 where its type is not asked.

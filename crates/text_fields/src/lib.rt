@@ -160,10 +160,18 @@ fn arguments_ok(
 fn triples_ok(c: usize, triples: &[u8]) -> bool
     ensures { result ≡ triples_ok c triples.now }
 {
-    let (fields, _) = triples.as_chunks::<3>();
-    fields.iter().all(|&[first, size, justification]| {
-        texts::field_ok(c, first as usize, size as usize, justification as usize)
-    })
+    for k in 0..thirds::third(triples.len()) {
+        let at = 3 * k;
+        if !texts::field_ok(
+            c,
+            triples[at] as usize,
+            triples[at + 1] as usize,
+            triples[at + 2] as usize,
+        ) {
+            return false;
+        }
+    }
+    true
 }
 
 // The words before the tail.

@@ -10,10 +10,10 @@ pub returns-then-text-lt7 : goal.returns-then-text-lt7
 returns-then-text-lt7 c = too_short 7 _ (c.args.text.now) (c.if-text-lt7.true)
 
 pub overflow_mul-result : goal.overflow_mul-result
-overflow_mul-result c = let b = unpack_refused_small _ _ _ _ (sym c.unpack.ensures ∙ c.in-Err.is) in omega arith
+overflow_mul-result c = let b = unpack_refused_small _ _ _ _ _ (sym c.unpack.ensures ∙ c.in-Err.is) in omega arith
 
 pub overflow_add-result : goal.overflow_add-result
-overflow_add-result c = let b = unpack_refused_small _ _ _ _ (sym c.unpack.ensures ∙ c.in-Err.is) in omega arith
+overflow_add-result c = let b = unpack_refused_small _ _ _ _ _ (sym c.unpack.ensures ∙ c.in-Err.is) in omega arith
 
 pub returns : goal.returns
 returns c =

@@ -1,14 +1,12 @@
--- `all` of the points by their numbers is the recursion over them (`each_numbered`).
-use Prim.Native.Nat.{ℕ, ◌+◌, ◌*◌}
-use mathlib.Core.Path.{refl, ◌∙◌}
+-- The loop's invariant: the points from number k on decide.
+use Prim.Native.Nat.{◌+◌, ◌-◌, ◌*◌, ◌/◌}
+use mathlib.Core.Path.{◌≡◌, refl, sym, ap₂, ◌∙◌}
 use native.Mathlib.Omega.{arith}
-use borrow.Author.Rules.{rules}
-use Rattle.std.proofs.lemmas.Iterator.{YieldsList-from_range}
-use Rattle.std.proofs.lemmas.Iterator.Search.{all_from_yields_List}
+use lib.ListN.{length}
+use borrow.Author.Tests.{leb-true}
 use Rattle.words.specs.Words.{words}
-use Rattle.points_linkages.specs.Points.{point_at}
-use Rattle.range_checks.specs.InRange.{lies_in}
-use Rattle.range_checks.proofs.Laws.{words_few, each_numbered}
+use Rattle.range_checks.specs.InRange.{point_words, each_lies}
+use Rattle.range_checks.proofs.Laws.{words_few, words_more, each_first}
 use Rattle.range_checks.proofs.each_lies.Goals as goal
 
 pub overflow_mul-known : goal.overflow_mul-known
@@ -17,10 +15,23 @@ overflow_mul-known c = omega (arith, c.requires, rw (← c.point_words-stride.en
 pub overflow_add-known : goal.overflow_add-known
 overflow_add-known c = omega (arith, c.requires, rw (← c.point_words-stride.ensures) at (words_few c.args.dim c.args.n))
 
-pub returns : goal.returns
-returns c =
+pub loop-k-init : goal.loop-k-init
+loop-k-init c =
     let a = c.args in
-    let ws = words a.file.now in
-    let lies = λ (k : ℕ). lies_in a.range (point_at a.dim ws (a.first + c.point_words-stride.result * k)) in
-    rw c.point_words-stride.ensures at (all_from_yields_List lies _ _ c.all.result c.all.ensures.ran (YieldsList-from_range 0 a.n a.n refl (omega arith)) (λ x b q k. search rules))
-    ∙ each_numbered a.n a.range a.dim ws a.first
+    let none : a.n ≡ a.n - 0 = omega arith in
+    let start : a.first ≡ a.first + point_words a.dim * 0 = omega arith in
+    (λ k. rw c.point_words-stride.ensures at (leb-true (a.first + c.point_words-stride.result * a.n) (length a.file.now / 2) k), ap₂ (λ m q. each_lies m a.range a.dim (words a.file.now) q) none start)
+
+pub returns-then-not-lies_at : goal.returns-then-not-lies_at
+returns-then-not-lies_at c =
+    let a = c.args in
+    let first = each_first (a.n - c.loop-k.k) a.range a.dim (words a.file.now) (a.first + point_words a.dim * c.loop-k.k) (λ e. omega (arith, c.loop-k-test.true)) in
+    sym (c.loop-k.invariant.1 ∙ first ∙ rw (sym (rw c.point_words-stride.ensures at c.lies_at.ensures) ∙ c.if-not-lies_at.true) refl)
+
+pub loop-k-preserved : goal.loop-k-preserved
+loop-k-preserved c =
+    let a = c.args in
+    let first = each_first (a.n - c.loop-k.k) a.range a.dim (words a.file.now) (a.first + point_words a.dim * c.loop-k.k) (λ e. omega (arith, c.loop-k-test.true)) in
+    let left : a.n - c.loop-k.k - 1 ≡ a.n - (c.loop-k.k + 1) = omega arith in
+    let next : a.first + point_words a.dim * c.loop-k.k + point_words a.dim ≡ a.first + point_words a.dim * (c.loop-k.k + 1) = grind (arith, words_more a.dim (c.loop-k.k + 1) (λ e. omega arith)) in
+    (c.loop-k.invariant.0, c.loop-k.invariant.1 ∙ first ∙ rw (sym (rw c.point_words-stride.ensures at c.lies_at.ensures) ∙ c.if-not-lies_at.false) (ap₂ (λ m q. each_lies m a.range a.dim (words a.file.now) q) left next))
