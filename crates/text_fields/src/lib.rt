@@ -160,16 +160,12 @@ fn arguments_ok(
 fn triples_ok(c: usize, triples: &[u8]) -> bool
     ensures { result ≡ triples_ok c triples.now }
 {
-    for k in 0..thirds::third(triples.len()) {
-        let at = 3 * k;
-        if !texts::field_ok(
-            c,
-            triples[at] as usize,
-            triples[at + 1] as usize,
-            triples[at + 2] as usize,
-        ) {
+    let mut rest = triples;
+    while let [first, size, justification, others @ ..] = rest {
+        if !texts::field_ok(c, *first as usize, *size as usize, *justification as usize) {
             return false;
         }
+        rest = others;
     }
     true
 }
